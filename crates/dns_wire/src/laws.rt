@@ -1,0 +1,37 @@
+// Laws of the definitions, each the contract of a function with an empty body.
+ghost use Rattle.std.specs.Prelude.{◌≡◌, ◌+◌, ◌<◌, ◌^◌, ◌++◌, ◌∷◌, [], ℕ, List, length, Some, IsTrue};
+ghost use Rattle.dns_name.specs.Names.{is_name};
+ghost use Rattle.dns_rdata.specs.Records.{Record, record_wire, is_data};
+ghost use Rattle.dns_wire.specs.Wire.{Message, Header, Question, question_wire, message_wire, in_answer, with_answer, with_additional};
+ghost use Rattle.dns_wire.specs.Parse.{question_at, parsed};
+ghost use Rattle.dns_rdata.specs.Heads.{readable};
+ghost use Rattle.dns_wire.specs.Written.{IsMessage, IsRecord, head_at, parsed_of};
+
+/// A record pushed onto the octets is one more record in the list.
+pub fn pushed_is_listed()
+    ensures { (h : Header) (qs : List Question) (rs : List Record) (r : Record) → length rs < 2 ^ 16
+        → message_wire (in_answer h qs (rs ++ r ∷ [])) ≡ with_answer (message_wire (in_answer h qs rs)) r }
+{}
+
+/// An additional record pushed onto the octets is one more in the list.
+pub fn pushed_additional_is_listed()
+    ensures { (m : Message) (r : Record) → length m.additional < 2 ^ 16
+        → message_wire (record m { additional = m.additional ++ r ∷ [] }) ≡ with_additional (message_wire m) r }
+{}
+
+/// A question that was written is read again, wherever it stands.
+pub fn questions_written_are_read()
+    ensures { (before : List ℕ) (q : Question) (after : List ℕ) → IsTrue (is_name q.qname) → q.qtype < 2 ^ 16 → q.qclass < 2 ^ 16
+        → question_at (before ++ (question_wire q ++ after)) (length before) ≡ Some (q, length before + length (question_wire q)) }
+{}
+
+/// A record that was written is read again with its data, wherever it stands.
+pub fn records_written_are_read()
+    ensures { (before : List ℕ) (r : Record) (after : List ℕ) → IsRecord r → IsTrue (is_data r.rtype r.fields)
+        → readable (before ++ (record_wire r ++ after)) (head_at (length before) r) ≡ Some r }
+{}
+
+/// A message that was built parses to its items, whatever octets follow it.
+pub fn messages_written_are_read()
+    ensures { (m : Message) (after : List ℕ) → IsMessage m → parsed (message_wire m ++ after) ≡ Some (parsed_of m) }
+{}

@@ -1,0 +1,277 @@
+-- TSIG (RFC 8945): keys, the record, the octets that are digested, and the MAC.
+use Rattle.std.specs.Prelude.{ℕ, ◌+◌, ◌-◌, ◌*◌, ◌==◌, ◌&&◌, nat_lt, nat_le, Bool, List, [], ◌∷◌, ◌++◌, length, take, drop, slice_range, codes, nat_eq, Option, Some, None, Result, Ok, Err, unwrap_or, is_some, not, if◌then◌else◌}
+use Rattle.std.specs.Option.{option_map_or}
+use Rattle.std.specs.List.{concat, starts_with}
+use Rattle.std.specs.Int.{abs_diff}
+use Rattle.dns_name.specs.Octets.{◌>>=◌, u16_octets, u32_octets, u48_octets, octets_at, u16_at, u48_at}
+use Rattle.dns_name.specs.Codes.{noerror, badtime, type_tsig, class_any}
+use Rattle.dns_name.specs.Names.{Name, name_wire, fold, same_name}
+use Rattle.dns_name.specs.Compression.{name_at}
+use Rattle.dns_rdata.specs.Records.{Record}
+use Rattle.dns_rdata.specs.Records.Field.{Octets, DomainName}
+use Rattle.dns_wire.specs.Wire.{id_in, arcount_in, with_additional}
+use Rattle.dns_wire.specs.Parse.{Parsed, parsed}
+use Rattle.dns_rdata.specs.Heads.{RawRecord}
+use Rattle.tsig_port.specs.Hmac.{hmac, native_len, block_key}
+use Rattle.tsig_port.specs.declared.errors.NewKeyError.{NewKeyError}
+use Rattle.tsig_port.specs.declared.errors.NewKeyError.TheVariants.{BadMinMacLen, BadSigningLen}
+use Rattle.tsig_port.specs.declared.Algorithm.{Algorithm}
+use Rattle.tsig_port.specs.declared.Algorithm.TheVariants.{Sha1, Sha256, Sha384, Sha512}
+
+-- ---- algorithms and keys
+
+-- the name of the algorithm (RFC 8945, 6)
+abbrev pub algorithm_name : Algorithm → Name
+algorithm_name Sha1 = codes "hmac-sha1" ∷ []
+algorithm_name Sha256 = codes "hmac-sha256" ∷ []
+algorithm_name Sha384 = codes "hmac-sha384" ∷ []
+algorithm_name Sha512 = codes "hmac-sha512" ∷ []
+
+-- the algorithm of that name, in any case (RFC 8945, 6)
+abbrev pub algorithm_of : Name → Option Algorithm
+algorithm_of name =
+    if same_name name (algorithm_name Sha1) then Some Sha1
+    else if same_name name (algorithm_name Sha256) then Some Sha256
+    else if same_name name (algorithm_name Sha384) then Some Sha384
+    else if same_name name (algorithm_name Sha512) then Some Sha512
+    else None
+
+-- whether a MAC may be that long: 10 octets, half the whole MAC, and no more than the whole (RFC 8945, 5.2.2.1)
+abbrev pub is_mac_len : Algorithm → ℕ → Bool
+is_mac_len algorithm n = nat_le 10 n && nat_le (native_len algorithm) (2 * n) && nat_le n (native_len algorithm)
+
+-- a shared key (RFC 8945, 1.2): its MACs have signing_len octets, and those taken have at least min_mac_len
+pub record TsigKey : Type 0 where
+  pub name : Name
+  pub algorithm : Algorithm
+  pub secret : List ℕ
+  pub min_mac_len : ℕ
+  pub signing_len : ℕ
+
+-- the key that is made of these parts, a length that isn't given being the whole MAC's. Its secret is filled up to a block, by
+-- which the MACs are the same (RFC 2104, 2)
+abbrev pub new_key : Algorithm → List ℕ → Name → Option ℕ → Option ℕ → Result TsigKey NewKeyError
+new_key algorithm secret name min_mac_len signing_len =
+    let least = unwrap_or min_mac_len (native_len algorithm) in
+    let signing = unwrap_or signing_len (native_len algorithm) in
+    if not (is_mac_len algorithm least) then Err BadMinMacLen
+    else if not (is_mac_len algorithm signing) then Err BadSigningLen
+    else Ok (record { name = name; algorithm = algorithm; secret = block_key algorithm secret; min_mac_len = least; signing_len = signing })
+
+-- ---- the record
+
+-- the data of a TSIG record (RFC 8945, 4.2)
+pub record Tsig : Type 0 where
+  pub algorithm : Name
+  pub time_signed : ℕ
+  pub fudge : ℕ
+  pub mac : List ℕ
+  pub original_id : ℕ
+  pub error : ℕ
+  pub other : List ℕ
+
+-- what follows the algorithm's name in the data (RFC 8945, 4.2)
+abbrev pub tsig_rest : Tsig → List ℕ
+tsig_rest t = u48_octets t.time_signed ++ u16_octets t.fudge ++ u16_octets (length t.mac) ++ t.mac
+    ++ u16_octets t.original_id ++ u16_octets t.error ++ u16_octets (length t.other) ++ t.other
+
+-- the data as they are sent, the algorithm's name written out (RFC 8945, 4.2)
+abbrev pub tsig_wire : Tsig → List ℕ
+tsig_wire t = name_wire t.algorithm ++ tsig_rest t
+
+-- the record of a TSIG: type 250, class ANY, TTL 0 (RFC 8945, 4.2)
+abbrev pub tsig_record : Name → Tsig → Record
+tsig_record owner t = record { owner = owner; rtype = type_tsig; class = class_any; ttl = 0; fields = DomainName t.algorithm ∷ Octets (tsig_rest t) ∷ [] }
+
+-- how many octets the record of a key's TSIG takes (RFC 8945, 4.2)
+abbrev pub compose_len : TsigKey → ℕ
+compose_len key = length (name_wire key.name) + 10 + length (name_wire (algorithm_name key.algorithm)) + 16 + key.signing_len
+
+-- the data at place p (RFC 8945, 4.2)
+abbrev pub tsig_at : List ℕ → ℕ → Option (Tsig × ℕ)
+tsig_at message p = do
+  (algorithm, p) ← name_at message p
+  (time_signed, p) ← u48_at message p
+  (fudge, p) ← u16_at message p
+  (mac_len, p) ← u16_at message p
+  (mac, p) ← octets_at mac_len message p
+  (original_id, p) ← u16_at message p
+  (error, p) ← u16_at message p
+  (other_len, p) ← u16_at message p
+  (other, p) ← octets_at other_len message p
+  Some (record { algorithm = algorithm; time_signed = time_signed; fudge = fudge; mac = mac; original_id = original_id; error = error; other = other }, p)
+
+-- the TSIG of a record: its data fill RDLENGTH, and written out they have at most 65,535 octets (RFC 8945, 4.2)
+unfoldable pub tsig_of : List ℕ → RawRecord → Option Tsig
+tsig_of message raw = do
+  (t, after) ← tsig_at message raw.rdata
+  if after == raw.rdata + raw.rdlength && nat_lt (length (tsig_wire t)) 65536 then Some t else None
+
+-- ---- how a message is signed
+
+-- Malformed: the message doesn't parse, or its TSIG isn't readable or isn't the last record (RFC 8945, 5.2: FORMERR).
+-- Unsigned: it parses, and has no TSIG in its additional section. Signed: its last record is a TSIG, which begins at start.
+pub data Signature : Type 0 where
+  Malformed : Signature
+  Unsigned : Signature
+  Signed : ℕ → Name → Tsig → Signature
+
+-- whether the record is a TSIG (RFC 8945, 4.1)
+abbrev pub is_tsig : RawRecord → Bool
+is_tsig raw = raw.rtype == type_tsig
+
+-- the signature by the last record, whose TSIG is readable or not
+abbrev pub signature_by : RawRecord → Option Tsig → Signature
+signature_by raw None = Malformed
+signature_by raw (Some t) = Signed raw.start raw.owner t
+
+-- the signature by the additional records (RFC 8945, 5.1 and 5.2)
+abbrev pub signature_in : List ℕ → List RawRecord → Signature
+signature_in message [] = Unsigned
+signature_in message (raw ∷ []) = if is_tsig raw then signature_by raw (tsig_of message raw) else Unsigned
+signature_in message (raw ∷ next ∷ rest) = if is_tsig raw then Malformed else signature_in message (next ∷ rest)
+
+-- the same of what the message parses to
+abbrev pub signature_parsed : List ℕ → Option Parsed → Signature
+signature_parsed message None = Malformed
+signature_parsed message (Some p) = signature_in message p.additional
+
+-- how a received message is signed (RFC 8945, 5.2)
+unfoldable pub signature_of : List ℕ → Signature
+signature_of message = signature_parsed message (parsed message)
+
+-- the TSIG of a signature that is one
+abbrev pub tsig_by : Signature → Option Tsig
+tsig_by Malformed = None
+tsig_by Unsigned = None
+tsig_by (Signed start owner t) = Some t
+
+-- the message's readable TSIG, where it is the last record
+abbrev pub tsig_in : List ℕ → Option Tsig
+tsig_in message = tsig_by (signature_of message)
+
+-- whether it has one
+abbrev pub is_signed : List ℕ → Bool
+is_signed message = is_some (tsig_in message)
+
+-- the MAC as its octets stand in the message, and no octets without a TSIG
+abbrev pub mac_in : List ℕ → List ℕ
+mac_in message = option_map_or (λ t. t.mac) (tsig_in message) []
+
+-- ---- the octets that are digested (RFC 8945, 4.3)
+
+-- the message after its TSIG was taken away: the original id, and ARCOUNT one less; no octet is cut off (RFC 8945, 4.3.2)
+abbrev pub without_tsig : ℕ → List ℕ → List ℕ
+without_tsig original_id message = u16_octets original_id ++ slice_range message 2 10 ++ u16_octets (arcount_in message - 1) ++ drop 12 message
+
+-- the DNS message that is digested: that one, up to where the TSIG began (RFC 8945, 4.3.2)
+abbrev pub digested_message : ℕ → ℕ → List ℕ → List ℕ
+digested_message start original_id message = take start (without_tsig original_id message)
+
+-- the TSIG variables (RFC 8945, 4.3.3)
+abbrev pub variables : Name → Tsig → List ℕ
+variables owner t = name_wire (fold owner) ++ u16_octets class_any ++ u32_octets 0 ++ name_wire (fold t.algorithm)
+    ++ u48_octets t.time_signed ++ u16_octets t.fudge ++ u16_octets t.error ++ u16_octets (length t.other) ++ t.other
+
+-- the timers, the variables of a later message (RFC 8945, 5.3.1)
+abbrev pub timers : Tsig → List ℕ
+timers t = u48_octets t.time_signed ++ u16_octets t.fudge
+
+-- a MAC behind its length in two octets (RFC 8945, 4.3.1 and 5.3.1)
+abbrev pub with_len : List ℕ → List ℕ
+with_len mac = u16_octets (length mac) ++ mac
+
+-- what is digested for a request (RFC 8945, 5.1)
+abbrev pub request_input : List ℕ → Name → Tsig → List ℕ
+request_input message owner t = message ++ variables owner t
+
+-- what is digested for a first answer (RFC 8945, 5.3)
+abbrev pub first_input : List ℕ → List ℕ → Name → Tsig → List ℕ
+first_input request_mac message owner t = with_len request_mac ++ message ++ variables owner t
+
+-- what is digested for a later signed answer: the prior MAC, the unsigned messages since, the message and the timers (RFC 8945, 5.3.1)
+abbrev pub later_input : List ℕ → List (List ℕ) → List ℕ → Tsig → List ℕ
+later_input prior_mac unsigned message t = with_len prior_mac ++ concat unsigned ++ message ++ timers t
+
+-- what is digested for an answer, from the request's MAC, the MAC of the signed answer before it where there is one, and the
+-- unsigned messages since that one (RFC 8945, 5.3 and 5.3.1)
+abbrev pub answer_input : List ℕ → Option (List ℕ) → List (List ℕ) → List ℕ → Name → Tsig → List ℕ
+answer_input request_mac None unsigned message owner t = first_input request_mac message owner t
+answer_input request_mac (Some prior_mac) unsigned message owner t = later_input prior_mac unsigned message t
+
+-- ---- the MAC
+
+-- the whole MAC of some octets by a key (RFC 8945, 4.3)
+abbrev pub mac_of : TsigKey → List ℕ → List ℕ
+mac_of key input = hmac key.algorithm key.secret input
+
+-- the MAC that is sent (RFC 8945, 5.2.2.1)
+abbrev pub signing_mac : TsigKey → List ℕ → List ℕ
+signing_mac key input = take key.signing_len (mac_of key input)
+
+-- whether the received MAC is the first octets of the defined one (RFC 8945, 5.2.2.1)
+abbrev pub is_mac : TsigKey → List ℕ → List ℕ → Bool
+is_mac key input mac = starts_with nat_eq (mac_of key input) mac
+
+-- whether the moment is within the fudge of the time signed (RFC 8945, 5.2.3)
+abbrev pub within_fudge : Tsig → ℕ → Bool
+within_fudge t now = nat_le (abs_diff t.time_signed now) t.fudge
+
+-- ---- what a signer makes
+
+-- the TSIG of a message before it has its MAC (RFC 8945, 4.2)
+abbrev pub blank_tsig : TsigKey → ℕ → ℕ → ℕ → ℕ → List ℕ → Tsig
+blank_tsig key time_signed fudge original_id error other = record {
+  algorithm = algorithm_name key.algorithm;
+  time_signed = time_signed;
+  fudge = fudge;
+  mac = [];
+  original_id = original_id;
+  error = error;
+  other = other;
+}
+
+-- the TSIG with the key's MAC of what is digested (RFC 8945, 4.2)
+abbrev pub with_mac : TsigKey → Tsig → List ℕ → Tsig
+with_mac key t input = record t { mac = signing_mac key input }
+
+-- the TSIG that signs a request (RFC 8945, 5.1)
+abbrev pub request_tsig : TsigKey → List ℕ → ℕ → ℕ → Tsig
+request_tsig key message time_signed fudge =
+    let t = blank_tsig key time_signed fudge (id_in message) noerror [] in
+    with_mac key t (request_input message key.name t)
+
+-- the TSIG that signs an answer to a request with this MAC, behind signed answers the last of which had that MAC (RFC 8945, 5.3 and 5.3.1)
+abbrev pub answer_tsig : TsigKey → List ℕ → Option (List ℕ) → List ℕ → ℕ → ℕ → Tsig
+answer_tsig key request_mac prior_mac message time_signed fudge =
+    let t = blank_tsig key time_signed fudge (id_in message) noerror [] in
+    with_mac key t (answer_input request_mac prior_mac [] message key.name t)
+
+-- the TSIG that signs a BADTIME answer: the request's time and fudge, and the server's time as other data (RFC 8945, 5.2.3)
+abbrev pub badtime_tsig : TsigKey → List ℕ → List ℕ → ℕ → ℕ → ℕ → Tsig
+badtime_tsig key request_mac message time_signed fudge now =
+    let t = blank_tsig key time_signed fudge (id_in message) badtime (u48_octets now) in
+    with_mac key t (first_input request_mac message key.name t)
+
+-- the message with the key's TSIG as its last record (RFC 8945, 5.1 and 5.3)
+abbrev pub signed_by : TsigKey → List ℕ → Tsig → List ℕ
+signed_by key message t = with_additional message (tsig_record key.name t)
+
+-- a signed request and a signed answer, as they are sent (RFC 8945, 5.1 and 5.3)
+abbrev pub signed_request : TsigKey → List ℕ → ℕ → ℕ → List ℕ
+signed_request key message time_signed fudge = signed_by key message (request_tsig key message time_signed fudge)
+
+abbrev pub signed_answer : TsigKey → List ℕ → Option (List ℕ) → List ℕ → ℕ → ℕ → List ℕ
+signed_answer key request_mac prior_mac message time_signed fudge =
+    signed_by key message (answer_tsig key request_mac prior_mac message time_signed fudge)
+
+-- answers signed one after another at one moment, behind signed answers the last of which had that MAC (RFC 8945, 5.3.1)
+unfoldable pub signed_from : TsigKey → List ℕ → ℕ → ℕ → Option (List ℕ) → List (List ℕ) → List (List ℕ)
+signed_from key request_mac time_signed fudge prior_mac [] = []
+signed_from key request_mac time_signed fudge prior_mac (message ∷ messages) =
+    signed_answer key request_mac prior_mac message time_signed fudge
+    ∷ signed_from key request_mac time_signed fudge (Some (answer_tsig key request_mac prior_mac message time_signed fudge).mac) messages
+
+-- all answers to a request with this MAC, signed in sequence (RFC 8945, 5.3.1)
+abbrev pub signed_answers : TsigKey → List ℕ → ℕ → ℕ → List (List ℕ) → List (List ℕ)
+signed_answers key request_mac time_signed fudge messages = signed_from key request_mac time_signed fudge None messages
