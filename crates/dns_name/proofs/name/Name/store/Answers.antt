@@ -1,0 +1,9 @@
+use Rattle.dns_name.proofs.WireForms.{wire_invariant, labels_of_wire}
+use Rattle.std.proofs.Common.{◌∙◌}
+use Rattle.dns_name.proofs.name.Name.store.Goals as goal
+
+pub invariant_of-result : goal.invariant_of-result
+invariant_of-result g c = wire_invariant _ _ (c.in_ok-copy_from_slice.ensures ∙ c.as_slice.ensures.wire) c.as_slice.ensures.name
+
+pub returns : goal.returns
+returns g c = labels_of_wire _ _ (c.in_ok-copy_from_slice.ensures ∙ c.as_slice.ensures.wire) c.as_slice.ensures.name

@@ -1,0 +1,152 @@
+// Names within messages, compressed ones too (RFC 1035, 4.1.4).
+ghost use Rattle.std.specs.Prelude.{◌≡◌, ◌∷◌, [], IfOk, OnErr, Some, None, ◌==◌, if◌then◌else◌};
+ghost use Rattle.dns_name.specs.Compression.{name_at, element_at};
+ghost use Rattle.dns_name.specs.Pieces.{element_of, IsWithin};
+
+use crate::name::{KeyName, StoredName};
+use crate::name_octets::NameOctets;
+use crate::octets::ParseError;
+use crate::to_name::{Labelled, ToName};
+use std::alloc::{AllocError, Global};
+use std::marker::Model;
+
+/// What a name is made of (RFC 1035, 4.1.4).
+pub enum Piece<'m> {
+    /// The root label, which ends the name.
+    Root,
+    /// The octets of a label.
+    Label(&'m [u8]),
+    /// The place where the name goes on.
+    Pointer(usize),
+}
+
+/// The piece of a name at place `pos`.
+pub fn piece_at<'m>(message: &'m [u8], pos: usize) -> Result<Piece<'m>, ParseError>
+    ensures found { IfOk result (λ piece. element_at message.now pos ≡ Some (element_of piece)) }
+    ensures none { OnErr result (element_at message.now pos ≡ None) }
+    ensures inside { IfOk result (IsWithin message.now pos) }
+{
+    let len = message.len();
+    if pos >= len {
+        return Err(ParseError);
+    }
+    let first = message[pos] as usize;
+    if first == 0 {
+        return Ok(Piece::Root);
+    }
+    if first < 64 {
+        if first >= len - pos {
+            return Err(ParseError);
+        }
+        let start = pos + 1;
+        return Ok(Piece::Label(&message[start..start + first]));
+    }
+    if first < 192 || len - pos < 2 {
+        return Err(ParseError);
+    }
+    let offset = (first - 192) * 256 + message[pos + 1] as usize;
+    if offset < pos {
+        Ok(Piece::Pointer(offset))
+    } else {
+        Err(ParseError)
+    }
+}
+
+/// The place after a name: behind its first pointer, or else where it ends.
+fn first_end(pointers: u16, after: usize, end: usize) -> usize
+    ensures { result ≡ (if pointers == 0 then end else after) }
+{
+    if pointers == 0 { end } else { after }
+}
+
+/// The name at place `pos` of a message, and the place after it (RFC 1035, 4.1.4): at most 255 octets and 255 pointers.
+pub fn decode(message: &[u8], pos: usize) -> Result<(KeyName, usize), ParseError>
+    ensures found { IfOk result (λ r. name_at message.now pos ≡ Some r) }
+    ensures none { OnErr result (name_at message.now pos ≡ None) }
+{
+    let mut octets = NameOctets::new();
+    let mut place = pos;
+    let mut after = pos;
+    let mut pointers = 0u16;
+    for step in 0..512u16 {
+        match piece_at(message, place)? {
+            Piece::Root => {
+                octets.append(&[0])?;
+                let end = first_end(pointers, after, place + 1);
+                return Ok((KeyName::from_wire(octets), end));
+            }
+            Piece::Label(label) => {
+                octets.append_label(label)?;
+                place = place + 1 + label.len();
+            }
+            Piece::Pointer(offset) => {
+                after = first_end(pointers, after, place + 2);
+                pointers += 1;
+                if pointers == 256 {
+                    return Err(ParseError);
+                }
+                place = offset;
+            }
+        }
+    }
+    Err(ParseError)
+}
+
+/// A name within a message, which may go on elsewhere in it (RFC 1035, 4.1.4).
+#[derive(Drop)]
+pub struct ParsedName<'m> {
+    message: &'m [u8],
+    pos: usize,
+}
+
+impl<'m> Model for ParsedName<'m> {
+    ghost use Rattle.std.specs.Prelude.{◌≡◌, ℕ, List, IsTrue, is_some};
+    ghost use Rattle.dns_name.specs.Compression.{name_at, labels_at};
+
+    ghost Value = { List (List ℕ) };
+
+    ghost view = { λ n. labels_at n.message.now n.pos };
+
+    ghost invariant = { λ n. IsTrue (is_some (name_at n.message.now n.pos)) };
+}
+
+impl<'m> ParsedName<'m> {
+    /// The name at a place of a message, and the place after it.
+    pub fn parse(message: &'m [u8], pos: usize) -> Result<(ParsedName<'m>, usize), ParseError>
+        ensures found { IfOk result (λ name. name_at message.now pos ≡ Some name) }
+        ensures none { OnErr result (name_at message.now pos ≡ None) }
+    {
+        let (_, after) = decode(message, pos)?;
+        Ok((ParsedName { message, pos }, after))
+    }
+
+    /// The same name again.
+    pub fn duplicate(&self) -> ParsedName<'m>
+        ensures { result ≡ self.now }
+    {
+        ParsedName {
+            message: self.message,
+            pos: self.pos,
+        }
+    }
+
+    /// The name in memory of its own.
+    pub fn flatten(&self, alloc: Global) -> Result<StoredName, AllocError>
+        ensures { IfOk result (λ n. n ≡ self.now) }
+    {
+        self.to_stored(alloc)
+    }
+}
+
+impl<'m> Labelled for ParsedName<'m> {
+    ghost labels = { λ n. n };
+
+    fn to_key_name(&self) -> KeyName {
+        match decode(self.message, self.pos) {
+            Ok((name, _)) => name,
+            Err(_) => unreachable!(),
+        }
+    }
+}
+
+impl<'m> ToName for ParsedName<'m> {}

@@ -1,0 +1,202 @@
+// Vectors from outside, and each kind of call once.
+use crate::{
+    Class, KeyName, Label, Labelled, Name, NameRef, ParseError, ParsedName, Rtype, Serial,
+    StoredName, ToName, Ttl, parse_octets, parse_u16, parse_u32, parse_u48,
+};
+use bytes::Bytes;
+use std::cmp::Ordering;
+use std::fmt;
+use std::hash::{DefaultHasher, Hash, Hasher};
+
+const EXAMPLE: &[u8] = b"\x07example\0";
+
+const NS_EXAMPLE: &[u8] = b"\x02ns\x07example\0";
+
+fn stored(rt: &HostRuntime, octets: &[u8]) -> Result<StoredName, fmt::Error> {
+    let octets = Bytes::copy_from_slice(rt.alloc(), octets).map_err(|_| fmt::Error)?;
+    Name::from_octets(octets).map_err(|_| fmt::Error)
+}
+
+fn hash_of<T: Hash>(value: &T) -> u64 {
+    let mut state = DefaultHasher::new();
+    value.hash(&mut state);
+    state.finish()
+}
+
+/// `ns.example` composes, and is kept, copied and spelled in its own case.
+#[test]
+fn names_in_wire_form(rt: HostRuntime) -> Result<(), fmt::Error> {
+    let name = stored(&rt, NS_EXAMPLE)?;
+    assert_eq!(rt; name.compose_len(), 12);
+    let mut out = Vec::new(rt.alloc());
+    name.compose(&mut out).map_err(|_| fmt::Error)?;
+    assert_eq!(rt; out.as_slice(), NS_EXAMPLE);
+    let copy = name.clone().map_err(|_| fmt::Error)?;
+    let again = copy.to_stored(rt.alloc()).map_err(|_| fmt::Error)?;
+    assert!(rt; again == name);
+    Ok(())
+}
+
+#[test]
+fn names_without_case(rt: HostRuntime) -> Result<(), fmt::Error> {
+    let name = stored(&rt, NS_EXAMPLE)?;
+    let apex = stored(&rt, b"\x07EXAMPLE\0")?;
+    assert!(rt; name.ends_with(&apex) && !apex.ends_with(&name));
+    assert_eq!(rt; apex.to_canonical().as_slice(), EXAMPLE);
+    assert_eq!(rt; hash_of(&apex), hash_of(&apex.to_canonical()));
+    Ok(())
+}
+
+#[test]
+fn roots_and_labels(rt: HostRuntime) -> Result<(), fmt::Error> {
+    assert!(rt; KeyName::root().duplicate().name_eq(&&StoredName::root()));
+    let name = stored(&rt, NS_EXAMPLE)?;
+    assert_eq!(rt; name.iter_labels().count(), 2);
+    Ok(())
+}
+
+#[test]
+fn octets_that_are_no_name(rt: HostRuntime) {
+    for octets in [
+        b"".as_slice(),
+        b"\x07example".as_slice(),
+        b"\x07example\0\0".as_slice(),
+        b"\x00\x01a\xc0\x01".as_slice(),
+        b"\x40aaaaaaaa".as_slice(),
+    ] {
+        assert!(rt; NameRef::from_octets(octets).is_err(), "at {octets:?}");
+    }
+}
+
+/// A question's name at 12, then a pointer to it at 25, then a label before such a pointer at 27.
+const MESSAGE: &[u8] = b"\0\0\0\0\0\0\0\0\0\0\0\0\x07example\0\0\x06\0\x01\xc0\x0c\x02ns\xc0\x0c\0";
+
+#[test]
+fn pointers(rt: HostRuntime) -> Result<(), ParseError> {
+    for (place, want, end) in [
+        (12usize, EXAMPLE, 21usize),
+        (25, EXAMPLE, 27),
+        (27, NS_EXAMPLE, 32),
+    ] {
+        let (name, after) = ParsedName::parse(MESSAGE, place)?;
+        assert_eq!(rt; after, end);
+        assert_eq!(rt; name.duplicate().to_key_name().as_slice(), want);
+    }
+    Ok(())
+}
+
+#[test]
+fn pointers_that_lead_nowhere(rt: HostRuntime) {
+    let mut past_the_end = [0; 60];
+    past_the_end[12] = 0xc0;
+    past_the_end[13] = 0xff;
+    assert!(rt; ParsedName::parse(&past_the_end, 12).is_err());
+    let to_itself = b"\0\0\0\0\0\0\0\0\0\0\0\0\xc0\x0c";
+    assert!(rt; ParsedName::parse(to_itself, 12).is_err());
+    assert!(rt; ParsedName::parse(to_itself, usize::MAX).is_err());
+}
+
+#[test]
+fn flattened(rt: HostRuntime) -> Result<(), ParseError> {
+    let (question, _) = ParsedName::parse(MESSAGE, 12)?;
+    let (server, _) = ParsedName::parse(MESSAGE, 27)?;
+    assert!(rt; question != server);
+    let flat = server.flatten(rt.alloc()).map_err(|_| ParseError)?;
+    assert_eq!(rt; flat.as_slice(), NS_EXAMPLE);
+    Ok(())
+}
+
+/// The order of RFC 4034, 6.1.
+#[test]
+fn canonical_order(rt: HostRuntime) -> Result<(), fmt::Error> {
+    let names = [
+        b"\x07example\0".as_slice(),
+        b"\x01a\x07example\0".as_slice(),
+        b"\x08yljkjljk\x01a\x07example\0".as_slice(),
+        b"\x01Z\x01a\x07example\0".as_slice(),
+        b"\x04zABC\x01a\x07EXAMPLE\0".as_slice(),
+        b"\x01z\x07example\0".as_slice(),
+        b"\x01\x01\x01z\x07example\0".as_slice(),
+        b"\x01*\x01z\x07example\0".as_slice(),
+        b"\x01\xc8\x01z\x07example\0".as_slice(),
+    ];
+    for (i, a) in names.iter().enumerate() {
+        let a = stored(&rt, *a)?;
+        for (j, b) in names.iter().enumerate() {
+            let b = stored(&rt, *b)?;
+            assert_eq!(rt; a.cmp(&b), i.cmp(&j), "at {i} and {j}");
+        }
+    }
+    Ok(())
+}
+
+#[test]
+fn texts(rt: HostRuntime) -> Result<(), fmt::Error> {
+    for (octets, want) in [
+        (b"\0".as_slice(), "."),
+        (NS_EXAMPLE, "ns.example"),
+        (
+            b"\x05a.b c\x03d\\e\x03\x07z\xff\0".as_slice(),
+            "a\\.b\\ c.d\\\\e.\\007z\\255",
+        ),
+    ] {
+        let text = stored(&rt, octets)?
+            .to_string(rt.alloc())
+            .map_err(|_| fmt::Error)?;
+        assert_eq!(rt; text.as_str(), want);
+    }
+    Ok(())
+}
+
+#[test]
+fn texts_of_codes(rt: HostRuntime) -> Result<(), fmt::Error> {
+    let (axfr, other, class, ttl) = (
+        Rtype::AXFR,
+        Rtype::from_int(65280),
+        Class::IN,
+        Ttl::from_int(3600),
+    );
+    let text = format!(in rt.alloc(); "{axfr} {other} {class} {ttl}").map_err(|_| fmt::Error)?;
+    assert_eq!(rt; text.as_str(), "AXFR TYPE65280 IN 3600");
+    Ok(())
+}
+
+#[test]
+fn serials(rt: HostRuntime) {
+    for (a, b, want) in [
+        (0u32, 0x7fff_ffffu32, Some(Ordering::Less)),
+        (0, 0x8000_0000, None),
+        (0x8000_0000, 0, None),
+        (0, 0x8000_0001, Some(Ordering::Greater)),
+        (5, 5, Some(Ordering::Equal)),
+    ] {
+        assert_eq!(rt;
+            Serial::from(a).partial_cmp(&Serial::from(b)),
+            want,
+            "at {a} and {b}"
+        );
+    }
+    assert_eq!(rt; Serial::from(u32::MAX).add(2).into_int(), 1);
+}
+
+#[test]
+fn labels(rt: HostRuntime) -> Result<(), ParseError> {
+    assert!(rt; Label::from_slice(&[b'a'; 64]).is_err());
+    let upper = Label::from_slice(b"NS").map_err(|_| ParseError)?;
+    let lower = Label::from_slice(b"ns").map_err(|_| ParseError)?;
+    assert!(rt; upper == lower && !lower.is_wildcard() && !lower.is_root());
+    assert_eq!(rt; hash_of(&upper), hash_of(&lower));
+    Ok(())
+}
+
+#[test]
+fn numbers(rt: HostRuntime) -> Result<(), ParseError> {
+    let octets = b"\x01\x02\x03\x04\x05\x06\x07";
+    assert_eq!(rt; parse_u16(octets, 1)?, (0x0203, 3));
+    assert_eq!(rt; parse_u32(octets, 3)?, (0x0405_0607, 7));
+    assert_eq!(rt; parse_u48(octets, 0)?, (0x0102_0304_0506, 6));
+    let (part, after) = parse_octets(octets, 5, 2)?;
+    assert!(rt; part == b"\x06\x07".as_slice() && after == 7);
+    assert!(rt; parse_octets(octets, usize::MAX, 1).is_err());
+    Ok(())
+}
