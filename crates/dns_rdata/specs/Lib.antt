@@ -7,3 +7,8 @@ pub mod Records
 pub mod Soa
 pub mod Heads
 pub mod RecordRows
+pub mod DataFields
+pub mod ZoneData
+pub mod SameData
+pub mod SameZoneData
+pub mod RecordHead

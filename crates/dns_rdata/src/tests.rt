@@ -1,0 +1,154 @@
+// Octets of records, composed and read back; octets that aren't records.
+
+use crate::{A, ComposeRecord, Ns, ParsedRecord, Record, Soa, ZoneRecordData, record_from_octets};
+use dns_name::{Class, Name, NameRef, Rtype, Serial, Ttl};
+use std::alloc::Global;
+use std::test::Fail;
+
+const EXAMPLE: [u8; 9] = *b"\x07example\x00";
+
+const NS_EXAMPLE: [u8; 12] = *b"\x02ns\x07example\x00";
+
+const SOA: [u8; 41] =
+    *b"\x07example\x00\x00\x06\x00\x01\x00\x00\x0e\x10\x00\x16\x00\x00\x00\x00\x00\x01\x00\x00\x00\x00\x00\x00\x00\x00\x00\x00\x00\x00\x00\x00\x00\x00";
+
+const NS: [u8; 31] =
+    *b"\x07example\x00\x00\x02\x00\x01\x00\x00\x0e\x10\x00\x0c\x02ns\x07example\x00";
+
+const ADDRESS: [u8; 26] =
+    *b"\x02ns\x07example\x00\x00\x01\x00\x01\x00\x00\x0e\x10\x00\x04\xc0\x00\x02\x01";
+
+const POINTER: [u8; 21] = *b"\x07example\x00\x00\x02\x00\x01\x00\x00\x0e\x10\x00\x02\xc0\x00";
+
+type LentData<'a> = ZoneRecordData<NameRef<'a>>;
+
+fn name(octets: &[u8]) -> Result<NameRef<'_>, Fail> {
+    Ok(Name::from_octets(octets)?)
+}
+
+fn soa<'a>() -> Result<LentData<'a>, Fail> {
+    let zero = Ttl::from_int(0);
+    let soa = Soa::new(
+        name(&[0])?,
+        name(&[0])?,
+        Serial::from(1),
+        zero,
+        zero,
+        zero,
+        zero,
+    );
+    Ok(ZoneRecordData::Soa(soa))
+}
+
+fn ns(octets: &[u8]) -> Result<LentData<'_>, Fail> {
+    Ok(ZoneRecordData::Ns(Ns::new(name(octets)?)))
+}
+
+/// The octets of the record with the TTL 3600.
+fn composed<'a>(alloc: Global, owner: &'a [u8], fields: LentData<'a>) -> Result<Vec<u8>, Fail> {
+    let record = Record::new(name(owner)?, Class::IN, Ttl::from_int(3600), fields);
+    let mut out = Vec::new(alloc);
+    record.compose_record(&mut out)?;
+    Ok(out)
+}
+
+/// The octets of the record that the octets spell, kept in memory of its own and cloned.
+fn read_and_composed(alloc: Global, octets: &[u8]) -> Result<Vec<u8>, Fail> {
+    let stored = record_from_octets(octets)?.flatten(alloc)?;
+    let again = stored.clone()?;
+    let mut out = Vec::new(alloc);
+    again.compose_record(&mut out)?;
+    Ok(out)
+}
+
+/// Whether the octets are read by RDLENGTH, and the data are read then.
+fn data_are_read(octets: &[u8]) -> Result<bool, Fail> {
+    let (head, _) = ParsedRecord::parse(octets, 0)?;
+    Ok(head.to_record().is_ok())
+}
+
+fn are_equal(octets: &[u8], fields: &LentData<'_>) -> Result<bool, Fail> {
+    Ok(record_from_octets(octets)?.data().data_eq(fields))
+}
+
+#[test]
+fn soa_is_composed(rt: HostRuntime) -> Result<(), Fail> {
+    let octets = composed(rt.alloc(), &EXAMPLE, soa()?)?;
+    assert_eq!(rt; octets.as_slice(), SOA.as_slice());
+    Ok(())
+}
+
+#[test]
+fn ns_is_composed(rt: HostRuntime) -> Result<(), Fail> {
+    let octets = composed(rt.alloc(), &EXAMPLE, ns(&NS_EXAMPLE)?)?;
+    assert_eq!(rt; octets.as_slice(), NS.as_slice());
+    Ok(())
+}
+
+#[test]
+fn address_is_composed(rt: HostRuntime) -> Result<(), Fail> {
+    let fields = ZoneRecordData::A(A::new([192, 0, 2, 1]));
+    let octets = composed(rt.alloc(), &NS_EXAMPLE, fields)?;
+    assert_eq!(rt; octets.as_slice(), ADDRESS.as_slice());
+    Ok(())
+}
+
+#[test]
+fn soa_is_read_back(rt: HostRuntime) -> Result<(), Fail> {
+    let octets = read_and_composed(rt.alloc(), &SOA)?;
+    assert_eq!(rt; octets.as_slice(), SOA.as_slice());
+    Ok(())
+}
+
+#[test]
+fn ns_is_read_back(rt: HostRuntime) -> Result<(), Fail> {
+    let octets = read_and_composed(rt.alloc(), &NS)?;
+    assert_eq!(rt; octets.as_slice(), NS.as_slice());
+    Ok(())
+}
+
+#[test]
+fn parts_are_read(rt: HostRuntime) -> Result<(), Fail> {
+    let read = record_from_octets(&ADDRESS)?;
+    assert_eq!(rt; read.rtype(), Rtype::A);
+    assert_eq!(rt; read.ttl().to_int(), 3600);
+    assert_eq!(rt; read.compose_len(), 26);
+    Ok(())
+}
+
+#[test]
+fn data_are_equal_in_any_case(rt: HostRuntime) -> Result<(), Fail> {
+    assert!(rt; are_equal(&NS, &ns(b"\x02NS\x07eXample\x00")?)?);
+    assert!(rt; are_equal(&SOA, &soa()?)?);
+    assert!(rt; !are_equal(&ADDRESS, &soa()?)?);
+    Ok(())
+}
+
+#[test]
+fn data_fill_rdlength(rt: HostRuntime) -> Result<(), Fail> {
+    let mut octets = [0; 27];
+    octets[..26].copy_from_slice(&ADDRESS);
+    assert!(rt; data_are_read(&octets)?);
+    assert!(rt;
+        record_from_octets(&octets).is_err(),
+        "an octet behind the record"
+    );
+    octets[21] = 5;
+    assert!(rt; !data_are_read(&octets)?, "five octets of an address");
+    Ok(())
+}
+
+#[test]
+fn unknown_type_is_refused(rt: HostRuntime) -> Result<(), Fail> {
+    let mut octets = ADDRESS;
+    octets[13] = 99;
+    assert!(rt; !data_are_read(&octets)?);
+    Ok(())
+}
+
+#[test]
+fn pointers_are_for_messages(rt: HostRuntime) -> Result<(), Fail> {
+    assert!(rt; data_are_read(&POINTER)?);
+    assert!(rt; record_from_octets(&POINTER).is_err());
+    Ok(())
+}
