@@ -2,7 +2,7 @@
 use Rattle.std.proofs.Common.{◌≡◌, ℕ, ◌+◌, ◌-◌, ◌<◌, ◌^◌, true, List, [], ◌∷◌, ◌++◌, length, length-append, take, drop, refl, sym, ap, ◌∙◌, arith, le-leb, Some, nat_le, add-zero}
 use Rattle.std.specs.List.{AllByRecursion}
 use Rattle.std.specs.Prelude.{flat_map, slice_range, Option}
-use Rattle.std.proofs.lemmas.List.{append_assoc, take_at, drop_at}
+use Rattle.std.proofs.lemmas.List.{append_assoc, append-nil, take_at, drop_at}
 use Rattle.std.proofs.lemmas.Nat.{from_be_bytes-to_be_bytes_2, from_be_bytes-to_be_bytes_4}
 use Rattle.dns_name.specs.Octets.{u16_octets, u32_octets, octets_at, u16_at, u32_at}
 use Rattle.dns_name.specs.Names.{Name, is_name, name_wire}
@@ -105,7 +105,7 @@ record_read m p r before after e eb ok =
 
 -- ---- lists of items
 
-questions_read : (m : List ℕ) (p : ℕ) (qs : List Question) (before after : List ℕ) → m ≡ before ++ (flat_map question_wire qs ++ after) → length before ≡ p
+pub questions_read : (m : List ℕ) (p : ℕ) (qs : List Question) (before after : List ℕ) → m ≡ before ++ (flat_map question_wire qs ++ after) → length before ≡ p
     → AllByRecursion IsQuestion qs → items_at (question_at m) (length qs) p ≡ Some (qs, p + length (flat_map question_wire qs))
 unfolding items_at
 questions_read m p [] before after e eb ok = ap {B = Option (List Question × ℕ)} (λ k. Some ([], k)) (sym (add-zero p))
@@ -121,7 +121,7 @@ questions_read m p (q ∷ qs) before after e eb ok =
     )
     (ap (λ k. Some (q ∷ qs, k)) whole)
 
-records_read : (m : List ℕ) (p : ℕ) (rs : List Record) (before after : List ℕ) → m ≡ before ++ (flat_map record_wire rs ++ after) → length before ≡ p
+pub records_read : (m : List ℕ) (p : ℕ) (rs : List Record) (before after : List ℕ) → m ≡ before ++ (flat_map record_wire rs ++ after) → length before ≡ p
     → AllByRecursion IsRecord rs → items_at (raw_record_at m) (length rs) p ≡ Some (heads_from p rs, p + length (flat_map record_wire rs))
 unfolding items_at
 records_read m p [] before after e eb ok = ap {B = Option (List RawRecord × ℕ)} (λ k. Some ([], k)) (sym (add-zero p))
@@ -170,3 +170,8 @@ parsed-message_wire m after ok =
       records_read text (12 + length q + length a + length u) m.additional (head ++ q ++ a ++ u) after e4 l4 ok.additional,
     )
     refl
+
+-- so octets that are a built message parse to its items
+pub written_reads_back : (octets result : List ℕ) (m : Message) → result ≡ octets → IsMessage m → octets ≡ message_wire m → parsed result ≡ Some (parsed_of m)
+written_reads_back octets result m same ok whole =
+    ap (λ (xs : List ℕ). parsed xs) (same ∙ whole ∙ sym (append-nil (message_wire m))) ∙ parsed-message_wire m [] ok

@@ -8,7 +8,10 @@ pub use Rattle.dns_rdata.specs.Soa
 pub use Rattle.dns_rdata.specs.Heads
 pub use Rattle.dns_rdata.specs.RecordRows
 pub mod Wire
+pub mod Numbers
 pub mod Parse
 pub mod Reply
 pub mod Written
 pub mod MessageRows
+pub mod Builds
+pub mod Reads

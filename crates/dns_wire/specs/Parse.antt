@@ -1,9 +1,7 @@
 -- What received octets parse to (RFC 1035, 4.1).
-use Rattle.std.specs.Prelude.{Bool, false, ℕ, zero, suc, ◌+◌, ◌-◌, ◌==◌, ◌&&◌, List, [], ◌∷◌, length, take, filter_map, Option, Some, None, option_map, if◌then◌else◌}
+use Rattle.std.specs.Prelude.{Bool, false, ℕ, zero, suc, ◌==◌, List, [], ◌∷◌, length, filter_map, Option, Some, None, option_map, if◌then◌else◌}
 use Rattle.std.specs.Option.{option_map_or}
-use Rattle.std.specs.Str.{bytes_eq}
-use Rattle.dns_name.specs.Octets.{◌>>=◌, octets_at, u16_at, u32_at}
-use Rattle.dns_name.specs.Names.{Name, name_wire}
+use Rattle.dns_name.specs.Octets.{◌>>=◌, u16_at}
 use Rattle.dns_name.specs.Compression.{name_at}
 use Rattle.dns_rdata.specs.Heads.{RawRecord, raw_record_at}
 use Rattle.dns_wire.specs.Wire.{Header, header_of, Counts, Question, header_number, qdcount_in, ancount_in, nscount_in, arcount_in}

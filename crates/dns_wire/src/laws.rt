@@ -2,10 +2,15 @@
 ghost use Rattle.std.specs.Prelude.{◌≡◌, ◌+◌, ◌<◌, ◌^◌, ◌++◌, ◌∷◌, [], ℕ, List, length, Some, IsTrue};
 ghost use Rattle.dns_name.specs.Names.{is_name};
 ghost use Rattle.dns_rdata.specs.Records.{Record, record_wire, is_data};
-ghost use Rattle.dns_wire.specs.Wire.{Message, Header, Question, question_wire, message_wire, in_answer, with_answer, with_additional};
+ghost use Rattle.dns_wire.specs.Wire.{Message, Header, Question, question_wire, header_wire, header_in, message_wire, in_answer, with_answer, with_additional};
 ghost use Rattle.dns_wire.specs.Parse.{question_at, parsed};
 ghost use Rattle.dns_rdata.specs.Heads.{readable};
 ghost use Rattle.dns_wire.specs.Written.{IsMessage, IsRecord, head_at, parsed_of};
+
+/// A header that was written is read again.
+pub fn headers_written_are_read()
+    ensures { (h : Header) (after : List ℕ) → h.id < 2 ^ 16 → h.opcode < 16 → h.rcode < 16 → header_in (header_wire h ++ after) ≡ h }
+{}
 
 /// A record pushed onto the octets is one more record in the list.
 pub fn pushed_is_listed()

@@ -1,0 +1,311 @@
+// A message that is being built.
+
+ghost use Rattle.std.specs.Prelude.{◌≡◌, ◌+◌, ◌^◌, ◌<◌, ◌≤◌, ◌++◌, length, take, drop, replicate, vec_len, IfOk, IsTrue, Some};
+ghost use Rattle.std.specs.List.{filter_map};
+ghost use Rattle.dns_rdata.specs.Records.{record_wire};
+ghost use Rattle.dns_wire.specs.Wire.{header_in, header_wire, header_number, question_wire, message_wire, fits, Message as MessageOf};
+ghost use Rattle.dns_wire.specs.Numbers.{counts_in};
+ghost use Rattle.dns_wire.specs.Builds.{Adds, AddsQuestions, Builds, building, cut_at, rewound};
+ghost use Rattle.dns_wire.specs.Reply.{empty_answer};
+ghost use Rattle.dns_wire.specs.Parse.{parsed, answers_start, authority_start, additional_start};
+ghost use Rattle.dns_wire.specs.Written.{IsMessage, parsed_of};
+
+use crate::header::{Header, HeaderCounts, counts_from, header_from};
+use crate::message::{Message, MessageBuf};
+use crate::numbers::{number_at, set_number};
+use crate::question::Question;
+use crate::section_builders::{
+    AdditionalBuilder, AnswerBuilder, AuthorityBuilder, QuestionBuilder,
+};
+use crate::sections::QuestionSection;
+use dns_name::{Labelled, Rcode};
+use dns_rdata::ComposeRecord;
+use std::alloc::{AllocError, Global};
+use std::marker::Model;
+use thiserror::Error;
+
+/// The most octets that a message has: what its length before it on a stream can say (RFC 1035, 4.2.2).
+const MAX_LEN: usize = 65535;
+
+/// Why an item wasn't added. The message is then as it was before.
+#[derive(Clone, Copy, Debug, PartialEq, Eq, Error)]
+pub enum PushError {
+    /// The message would have more octets than its push limit, or more than 65,535.
+    #[error("no room in the message")]
+    ShortBuf,
+    /// The section has 65,535 items already.
+    #[error("too many items in the section")]
+    CountOverflow,
+    /// There is no memory for it.
+    #[error("out of memory")]
+    Memory,
+}
+
+/// A message that is being built: its header, and so far no item. At most 65,535 octets.
+#[derive(Drop)]
+pub struct MessageBuilder {
+    octets: Vec<u8>,
+    limit: usize,
+}
+
+impl Model for MessageBuilder {
+    ghost use Rattle.std.specs.Prelude.{◌≤◌, length};
+    ghost use Rattle.dns_wire.specs.Wire.{Building};
+
+    ghost Value = { Building };
+
+    ghost view = { λ b. record { octets = b.octets.items; limit = b.limit } };
+
+    ghost invariant = { λ b. (12 ≤ length b.octets.items) × (length b.octets.items ≤ 65535) };
+}
+
+impl MessageBuilder {
+    /// A header of 12 octets that are zero, and no push limit but 65,535.
+    pub fn new(alloc: Global) -> Result<MessageBuilder, AllocError>
+        ensures { IfOk result (λ b. b ≡ record { octets = replicate 12 0; limit = 65535 }) }
+    {
+        let octets = vec![in alloc; 0; 12]?;
+        Ok(MessageBuilder {
+            octets,
+            limit: MAX_LEN,
+        })
+    }
+
+    /// The octets so far.
+    pub fn as_slice(&self) -> &[u8]
+        ensures value { result.now ≡ self.now.octets }
+        ensures header { 12 ≤ length result.now }
+        ensures most { length result.now ≤ 65535 }
+    {
+        self.octets.as_slice()
+    }
+
+    /// Id and flags.
+    pub fn header(&self) -> Header
+        ensures { result ≡ header_in self.now.octets }
+    {
+        header_from(self.octets.as_slice())
+    }
+
+    /// How many items the sections have so far.
+    pub fn counts(&self) -> HeaderCounts
+        ensures { result ≡ counts_in self.now.octets }
+    {
+        counts_from(self.octets.as_slice())
+    }
+
+    /// Writes id and flags, the first four octets.
+    pub fn set_header(&mut self, header: Header)
+        ensures after { self.new ≡ record self.old { octets = header_wire header ++ drop 4 self.old.octets } }
+        ensures read { header_in self.new.octets ≡ header }
+    {
+        set_number(&mut self.octets, 0, header.id);
+        set_number(&mut self.octets, 2, header.to_word());
+    }
+
+    /// From now on no item is added that would give the message more octets than `limit`, nor more than 65,535.
+    pub fn set_push_limit(&mut self, limit: usize)
+        ensures { self.new ≡ record self.old { limit = limit } }
+    {
+        self.limit = limit;
+    }
+
+    /// From now on the message may have 65,535 octets.
+    pub fn clear_push_limit(&mut self)
+        ensures { self.new ≡ record self.old { limit = 65535 } }
+    {
+        self.limit = MAX_LEN;
+    }
+
+    /// Adds a question at the end.
+    pub(crate) fn push_question<N: Labelled>(
+        &mut self,
+        question: &Question<N>,
+    ) -> Result<(), PushError>
+        ensures { Adds 4 (question_wire question.now) self.old result self.new }
+    {
+        let before = self.octets.len();
+        let Ok(()) = question.compose(&mut self.octets) else {
+            return Err(PushError::Memory);
+        };
+        count_item(&mut self.octets, before, 4, self.limit)
+    }
+
+    /// Adds a record at the end, counted in the two octets at `place` of the header.
+    pub(crate) fn push_record<R: ComposeRecord>(
+        &mut self,
+        place: usize,
+        item: &R,
+    ) -> Result<(), PushError>
+        requires { place + 2 ≤ 12 }
+        ensures { Adds place (record_wire (R.record_of item.now)) self.old result self.new }
+    {
+        let before = self.octets.len();
+        let Ok(()) = item.compose_record(&mut self.octets) else {
+            return Err(PushError::Memory);
+        };
+        count_item(&mut self.octets, before, place, self.limit)
+    }
+
+    /// The message so far, lent for reading.
+    fn as_message(&self) -> Message<'_>
+        ensures { result ≡ self.now.octets }
+    {
+        Message::from_whole(self.octets.as_slice())
+    }
+
+    /// Takes back what stands from `start` on, and sets the count in the two octets at `place` of the header to 0.
+    pub(crate) fn cut(&mut self, place: usize, start: usize)
+        requires header { place + 2 ≤ 12 }
+        requires behind { 12 ≤ start }
+        ensures { self.new ≡ cut_at place start self.old }
+    {
+        self.octets.truncate(start);
+        set_number(&mut self.octets, place, 0);
+    }
+
+    /// Takes the answers back, where the items before them can be read.
+    pub(crate) fn rewind_answers(&mut self)
+        ensures { self.new ≡ rewound 6 (answers_start self.old.octets) self.old }
+    {
+        let Ok(start) = self.as_message().answers_place() else {
+            return;
+        };
+        self.cut(6, start);
+    }
+
+    /// Takes the authority records back, where the items before them can be read.
+    pub(crate) fn rewind_authority(&mut self)
+        ensures { self.new ≡ rewound 8 (authority_start self.old.octets) self.old }
+    {
+        let Ok(start) = self.as_message().authority_place() else {
+            return;
+        };
+        self.cut(8, start);
+    }
+
+    /// Takes the additional records back, where the items before them can be read.
+    pub(crate) fn rewind_additional(&mut self)
+        ensures { self.new ≡ rewound 10 (additional_start self.old.octets) self.old }
+    {
+        let Ok(start) = self.as_message().additional_place() else {
+            return;
+        };
+        self.cut(10, start);
+    }
+
+    /// Adds the questions that are left, up to the first that can't be read.
+    fn push_questions(&mut self, mut questions: QuestionSection<'_>) -> Result<(), PushError>
+        requires room { IsTrue (fits self.old.limit self.old.octets) }
+        requires header { 12 ≤ length self.old.octets }
+        requires count { header_number 4 self.old.octets < 2 ^ 16 }
+        ensures { AddsQuestions (filter_map (λ q. q) questions.entry.left) self.old result self.new }
+    {
+        loop {
+            match questions.next_question() {
+                Some(Ok(question)) => self.push_question(&question)?,
+                Some(Err(_)) => return Ok(()),
+                None => return Ok(()),
+            }
+        }
+    }
+
+    /// A message of this header and no item, with the same push limit.
+    fn restarted(self, header: Header) -> Result<MessageBuilder, AllocError>
+        ensures { IfOk result (λ b. b ≡ record { octets = header_wire header ++ replicate 8 0; limit = self.limit }) }
+    {
+        let [id_high, id_low] = header.id.to_be_bytes();
+        let [flags_high, flags_low] = header.to_word().to_be_bytes();
+        let mut octets = self.octets;
+        octets.clear();
+        octets.extend_from_slice(&[
+            id_high, id_low, flags_high, flags_low, 0, 0, 0, 0, 0, 0, 0, 0,
+        ])?;
+        Ok(MessageBuilder {
+            octets,
+            limit: self.limit,
+        })
+    }
+
+    /// Starts over with an answer to a request: its id, opcode, RD and its questions up to the first that can't be read, QR
+    /// set, that rcode, and no record (RFC 1035, 4.1.1). Refused where that is more than the push limit, or memory runs out.
+    pub fn start_answer(
+        self,
+        request: &Message<'_>,
+        rcode: Rcode,
+    ) -> Result<AnswerBuilder, PushError>
+        ensures { Builds (message_wire (empty_answer request.now rcode)) self.limit result }
+    {
+        let Ok(mut message) = self.restarted(request.header().answer(rcode)) else {
+            return Err(PushError::Memory);
+        };
+        if message.limit < message.octets.len() {
+            return Err(PushError::ShortBuf);
+        }
+        message.push_questions(request.question())?;
+        Ok(message.answer())
+    }
+
+    /// On to the question section.
+    pub fn question(self) -> QuestionBuilder
+        ensures { result ≡ self }
+    {
+        QuestionBuilder::new(self)
+    }
+
+    /// On to the answer section.
+    pub fn answer(self) -> AnswerBuilder
+        ensures { result ≡ self }
+    {
+        AnswerBuilder::new(self)
+    }
+
+    /// On to the authority section.
+    pub fn authority(self) -> AuthorityBuilder
+        ensures { result ≡ self }
+    {
+        AuthorityBuilder::new(self)
+    }
+
+    /// On to the additional section.
+    pub fn additional(self) -> AdditionalBuilder
+        ensures { result ≡ self }
+    {
+        AdditionalBuilder::new(self)
+    }
+
+    /// The message as it is now. It parses to the items that it was built of.
+    pub fn finish(self) -> MessageBuf
+        ensures value { result ≡ self.octets }
+        ensures most { length result ≤ 65535 }
+        ensures read_back { (m : MessageOf) → IsMessage m → self.octets ≡ message_wire m → parsed result ≡ Some (parsed_of m) }
+    {
+        MessageBuf::from_whole(self.octets)
+    }
+}
+
+/// Counts the item behind the first `before` octets, in the two octets at `place` of the header, or takes it off again.
+fn count_item(
+    octets: &mut Vec<u8>,
+    before: usize,
+    place: usize,
+    limit: usize,
+) -> Result<(), PushError>
+    requires header { place + 2 ≤ 12 }
+    requires start { 12 ≤ before }
+    requires item { before ≤ vec_len octets.old }
+    ensures { Adds place (drop before octets.old.items) (building (take before octets.old.items) limit) result
+        (building octets.new.items limit) }
+{
+    if octets.len() > limit.min(MAX_LEN) {
+        octets.truncate(before);
+        return Err(PushError::ShortBuf);
+    }
+    let count = number_at(octets.as_slice(), place);
+    if count == u16::MAX {
+        octets.truncate(before);
+        return Err(PushError::CountOverflow);
+    }
+    set_number(octets, place, count + 1);
+    Ok(())
+}
