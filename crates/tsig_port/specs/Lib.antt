@@ -13,8 +13,13 @@ pub use Rattle.dns_wire.specs.Reply
 pub use Rattle.dns_wire.specs.Written
 pub use Rattle.dns_wire.specs.MessageRows
 pub mod Hmac
+pub mod HmacState
 pub mod Tsig
+pub mod Keys
+pub mod Received
+pub mod Signers
 pub mod Signing
 pub mod Checked
 pub mod ServerCheck
+pub mod States
 pub mod ExchangeRows

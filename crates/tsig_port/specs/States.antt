@@ -1,0 +1,65 @@
+-- Which messages the state of a signed exchange stands for, one fact for each of its fields.
+use Rattle.std.specs.Prelude.{◌≡◌, ◌↔◌, ℕ, Bool, true, false, List, [], ◌++◌, length, nat_lt, not, ◌≢◌, IsTrue, IsSome, Option, Some, None, unwrap_or, IsSomeAnd, Result, Ok, Err, if◌then◌else◌}
+use Rattle.std.specs.List.{concat, last_or}
+use Rattle.dns_name.specs.Codes.{formerr, badsig, badtrunc}
+use Rattle.tsig_port.specs.Tsig.{TsigKey, Tsig, Signature, with_len, tsig_in, mac_in, is_mac}
+use Rattle.tsig_port.specs.Tsig.Signature.{Malformed, Unsigned, Signed}
+use Rattle.tsig_port.specs.Checked.{answer_fault, prior_mac, unsigned_since, taken_message}
+use Rattle.tsig_port.specs.ServerCheck.{Verdict}
+use Rattle.tsig_port.specs.ServerCheck.Verdict.{NoTsig, Accepted, Refused, BadTime}
+use Rattle.tsig_port.specs.HmacState.{HoldsHmac}
+use Rattle.tsig_port.specs.declared.errors.ValidationError.{ValidationError}
+use Rattle.tsig_port.specs.declared.errors.ValidationError.TheVariants.{FormErr, ServerUnsigned, TooManyUnsigned}
+use Rattle.tsig_port.specs.declared.client.ClientSequence.{ClientSequence}
+use Rattle.tsig_port.specs.declared.server.ServerSequence.{ServerSequence}
+use Rattle.tsig_port.specs.declared.server.ServerError.{ServerError}
+use Rattle.tsig_port.specs.declared.server.ServerError.TheVariants as errors
+
+-- what is digested before the next signed answer: the prior MAC with its length, and the unsigned messages since (RFC 8945, 5.3.1)
+abbrev pub digested_before : List ℕ → Option (List ℕ) → List (List ℕ) → List ℕ
+digested_before request_mac prior unsigned = with_len (unwrap_or prior request_mac) ++ concat unsigned
+
+-- the client's state, after a request with this MAC and the messages taken since, of which the first was signed
+pub record ClientStands {K : Type 0} (the_key : K → TsigKey) (s : ClientSequence K) (request_mac : List ℕ) (taken : List (List ℕ)) : Type 0 where
+  pub context : HoldsHmac s.context (the_key s.key).algorithm (the_key s.key).secret (digested_before request_mac (prior_mac taken) (unsigned_since taken))
+  pub first : IsTrue s.first ↔ (taken ≡ [])
+  pub begun : taken ≢ [] → IsSome (prior_mac taken)
+  pub unsigned : s.unsigned ≡ length (unsigned_since taken)
+
+-- an answer is taken where no test fails, and is then without its TSIG; else it is refused with the first test's fault, and stays
+abbrev pub Answers : ℕ → TsigKey → List ℕ → ℕ → List (List ℕ) → List ℕ → Result (Unit {0}) ValidationError → List ℕ → Type 0
+Answers most key request_mac now taken old (Ok u) new = (answer_fault most key request_mac now taken old ≡ None) × (new ≡ taken_message old)
+Answers most key request_mac now taken old (Err e) new = (answer_fault most key request_mac now taken old ≡ Some e) × (new ≡ old)
+
+-- the fault of an answer whose TSIG isn't there to be checked, the first answer or a later one, where no unsigned one may follow
+abbrev pub bare_fault : Bool → Signature → Option ValidationError
+bare_fault first Malformed = Some FormErr
+bare_fault true Unsigned = Some ServerUnsigned
+bare_fault false Unsigned = Some TooManyUnsigned
+bare_fault first (Signed start owner t) = None
+
+-- the server's state, after a request with this MAC and signed answers with those MACs
+pub record ServerStands {K : Type 0} (the_key : K → TsigKey) (s : ServerSequence K) (request_mac : List ℕ) (macs : List (List ℕ)) : Type 0 where
+  pub context : HoldsHmac s.context (the_key s.key).algorithm (the_key s.key).secret (digested_before request_mac (last_or None macs) [])
+  pub first : IsTrue s.first ↔ (macs ≡ [])
+
+-- what is wrong with a request's MAC, by what is digested for it: its length, or its octets (RFC 8945, 5.2.2)
+abbrev pub mac_fault : TsigKey → List ℕ → Tsig → Option ℕ
+mac_fault key input t =
+    if nat_lt (length t.mac) key.min_mac_len then Some badtrunc
+    else if not (is_mac key input t.mac) then Some badsig
+    else None
+
+-- the refusal of a request at a moment, by what the server found of it
+abbrev pub RefusalOf : {K : Type 0} → (K → TsigKey) → Verdict → List ℕ → ℕ → ServerError K → Type 0
+RefusalOf the_key (Refused error) request now errors.Formerr = error ≡ formerr
+RefusalOf the_key (Refused error) request now (errors.Unsigned code) = (code ≡ error) × (error ≢ formerr)
+RefusalOf the_key (BadTime key) request now (errors.BadTime k context time_signed fudge server) = (the_key k ≡ key) × (server ≡ now)
+    × IsSomeAnd (tsig_in request) (λ t. (time_signed ≡ t.time_signed) × (fudge ≡ t.fudge) × HoldsHmac context key.algorithm key.secret (with_len t.mac))
+RefusalOf the_key _ request now _ = ⊥
+
+-- what the server's check answers of a request, and what it leaves of it
+abbrev pub Requests : {K : Type 0} → (K → TsigKey) → Verdict → List ℕ → ℕ → Result (Option (ServerSequence K)) (ServerError K) → List ℕ → Type 0
+Requests the_key found old now (Ok None) new = (found ≡ NoTsig) × (new ≡ old)
+Requests the_key found old now (Ok (Some s)) new = (found ≡ Accepted (the_key s.key)) × (new ≡ taken_message old) × ServerStands the_key s (mac_in old) []
+Requests the_key found old now (Err e) new = RefusalOf the_key found old now e × (new ≡ old)

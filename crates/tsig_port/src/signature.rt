@@ -1,0 +1,113 @@
+// How a received message is signed, and what of it is digested (RFC 8945, 4.3 and 5.2).
+ghost use Rattle.std.specs.Prelude.{◌≡◌, ◌++◌, ◌≤◌, ◌<◌, ℕ, List, length, Some, IfOk, IfSome, OnErr, MatchOption};
+ghost use Rattle.tsig_port.specs.HmacState.{HoldsHmac};
+ghost use Rattle.tsig_port.specs.Received.{IsBehindHeader};
+ghost use Rattle.tsig_port.specs.Tsig.{signature_of, signature_by, tsig_of, digested_message, variables, timers, with_len};
+ghost use Rattle.tsig_port.specs.Tsig.Signature.{Malformed, Unsigned, Signed};
+ghost use Rattle.tsig_port.specs.declared.Algorithm.{Algorithm};
+
+use crate::digests::Hmac;
+use crate::rdata::{ReadTsig, Tsig};
+use dns_name::{Labelled, ParseError, ParsedName, Rtype};
+use dns_rdata::ParsedRecord;
+use dns_wire::Message;
+use std::convert::AsSlice;
+
+/// The TSIG that is the last record of a message: where it begins, its owner and its data.
+#[derive(Drop)]
+pub struct SignedBy<'m> {
+    pub start: usize,
+    pub owner: ParsedName<'m>,
+    pub tsig: ReadTsig<'m>,
+}
+
+/// The TSIG among the additional records, if there is one. Refused where one of them doesn't parse, or a record follows it.
+fn last_tsig<'m>(message: &Message<'m>) -> Result<Option<ParsedRecord<'m>>, ParseError>
+    ensures same { IfOk result (λ o. IfSome o (λ r. r.message ≡ message.now)) }
+    ensures behind { IfOk result (λ o. IfSome o (λ r. IsBehindHeader message.now (Some r.raw))) }
+    ensures found { IfOk result (λ o. MatchOption o (signature_of message.now ≡ Unsigned) (λ r. signature_of message.now ≡ signature_by r.raw (tsig_of message.now r.raw))) }
+    ensures none { OnErr result (signature_of message.now ≡ Malformed) }
+{
+    message.end()?;
+    let mut records = message.additional()?;
+    while let Some(reading) = records.next_record() {
+        let record = reading?;
+        if record.rtype() == Rtype::TSIG {
+            return match records.next_record() {
+                None => Ok(Some(record)),
+                Some(_) => Err(ParseError),
+            };
+        }
+    }
+    Ok(None)
+}
+
+/// How the message is signed: by its last record, or not at all. Refused where it doesn't parse to the end of its additional
+/// records, or its TSIG isn't readable or isn't the last record (RFC 8945, 5.2).
+pub fn signature<'m>(message: &Message<'m>) -> Result<Option<SignedBy<'m>>, ParseError>
+    ensures found { IfOk result (λ o. MatchOption o (signature_of message.now ≡ Unsigned) (λ s. signature_of message.now ≡ Signed s.start s.owner s.tsig)) }
+    ensures places { IfOk result (λ o. IfSome o (λ s. (12 ≤ s.start) × (s.start < length message.now))) }
+    ensures none { OnErr result (signature_of message.now ≡ Malformed) }
+{
+    let Some(record) = last_tsig(message)? else {
+        return Ok(None);
+    };
+    let tsig = ReadTsig::parse(&record)?;
+    Ok(Some(SignedBy {
+        start: record.start(),
+        owner: record.owner(),
+        tsig,
+    }))
+}
+
+impl Hmac {
+    /// Takes a received message up to where its TSIG begins, as it was before it was signed: with the original id, and ARCOUNT one
+    /// less (RFC 8945, 4.3.2).
+    pub fn update_message(&mut self, message: &Message<'_>, start: usize, original_id: u16)
+        requires header { 12 ≤ start }
+        requires within { start ≤ length message.now }
+        ensures { (algorithm : Algorithm) (key text : List ℕ) → HoldsHmac self.old algorithm key text → HoldsHmac self.new algorithm key (text ++ digested_message start original_id message.now) }
+    {
+        self.update(&original_id.to_be_bytes());
+        let octets = message.as_slice();
+        self.update(&octets[2..10]);
+        let arcount = message.counts().arcount;
+        self.update(&arcount.saturating_sub(1).to_be_bytes());
+        self.update(&octets[12..start]);
+    }
+
+    /// Takes the TSIG variables (RFC 8945, 4.3.3).
+    pub fn update_variables<M: Labelled, O: AsSlice<u8> + Drop, N: Labelled + Drop>(
+        &mut self,
+        owner: &M,
+        tsig: &Tsig<O, N>,
+    )
+        ensures { (algorithm : Algorithm) (key text : List ℕ) → HoldsHmac self.old algorithm key text → HoldsHmac self.new algorithm key (text ++ variables (M.labels owner.now) tsig.now) }
+    {
+        let owner = owner.to_canonical();
+        self.update(owner.as_slice());
+        self.update(&[0, 255, 0, 0, 0, 0]);
+        let algorithm = tsig.algorithm().to_canonical();
+        self.update(algorithm.as_slice());
+        self.update_timers(tsig);
+        self.update(&tsig.error().to_be_bytes());
+        self.update_counted(tsig.other());
+    }
+
+    /// Takes the time signed and the fudge (RFC 8945, 5.3.1).
+    pub fn update_timers<O: AsSlice<u8> + Drop, N: Labelled + Drop>(&mut self, tsig: &Tsig<O, N>)
+        ensures { (algorithm : Algorithm) (key text : List ℕ) → HoldsHmac self.old algorithm key text → HoldsHmac self.new algorithm key (text ++ timers tsig.now) }
+    {
+        self.update(&tsig.time_signed().into_octets());
+        self.update(&tsig.fudge().to_be_bytes());
+    }
+
+    /// Takes octets behind their number in two octets, as a prior MAC (RFC 8945, 4.3.1 and 5.3.1).
+    pub fn update_counted(&mut self, octets: &[u8])
+        requires { length octets.now < 65536 }
+        ensures { (algorithm : Algorithm) (key text : List ℕ) → HoldsHmac self.old algorithm key text → HoldsHmac self.new algorithm key (text ++ with_len octets.now) }
+    {
+        self.update(&(octets.len() as u16).to_be_bytes());
+        self.update(octets);
+    }
+}
