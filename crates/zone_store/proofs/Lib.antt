@@ -1,0 +1,7 @@
+mod Equality
+mod Cuts
+mod Conditions
+mod Putting
+mod Closing
+mod Stops
+mod Distinct

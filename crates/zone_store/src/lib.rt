@@ -1,0 +1,21 @@
+// A zone's versions: reading one, and writing the next by a session.
+#![tactic(auto)]
+
+mod apex;
+mod errors;
+mod laws;
+mod read;
+mod sets;
+#[cfg(test)]
+mod tests;
+mod version;
+mod walk;
+mod write;
+
+pub use apex::ZoneApex;
+pub use errors::{CommitError, EditError};
+pub use read::ReadZone;
+pub use sets::RecordSet;
+pub use version::WalkItem;
+pub use walk::RrsetIter;
+pub use write::WriteZone;

@@ -1,0 +1,252 @@
+// A session that writes a zone's next versions.
+ghost use Rattle.std.specs.Prelude.{◌≡◌, ◌↔◌, ◌-◌, ◌^◌, [], Ok, Err, IfOk, IfErr, IfSome, OnOk, OnErr, IsOk, IsTrue, false};
+ghost use Rattle.dns_name.specs.Names.{under};
+ghost use Rattle.zone_types.specs.Edits.{add, with_sets};
+ghost use Rattle.zone_types.specs.Edits as edits;
+ghost use Rattle.zone_types.specs.Session.{opened_session, with_pending, committed, rolled_back};
+ghost use Rattle.zone_store.specs.Causes.{refusal_of};
+ghost use Rattle.zone_store.specs.Puts.{appended, opened_by, with_soa};
+ghost use Rattle.dns_rdata.specs.DataFields.{soa_fields};
+ghost use Rattle.dns_rdata.specs.ZoneData.{data_fields};
+ghost use Rattle.std.specs.Arc.{arc_value};
+
+use crate::apex::ZoneApex;
+use crate::errors::{CommitError, EditError};
+use crate::read::ReadZone;
+use crate::version::ZoneVersion;
+use dns_name::{StoredName, Ttl};
+use dns_rdata::{Soa, StoredRecord, StoredRecordData, ZoneRecordData};
+use std::alloc::{AllocError, Global};
+use std::marker::Model;
+use std::sync::Arc;
+
+/// The one session of a zone: it edits what is pending, and publishes it by `commit`. What is pending when it is dropped is gone.
+#[derive(Drop)]
+pub struct WriteZone<'z> {
+    alloc: Global,
+    zone: &'z mut ZoneApex,
+    pending: Option<Arc<ZoneVersion>>,
+    compares: bool,
+    spare: Option<ReadZone>,
+}
+
+impl<'z> Model for WriteZone<'z> {
+    ghost use Rattle.std.specs.Prelude.{◌≡◌, is_some, option_map, IfSome};
+    ghost use Rattle.std.specs.Arc.{arc_value};
+    ghost use Rattle.zone_types.specs.Session.{Session};
+    ghost use Rattle.zone_store.specs.Pending.{pending_of};
+
+    ghost Value = { Session };
+
+    ghost view = { λ s. record { current = s.zone.now; pending = pending_of s.zone.now.version (option_map arc_value s.pending); compares = s.compares; has_handle = is_some s.spare } };
+
+    ghost invariant = { λ s. IfSome s.spare (λ z. z ≡ s.zone.now) };
+}
+
+impl<'z> WriteZone<'z> {
+    /// A session of a zone with nothing edited.
+    pub(crate) fn of(alloc: Global, zone: &'z mut ZoneApex) -> WriteZone<'z>
+        ensures { result ≡ record { current = zone.old; pending = zone.old.version; compares = false; has_handle = false } }
+    {
+        WriteZone {
+            alloc,
+            zone,
+            pending: None,
+            compares: false,
+            spare: None,
+        }
+    }
+
+    /// Goes on with what is pending. With `create_diff` the next commit is to tell the difference.
+    pub fn open(&mut self, create_diff: bool)
+        ensures { self.new ≡ opened_session self.old create_diff }
+    {
+        self.compares = self.compares || create_diff;
+    }
+
+    /// What is pending, lent.
+    fn shown(&self) -> &ZoneVersion
+        ensures { result.now ≡ self.now.pending }
+    {
+        match &self.pending {
+            Some(version) => version,
+            None => self.zone.current().shown(),
+        }
+    }
+
+    /// Whether a record's data stand in its pending set.
+    pub fn has_data(&self, added: &StoredRecord) -> bool
+        ensures { result ≡ edits.has_data self.now.pending added.now }
+    {
+        self.shown().has_data(added)
+    }
+
+    /// Takes what is pending out to be edited.
+    fn take_pending(&mut self) -> Result<Arc<ZoneVersion>, AllocError>
+        ensures ok { IfOk result (λ v. arc_value v ≡ self.old.pending) }
+        ensures rest { OnOk result (self.new ≡ with_pending self.old self.old.current.version) }
+        ensures err { OnErr result (self.new ≡ self.old) }
+    {
+        match self.pending.take() {
+            Some(version) => Ok(version),
+            None => self.zone.current().share(),
+        }
+    }
+
+    /// Adds a record: its data come last, and its TTL becomes the set's. The class isn't looked at. Refused are, tested in this order, an
+    /// owner outside the zone, data that the set has already (`Incompatible`), and a second CNAME below the apex (`InvalidData`).
+    pub fn add_record(&mut self, added: StoredRecord) -> Result<(), EditError>
+        ensures ok { OnOk result (add self.old.pending added ≡ Ok self.new.pending) }
+        ensures refused { IfErr result (λ e. IfSome (refusal_of e) (λ why. add self.old.pending added ≡ Err why)) }
+        ensures else_same { self.new ≡ with_pending self.old self.new.pending }
+        ensures err { OnErr result (self.new ≡ self.old) }
+    {
+        if let Some(error) = self.shown().refusal(&added) {
+            return Err(error);
+        }
+        let alloc = self.alloc;
+        let mut pending = self.take_pending()?;
+        let appended = append(&mut pending, alloc, added);
+        self.pending = Some(pending);
+        Ok(appended?)
+    }
+
+    /// Puts a record that the zone opens with: equal data are passed over, and the set's TTL is the lowest of its records'. `OutOfZone` and
+    /// `Memory` alone refuse it.
+    pub fn insert_opening(&mut self, added: StoredRecord) -> Result<(), EditError>
+        ensures ok { OnOk result (self.new ≡ with_pending self.old (opened_by self.old.pending added)) }
+        ensures inside { OnOk result (IsTrue (under added.owner self.old.pending.apex)) }
+        ensures refused { IfErr result (λ e. IfSome (refusal_of e) (λ why. (why ≡ edits.OutOfZone) × (under added.owner self.old.pending.apex ≡ false))) }
+        ensures err { OnErr result (self.new ≡ self.old) }
+    {
+        if self.shown().is_outside(&added) {
+            return Err(EditError::OutOfZone);
+        }
+        let alloc = self.alloc;
+        let mut pending = self.take_pending()?;
+        let put = open_with(&mut pending, alloc, added);
+        self.pending = Some(pending);
+        Ok(put?)
+    }
+
+    /// Makes the apex SOA set this one record.
+    pub fn set_soa(&mut self, ttl: Ttl, soa: Soa<StoredName>) -> Result<(), AllocError>
+        ensures ok { OnOk result (self.new ≡ with_pending self.old (with_soa self.old.pending ttl (soa_fields (λ n. n) soa))) }
+        ensures err { OnErr result (self.new ≡ self.old) }
+    {
+        let alloc = self.alloc;
+        let mut pending = self.take_pending()?;
+        let put = set_soa(&mut pending, alloc, ttl, ZoneRecordData::Soa(soa));
+        self.pending = Some(pending);
+        put
+    }
+
+    /// Removes every set.
+    pub fn clear_all(&mut self) -> Result<(), AllocError>
+        ensures ok { OnOk result (self.new ≡ with_pending self.old (with_sets self.old.pending [])) }
+        ensures err { OnErr result (self.new ≡ self.old) }
+    {
+        let cleared = self.shown().emptied(self.alloc)?;
+        self.pending = Some(Arc::new(self.alloc, cleared)?);
+        Ok(())
+    }
+
+    /// Publishes what is pending, without DS sets below the apex that lack NS, as the zone's current version with the next number.
+    pub fn commit(&mut self) -> Result<(), CommitError>
+        ensures ok { OnOk result (self.new ≡ committed self.old false) }
+        ensures exhausted { (result ≡ Err CommitError.VersionsExhausted) ↔ (self.old.current.number ≡ 2 ^ 64 - 1) }
+        ensures err { OnErr result (self.new ≡ self.old) }
+    {
+        let number = self.zone.current().version();
+        if number == u64::MAX {
+            return Err(CommitError::VersionsExhausted);
+        }
+        let next = ReadZone::of(number + 1, self.closed()?);
+        let spare = next.clone()?;
+        self.zone.publish(next);
+        self.pending = None;
+        self.compares = false;
+        self.spare = Some(spare);
+        Ok(())
+    }
+
+    /// What a commit publishes.
+    fn closed(&self) -> Result<Arc<ZoneVersion>, AllocError>
+        ensures { IfOk result (λ v. v.value ≡ edits.close self.now.pending) }
+    {
+        if self.shown().has_stray() {
+            return Ok(Arc::new(self.alloc, self.shown().closed()?)?);
+        }
+        self.share()
+    }
+
+    /// One more owner of what is pending.
+    fn share(&self) -> Result<Arc<ZoneVersion>, AllocError>
+        ensures { IfOk result (λ v. arc_value v ≡ self.now.pending) }
+    {
+        match &self.pending {
+            Some(version) => version.clone(),
+            None => self.zone.current().share(),
+        }
+    }
+
+    /// Drops what is pending.
+    pub fn rollback(&mut self)
+        ensures { self.new ≡ rolled_back self.old }
+    {
+        self.pending = None;
+        self.compares = false;
+    }
+
+    /// A read handle of the current version. The first one after a commit takes no memory and isn't refused.
+    pub fn handle(&mut self) -> Result<ReadZone, AllocError>
+        ensures current { IfOk result (λ z. z ≡ self.old.current) }
+        ensures ready { IsTrue self.old.has_handle → IsOk result }
+        ensures same { self.new ≡ record self.old { has_handle = self.new.has_handle } }
+    {
+        match self.spare.take() {
+            Some(handle) => Ok(handle),
+            None => self.zone.read(),
+        }
+    }
+}
+
+/// Puts a record's data last in its set.
+fn append(
+    pending: &mut Arc<ZoneVersion>,
+    alloc: Global,
+    added: StoredRecord,
+) -> Result<(), AllocError>
+    ensures ok { OnOk result (arc_value pending.new ≡ appended (arc_value pending.old) added) }
+    ensures err { OnErr result (arc_value pending.new ≡ arc_value pending.old) }
+{
+    let version = Arc::make_mut(pending)?;
+    version.append(alloc, added)
+}
+
+/// Puts a record that the zone opens with.
+fn open_with(
+    pending: &mut Arc<ZoneVersion>,
+    alloc: Global,
+    added: StoredRecord,
+) -> Result<(), AllocError>
+    ensures ok { OnOk result (arc_value pending.new ≡ opened_by (arc_value pending.old) added) }
+    ensures err { OnErr result (arc_value pending.new ≡ arc_value pending.old) }
+{
+    let version = Arc::make_mut(pending)?;
+    version.open_with(alloc, added)
+}
+
+/// Makes the apex SOA set one record.
+fn set_soa(
+    pending: &mut Arc<ZoneVersion>,
+    alloc: Global,
+    ttl: Ttl,
+    item: StoredRecordData,
+) -> Result<(), AllocError>
+    ensures ok { OnOk result (arc_value pending.new ≡ with_soa (arc_value pending.old) ttl (data_fields item)) }
+    ensures err { OnErr result (arc_value pending.new ≡ arc_value pending.old) }
+{
+    let version = Arc::make_mut(pending)?;
+    version.set_soa(alloc, ttl, item)
+}
