@@ -1,0 +1,7 @@
+use Rattle.std.proofs.Common.{map, ap, ◌∙◌}
+use Rattle.zone_types.specs.Read.{record_item}
+use Rattle.xfr_client.proofs.Sections.{left_behind}
+use Rattle.xfr_client.proofs.interpreter.behind_first.Goals as goal
+
+pub returns : goal.returns
+returns c m x xs h e = left_behind _ _ _ x xs c.next_found.ensures (c.in_ok-section.ensures m h ∙ ap (map record_item) e)

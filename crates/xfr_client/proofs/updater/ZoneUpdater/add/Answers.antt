@@ -1,0 +1,22 @@
+use Rattle.std.proofs.Common.{◌≡◌, ◌++◌, [], true, Result, Ok, Err, List, sym, ap, ◌∙◌}
+use Rattle.std.proofs.lemmas.List.{append-nil}
+use Rattle.zone_types.specs.Version.{Version}
+use Rattle.zone_types.specs.Session.{Session}
+use Rattle.zone_types.specs.Edits.{Incompatible, add}
+use Rattle.zone_types.specs.Updates.{Progress, UpdateFault}
+use Rattle.xfr_client.specs.Updating.{progress_of}
+use Rattle.xfr_client.proofs.Adding.{update_passed}
+use Rattle.xfr_client.proofs.updater.ZoneUpdater.add.Goals as goal
+
+pub returns-then-self-clause-ok : goal.returns-then-self-clause-ok
+returns-then-self-clause-ok c before fin =
+    let u = c.args.self.now in
+    let rep : u.replacing ≡ true = ap (λ v. v.replacing) (sym c.self.view_is) ∙ c.if-self.true in
+    let said = rw c.in-Err-Incompatible.field-0-is at c.in-Err-Incompatible.ensures in
+    let refused : add c.args.session.now.pending c.args.added.now ≡ Err Incompatible
+    = ap (add c.args.session.now.pending) (sym c.in_ok-stored.ensures.ok) ∙ said.refused in
+    let S : Session → Result Progress UpdateFault = λ s. Ok (progress_of u s before) in
+    let V : List Version → Result Progress UpdateFault = λ vs. Ok (progress_of u c.add_record.new.self vs) in
+    update_passed (progress_of u c.args.session.now before) c.args.added.now fin rep refused
+    ∙ ap S (sym c.in-Err-Incompatible.ensures.err)
+    ∙ ap V (sym (append-nil before))

@@ -1,0 +1,37 @@
+-- The updates and refusals of the calls, as those of the definitions.
+use Rattle.std.specs.Prelude.{Option, Some, None}
+use Rattle.dns_rdata.specs.Records.{Record}
+use Rattle.zone_types.specs.Edits as edits
+use Rattle.zone_types.specs.Updates as updates
+use Rattle.zone_types.specs.Read as faults
+use Rattle.xfr_client.specs.declared.update.ZoneUpdate.{ZoneUpdate}
+use Rattle.xfr_client.specs.declared.update.ZoneUpdate.TheVariants as update
+use Rattle.xfr_client.specs.declared.update.Error.{Error}
+use Rattle.xfr_client.specs.declared.update.Error.TheVariants as error
+use Rattle.xfr_client.specs.declared.protocol.Error as protocol
+use Rattle.xfr_client.specs.declared.protocol.Error.TheVariants as refusal
+
+abbrev pub update_of : ZoneUpdate Record → updates.Update
+update_of update.DeleteAllRecords = updates.DeleteAllRecords
+update_of (update.DeleteRecord r) = updates.DeleteRecord r
+update_of (update.AddRecord r) = updates.AddRecord r
+update_of (update.BeginBatchDelete r) = updates.BeginBatchDelete r
+update_of (update.BeginBatchAdd r) = updates.BeginBatchAdd r
+update_of (update.Finished r) = updates.Finished r
+
+-- why an update is refused; want of memory, and of a version's number, is no refusal of the update
+abbrev pub update_fault_of : Error → Option updates.UpdateFault
+update_fault_of error.OutOfZone = Some (updates.Edit edits.OutOfZone)
+update_fault_of error.NotSoaRecord = Some updates.NotSoaRecord
+update_fault_of error.IncompatibleUpdate = Some (updates.Edit edits.Incompatible)
+update_fault_of error.InvalidData = Some (updates.Edit edits.InvalidData)
+update_fault_of error.VersionsExhausted = None
+update_fault_of error.Finished = Some updates.AfterFinish
+update_fault_of error.Memory = None
+
+-- why a message is refused by itself; that the end was read before isn't told of the message
+abbrev pub message_fault_of : protocol.Error → Option faults.Fault
+message_fault_of refusal.ParseError = None
+message_fault_of refusal.NotValidXfrResponse = Some faults.NotValid
+message_fault_of refusal.Malformed = Some faults.Malformed
+message_fault_of refusal.Finished = None

@@ -1,0 +1,21 @@
+-- The places that the interpreter's code keeps, as places of the machine.
+use Rattle.std.specs.Prelude.{Bool, true, false}
+use Rattle.zone_types.specs.Machine as machine
+use Rattle.xfr_client.specs.declared.place.Place.{Place}
+use Rattle.xfr_client.specs.declared.place.Place.TheVariants.{AtSecond, InWhole, InDeletes, InAdds, AtEnd}
+
+abbrev pub place_of : Place → machine.Place
+place_of (AtSecond s) = machine.AtSecond s
+place_of (InWhole s) = machine.InWhole s
+place_of (InDeletes s) = machine.InDeletes s
+place_of (InAdds s) = machine.InAdds s
+place_of AtEnd = machine.AtEnd
+
+-- whether one record was read of a text that may be of either form
+abbrev pub is_at_second : machine.Place → Bool
+is_at_second machine.AtStart = false
+is_at_second (machine.AtSecond s) = true
+is_at_second (machine.InWhole s) = false
+is_at_second (machine.InDeletes s) = false
+is_at_second (machine.InAdds s) = false
+is_at_second machine.AtEnd = false

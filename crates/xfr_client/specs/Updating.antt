@@ -1,0 +1,35 @@
+-- What an updater keeps beside its session, and what both stand for.
+use Rattle.std.specs.Prelude.{◌≡◌, ◌+◌, Bool, true, false, List, [], ◌∷◌, ◌++◌, if◌then◌else◌}
+use Rattle.dns_rdata.specs.Records.{Record}
+use Rattle.zone_types.specs.Version.{Version}
+use Rattle.zone_types.specs.Commits.{Commit}
+use Rattle.zone_types.specs.Session.{Session}
+use Rattle.zone_types.specs.Updates.{Update, DeleteAllRecords, DeleteRecord, AddRecord, BeginBatchDelete, BeginBatchAdd, Finished, Progress}
+
+-- whether equal data are passed over, and whether the end has come
+pub record Updating : Type 0 where
+  pub replacing : Bool
+  pub finished : Bool
+
+-- the progress that an updater and its session stand for, behind these commits
+abbrev pub progress_of : Updating → Session → List Version → Progress
+progress_of u s committed = record { committed = committed; pending = s.pending; replacing = u.replacing; finished = u.finished }
+
+-- the version that a session has as its current one, where it was just committed
+abbrev pub new_version : Bool → Session → List Version
+new_version true s = s.current.version ∷ []
+new_version false s = []
+
+-- the current commit, the next one where an update committed
+abbrev pub next_commit : Bool → Commit → Version → Commit
+next_commit true last v = record { number = last.number + 1; version = v }
+next_commit false last v = last
+
+-- the updates that are applied so far: all but deletes
+abbrev pub is_delete : Update → Bool
+is_delete DeleteAllRecords = false
+is_delete (DeleteRecord r) = true
+is_delete (AddRecord r) = false
+is_delete (BeginBatchDelete r) = false
+is_delete (BeginBatchAdd r) = false
+is_delete (Finished r) = false

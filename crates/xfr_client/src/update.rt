@@ -1,0 +1,60 @@
+//! One update of a zone, and why it isn't applied.
+
+use std::fmt;
+use thiserror::Error;
+
+/// One update of a zone, with records of any kind.
+#[derive(Debug, Drop)]
+pub enum ZoneUpdate<R> {
+    /// The zone's records all go; a whole zone follows.
+    DeleteAllRecords,
+    /// This record goes.
+    DeleteRecord(R),
+    /// This record is added.
+    AddRecord(R),
+    /// A batch begins with its deletes; what was pending before it is committed. The record is the old SOA.
+    BeginBatchDelete(R),
+    /// A batch's adds begin. The record is the new SOA.
+    BeginBatchAdd(R),
+    /// The end; what is pending is committed. The record is the zone's SOA.
+    Finished(R),
+}
+
+impl<R> fmt::Display for ZoneUpdate<R> {
+    fn fmt<W: fmt::Write>(&self, f: &mut fmt::Formatter<W>) -> fmt::Result {
+        match self {
+            ZoneUpdate::DeleteAllRecords => write!(f, "DeleteAllRecords"),
+            ZoneUpdate::DeleteRecord(_) => write!(f, "DeleteRecord"),
+            ZoneUpdate::AddRecord(_) => write!(f, "AddRecord"),
+            ZoneUpdate::BeginBatchDelete(_) => write!(f, "BeginBatchDelete"),
+            ZoneUpdate::BeginBatchAdd(_) => write!(f, "BeginBatchAdd"),
+            ZoneUpdate::Finished(_) => write!(f, "Finished"),
+        }
+    }
+}
+
+/// Why an update isn't applied.
+#[derive(Clone, Copy, Debug, PartialEq, Eq, Error)]
+pub enum Error {
+    /// The owner isn't at or under the apex.
+    #[error("the record's owner is outside the zone")]
+    OutOfZone,
+    /// The record that a batch's adds or the end name is no SOA.
+    #[error("the record is no SOA")]
+    NotSoaRecord,
+    /// The record to add is there, or the record to delete isn't; every later update is refused.
+    #[error("the update doesn't fit the zone")]
+    IncompatibleUpdate,
+    /// The record may not stand beside those of its owner.
+    #[error("the record's data may not stand there")]
+    InvalidData,
+    /// The version number is the greatest.
+    #[error("the version numbers are exhausted")]
+    VersionsExhausted,
+    /// The end came before, or an update that didn't fit.
+    #[error("the updater is finished")]
+    Finished,
+    /// Want of memory.
+    #[error("out of memory")]
+    Memory,
+}

@@ -1,0 +1,188 @@
+// The updater of a zone.
+ghost use Rattle.std.specs.Prelude.{◌≡◌, ◌++◌, ◌^◌, ◌-◌, [], true, false, not, List, IsTrue, IfOk, IfErr, IfSome, OnOk, OnErr, Some, None, Ok, Err};
+ghost use Rattle.zone_types.specs.TransferText.{is_soa};
+ghost use Rattle.zone_types.specs.Version.{Version};
+ghost use Rattle.zone_types.specs.Edits.{with_sets, set_soa};
+ghost use Rattle.zone_types.specs.Session.{with_pending, committed};
+ghost use Rattle.zone_types.specs.Updates as updates;
+ghost use Rattle.zone_types.specs.Updates.{UpdateFault, apply_update, after_refusal};
+ghost use Rattle.xfr_client.specs.Causes.{update_of, update_fault_of};
+ghost use Rattle.xfr_client.specs.Updating.{progress_of, new_version, next_commit, is_delete};
+
+use crate::update::{Error, ZoneUpdate};
+use dns_rdata::{ReadRecord, StoredRecord, ZoneRecordData};
+use std::alloc::{AllocError, Global};
+use std::marker::Model;
+use zone_store::{CommitError, EditError, ReadZone, WriteZone};
+
+/// Applies the updates of one transfer to a writing session (RFC 5936, 3; RFC 1995, 4).
+///
+/// It keeps two flags alone, and is handed the session with each update: one updater goes with one session, which
+/// nothing else edits meanwhile. What is pending when it is dropped stays pending until the session rolls it back.
+#[derive(Drop)]
+pub struct ZoneUpdater {
+    alloc: Global,
+    // Equal data are passed over, from DeleteAllRecords to the next commit.
+    is_replacing: bool,
+    // The end came, or an update that didn't fit.
+    is_finished: bool,
+}
+
+impl Model for ZoneUpdater {
+    ghost use Rattle.xfr_client.specs.Updating.{Updating};
+
+    ghost Value = { Updating };
+
+    ghost view = { λ u. record { replacing = u.is_replacing; finished = u.is_finished } };
+}
+
+impl ZoneUpdater {
+    /// An updater of a session in which nothing is pending.
+    pub fn new(alloc: Global) -> ZoneUpdater
+        ensures { result ≡ record { replacing = false; finished = false } }
+    {
+        ZoneUpdater {
+            alloc,
+            is_replacing: false,
+            is_finished: false,
+        }
+    }
+
+    /// Whether each further update is refused as `Finished`.
+    pub fn is_finished(&self) -> bool
+        ensures { result ≡ self.now.finished }
+    {
+        self.is_finished
+    }
+
+    /// A read handle of the session's current version; after an update that committed it takes no memory.
+    pub fn handle(&self, session: &mut WriteZone<'_>) -> Result<ReadZone, AllocError> {
+        session.handle()
+    }
+
+    /// Applies one update, and tells whether it committed a version.
+    ///
+    /// `Finished` comes after the end and after `IncompatibleUpdate`; after the other refusals the updater goes on.
+    /// After `Memory` or `VersionsExhausted` the same update may be applied again; where it was `Finished` the new SOA
+    /// may be pending already. Records can't be deleted so far: a `DeleteRecord` is refused as `IncompatibleUpdate`.
+    pub fn apply(
+        &mut self,
+        session: &mut WriteZone<'_>,
+        update: ZoneUpdate<ReadRecord<'_>>,
+    ) -> Result<bool, Error>
+        ensures ok { (before : List Version) → IsTrue (not (is_delete (update_of update.entry))) → IfOk result (λ told. apply_update (progress_of self.old session.old before) (update_of update.entry) ≡ Ok (progress_of self.new session.new (before ++ new_version told session.new))) }
+        ensures refused { (before : List Version) → IsTrue (not (is_delete (update_of update.entry))) → IfErr result (λ e. IfSome (update_fault_of e) (λ why. (apply_update (progress_of self.old session.old before) (update_of update.entry) ≡ Err why) × (progress_of self.new session.new before ≡ after_refusal (progress_of self.old session.old before) why))) }
+        ensures current { IfOk result (λ told. session.new.current ≡ next_commit told session.old.current session.new.current.version) }
+        ensures err { OnErr result (session.new.current ≡ session.old.current) }
+        // Want of memory or of a number changes nothing of the updater.
+        ensures unchanged { IfErr result (λ e. update_fault_of e ≡ None → self.new ≡ self.old) }
+    {
+        if self.is_finished {
+            return Err(Error::Finished);
+        }
+        match update {
+            ZoneUpdate::DeleteAllRecords => {
+                clear(session)?;
+                self.is_replacing = true;
+                Ok(false)
+            }
+            ZoneUpdate::DeleteRecord(_) => {
+                self.is_finished = true;
+                Err(Error::IncompatibleUpdate)
+            }
+            ZoneUpdate::AddRecord(added) => self.add(session, &added),
+            ZoneUpdate::BeginBatchDelete(_) => {
+                commit(session)?;
+                self.is_replacing = false;
+                Ok(true)
+            }
+            ZoneUpdate::BeginBatchAdd(soa) => {
+                put_soa(self.alloc, session, &soa)?;
+                Ok(false)
+            }
+            ZoneUpdate::Finished(soa) => {
+                put_soa(self.alloc, session, &soa)?;
+                commit(session)?;
+                self.is_replacing = false;
+                self.is_finished = true;
+                Ok(true)
+            }
+        }
+    }
+
+    // One record more; data that the set has are passed over while the zone is replaced (RFC 5936, 2.2).
+    #[tactic(auto, using(crate::proofs::Adding::update_added, crate::proofs::Adding::update_passed, crate::proofs::Adding::update_not_passed, crate::proofs::Adding::update_outside, crate::proofs::Adding::update_bad_data, crate::proofs::Adding::and_none))]
+    fn add(&mut self, session: &mut WriteZone<'_>, added: &ReadRecord<'_>) -> Result<bool, Error>
+        ensures ok { (before : List Version) → self.old.finished ≡ false → IfOk result (λ told. apply_update (progress_of self.old session.old before) (updates.AddRecord added.now) ≡ Ok (progress_of self.new session.new (before ++ new_version told session.new))) }
+        ensures refused { (before : List Version) → self.old.finished ≡ false → IfErr result (λ e. IfSome (update_fault_of e) (λ why. (apply_update (progress_of self.old session.old before) (updates.AddRecord added.now) ≡ Err why) × (progress_of self.new session.new before ≡ after_refusal (progress_of self.old session.old before) why))) }
+        ensures current { IfOk result (λ told. session.new.current ≡ next_commit told session.old.current session.new.current.version) }
+        ensures err { OnErr result (session.new.current ≡ session.old.current) }
+        ensures unchanged { IfErr result (λ e. update_fault_of e ≡ None → self.new ≡ self.old) }
+    {
+        let stored = stored(self.alloc, added)?;
+        match session.add_record(stored) {
+            Ok(()) => Ok(false),
+            Err(EditError::Incompatible) => {
+                if self.is_replacing {
+                    return Ok(false);
+                }
+                self.is_finished = true;
+                Err(Error::IncompatibleUpdate)
+            }
+            Err(EditError::OutOfZone) => Err(Error::OutOfZone),
+            Err(EditError::InvalidData) => Err(Error::InvalidData),
+            Err(EditError::Memory) => Err(Error::Memory),
+        }
+    }
+}
+
+// A copy that holds its octets.
+fn stored(alloc: Global, found: &ReadRecord<'_>) -> Result<StoredRecord, Error>
+    ensures ok { IfOk result (λ r. r ≡ found.now) }
+    ensures err { IfErr result (λ e. update_fault_of e ≡ None) }
+{
+    match found.flatten(alloc) {
+        Ok(stored) => Ok(stored),
+        Err(_) => Err(Error::Memory),
+    }
+}
+
+// No record is pending.
+fn clear(session: &mut WriteZone<'_>) -> Result<(), Error>
+    ensures ok { OnOk result (session.new ≡ with_pending session.old (with_sets session.old.pending [])) }
+    ensures err { IfErr result (λ e. (session.new ≡ session.old) × (update_fault_of e ≡ None)) }
+{
+    match session.clear_all() {
+        Ok(()) => Ok(()),
+        Err(_) => Err(Error::Memory),
+    }
+}
+
+// The apex SOA set is this one record, whatever its owner and class.
+fn put_soa(alloc: Global, session: &mut WriteZone<'_>, soa: &ReadRecord<'_>) -> Result<(), Error>
+    ensures ok { OnOk result ((is_soa soa.now ≡ true) × (session.new ≡ with_pending session.old (set_soa session.old.pending soa.now))) }
+    ensures err { OnErr result (session.new ≡ session.old) }
+    ensures refused { IfErr result (λ e. IfSome (update_fault_of e) (λ why. (is_soa soa.now ≡ false) × (why ≡ updates.NotSoaRecord))) }
+{
+    let stored = stored(alloc, soa)?;
+    let (_, _, ttl, data) = stored.into_parts();
+    match data {
+        ZoneRecordData::Soa(soa) => match session.set_soa(ttl, soa) {
+            Ok(()) => Ok(()),
+            Err(_) => Err(Error::Memory),
+        },
+        _ => Err(Error::NotSoaRecord),
+    }
+}
+
+// What is pending is published.
+fn commit(session: &mut WriteZone<'_>) -> Result<(), Error>
+    ensures ok { OnOk result (session.new ≡ committed session.old false) }
+    ensures err { IfErr result (λ e. (session.new ≡ session.old) × (update_fault_of e ≡ None)) }
+{
+    match session.commit() {
+        Ok(()) => Ok(()),
+        Err(CommitError::VersionsExhausted) => Err(Error::VersionsExhausted),
+        Err(CommitError::Memory) => Err(Error::Memory),
+    }
+}
