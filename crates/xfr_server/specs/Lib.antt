@@ -1,0 +1,4 @@
+pub mod Remaining
+pub mod Walking
+pub mod Offers
+pub mod Items
