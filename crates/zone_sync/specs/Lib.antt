@@ -47,6 +47,9 @@ pub mod Outcome
 pub mod Granting
 pub mod Client
 pub mod Links
+pub mod Queues
+pub mod Digits
+pub mod Streams
 pub mod Success
 pub mod Honest
 pub mod Courses
@@ -57,3 +60,7 @@ pub mod Words
 pub mod Generated
 pub mod Report
 pub mod ProgramRows
+pub mod Ending
+pub mod Lines
+pub mod Refusals
+pub mod Reported

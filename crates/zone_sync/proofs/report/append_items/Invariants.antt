@@ -1,0 +1,11 @@
+use Rattle.std.proofs.Common.{◌≡◌, ◌++◌, length, map}
+use Rattle.std.specs.Prelude.{flat_map}
+use Rattle.dns_rdata.specs.ZoneData.{data_fields}
+use Rattle.zone_sync.specs.Lines.{item_line}
+use Rattle.zone_sync.proofs.report.append_items.Given as goal
+
+abbrev pub invariant-lines : goal.invariant-lines
+invariant-lines l = l.out.items ++ flat_map (item_line l.class l.stop) (map data_fields l.rest) ≡ l.initial.out.items ++ flat_map (item_line l.class l.stop) (map data_fields l.items)
+
+abbrev pub decreases-lines : goal.decreases-lines
+decreases-lines l = length l.rest

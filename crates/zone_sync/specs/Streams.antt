@@ -1,0 +1,10 @@
+-- Octets that go through a stream in parts, where the stream tells what it holds.
+use Rattle.std.specs.Prelude.{ℕ, List, ◌++◌, Option, option_map}
+
+-- what a sink took, with a further part behind it
+abbrev pub with_more : List ℕ → Option (List ℕ) → Option (List ℕ)
+with_more part had = option_map (λ octets. octets ++ part) had
+
+-- what a source had, from a part and what is left behind it
+abbrev pub with_first : List ℕ → Option (List ℕ) → Option (List ℕ)
+with_first part left = option_map (λ octets. part ++ octets) left

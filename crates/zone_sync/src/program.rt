@@ -1,0 +1,216 @@
+//! The program over its streams and its link.
+ghost use Rattle.std.specs.Prelude.{◌≡◌, ◌≢◌, ◌⊎◌, ◌<◌, ◌↔◌, Some, map, length, string_bytes, IfOk, IfSome, IsOk};
+ghost use Rattle.zone_types.specs.TransferText.{Axfr};
+ghost use Rattle.zone_sync.specs.Links.{Rose};
+ghost use Rattle.zone_sync.specs.Streams.{with_more};
+ghost use Rattle.zone_sync.specs.Reported.{IsReport, TookReport};
+ghost use Rattle.zone_sync.specs.Words.{form_of, Transfer};
+
+use crate::client::XfrMode;
+use crate::links::Link;
+use crate::outcome::{SyncError, SyncOk};
+use crate::report::report_octets;
+use crate::script::{Script, ScriptError, parse};
+use crate::sinks::{Sink, write_all};
+use crate::sources::Source;
+use crate::sync::{Moments, sync_zone};
+use crate::whole::{MOST_OCTETS, ReadError, read_whole};
+use crate::words::is_axfr;
+use dns_name::Labelled;
+use std::alloc::{AllocError, Global};
+use tsig_port::Key;
+use xfr_server::{HistoryProvider, PrimaryStack, RefuseSvc, TsigMiddlewareSvc, XfrMiddlewareSvc};
+use zone_store::ZoneApex;
+
+/// The usage line.
+const USAGE: &[u8] = b"usage: zonesync axfr [K] / ixfr [K] / gen N SEED\n";
+
+/// How the program ended, as its exit status.
+#[derive(Clone, Copy, Debug, PartialEq, Eq)]
+pub enum Status {
+    /// The transfer ended well, and the report was written.
+    Done,
+    /// The transfer was refused, and the report was written.
+    Refused,
+    /// The words have no form, and the usage line was written.
+    Usage,
+    /// A line of the script isn't read or is refused, and its number was written.
+    Script,
+    /// The source failed.
+    SourceFault,
+    /// The sink failed; it may have taken a first part of what was to be written.
+    SinkFault,
+    /// Memory ran out.
+    Memory,
+    /// The link failed, and the report was written.
+    LinkFault,
+    /// The script has more than 16,777,216 octets.
+    TooLong,
+}
+
+impl Status {
+    /// The exit status, 0 to 8.
+    pub fn code(self) -> u8 {
+        match self {
+            Status::Done => 0,
+            Status::Refused => 1,
+            Status::Usage => 2,
+            Status::Script => 3,
+            Status::SourceFault => 4,
+            Status::SinkFault => 5,
+            Status::Memory => 6,
+            Status::LinkFault => 7,
+            Status::TooLong => 8,
+        }
+    }
+}
+
+/// The status of a transfer whose report was written.
+fn status_of(outcome: &Result<SyncOk, SyncError>) -> Status
+    ensures done { result ≡ Status.Done → IsOk outcome.now }
+    ensures link { result ≡ Status.LinkFault → outcome.now ≡ Err SyncError.LinkFault }
+    ensures sink { result ≢ Status.SinkFault }
+    ensures source { result ≢ Status.SourceFault }
+    ensures long { result ≢ Status.TooLong }
+    ensures usage { result ≢ Status.Usage }
+{
+    match outcome {
+        Ok(_) => Status::Done,
+        Err(SyncError::LinkFault) => Status::LinkFault,
+        Err(SyncError::Memory) => Status::Memory,
+        Err(_) => Status::Refused,
+    }
+}
+
+/// Runs the program: tests its words, reads the script, transfers the zone over the link, and writes the report.
+pub fn run<S: Source, K: Sink, L: Link>(
+    alloc: Global,
+    words: &[String],
+    src: &mut S,
+    out: &mut K,
+    link: &mut L,
+) -> Status
+    // Other words are answered by status 2 alone, or by 5.
+    ensures usage { result ≡ Status.Usage → form_of (map string_bytes words.now) ≢ Some (Transfer Axfr 0) }
+    ensures no_form { form_of (map string_bytes words.now) ≢ Some (Transfer Axfr 0) → (result ≡ Status.Usage) ⊎ (result ≡ Status.SinkFault) }
+    // The statuses of faults come where a count of faults rose.
+    ensures source_fault { result ≡ Status.SourceFault → Rose (S.faults src.old) (S.faults src.new) }
+    ensures sink_fault { result ≡ Status.SinkFault → Rose (K.faults out.old) (K.faults out.new) }
+    ensures link_fault { result ≡ Status.LinkFault → Rose (L.faults link.old) (L.faults link.new) }
+    // On status 0 the sink took the report of an outcome and of a version, and nothing else.
+    ensures report { result ≡ Status.Done → TookReport (K.taken out.old) (K.taken out.new) }
+    ensures long { result ≡ Status.TooLong → IfSome (S.remaining src.old) (λ left. MOST_OCTETS < length left) }
+{
+    if !is_axfr(words) {
+        return write_last(out, USAGE, Status::Usage);
+    }
+    match read_whole(alloc, src) {
+        Ok(text) => run_script(alloc, text.as_slice(), out, link),
+        Err(ReadError::Failed) => write_last(out, b"read fault\n", Status::SourceFault),
+        Err(ReadError::TooLong) => write_last(out, b"too long\n", Status::TooLong),
+        Err(ReadError::Memory) => Status::Memory,
+    }
+}
+
+/// Writes all that there is to write, and tells the status, unless the sink fails.
+fn write_last<K: Sink>(out: &mut K, octets: &[u8], status: Status) -> Status
+    requires { status ≢ Status.SinkFault }
+    ensures done { result ≢ Status.SinkFault → result ≡ status }
+    ensures written { result ≢ Status.SinkFault → K.taken out.new ≡ with_more octets.now (K.taken out.old) }
+    ensures failed { result ≡ Status.SinkFault → Rose (K.faults out.old) (K.faults out.new) }
+{
+    match write_all(out, octets) {
+        Ok(()) => status,
+        Err(_) => Status::SinkFault,
+    }
+}
+
+/// Reads a script and runs it.
+fn run_script<K: Sink, L: Link>(alloc: Global, text: &[u8], out: &mut K, link: &mut L) -> Status
+    ensures sink_fault { result ≡ Status.SinkFault → Rose (K.faults out.old) (K.faults out.new) }
+    ensures link_fault { result ≡ Status.LinkFault → Rose (L.faults link.old) (L.faults link.new) }
+    ensures report { result ≡ Status.Done → TookReport (K.taken out.old) (K.taken out.new) }
+    ensures others { (result ≢ Status.Usage) × (result ≢ Status.SourceFault) × (result ≢ Status.TooLong) }
+{
+    match parse(alloc, text) {
+        Ok(script) => run_transfer(alloc, script, out, link),
+        Err(ScriptError::Line(number)) => write_bad_line(alloc, out, number),
+        Err(ScriptError::Memory) => Status::Memory,
+    }
+}
+
+/// Writes the number of a bad line.
+fn write_bad_line<K: Sink>(alloc: Global, out: &mut K, number: u64) -> Status
+    ensures sink_fault { result ≡ Status.SinkFault → Rose (K.faults out.old) (K.faults out.new) }
+    ensures others { (result ≡ Status.Script) ⊎ ((result ≡ Status.SinkFault) ⊎ (result ≡ Status.Memory)) }
+{
+    match format!(in alloc; "line {number}\n") {
+        Ok(text) => write_last(out, text.as_bytes(), Status::Script),
+        Err(_) => Status::Memory,
+    }
+}
+
+/// Transfers the zone, and writes the report.
+fn run_transfer<K: Sink, L: Link>(
+    alloc: Global,
+    script: Script,
+    out: &mut K,
+    link: &mut L,
+) -> Status
+    ensures sink_fault { result ≡ Status.SinkFault → Rose (K.faults out.old) (K.faults out.new) }
+    ensures link_fault { result ≡ Status.LinkFault → Rose (L.faults link.old) (L.faults link.new) }
+    ensures report { result ≡ Status.Done → TookReport (K.taken out.old) (K.taken out.new) }
+    ensures others { (result ≢ Status.Usage) × (result ≢ Status.SourceFault) × (result ≢ Status.TooLong) }
+{
+    match transfer(alloc, script, link) {
+        Ok((report, status)) => write_last(out, report.as_slice(), status),
+        Err(_) => Status::Memory,
+    }
+}
+
+/// The primary of a zone, which grants it to one key.
+type Primary = PrimaryStack<RefuseSvc, HistoryProvider, Key>;
+
+/// The primary that offers a zone's current version to a key.
+fn primary_of(alloc: Global, zone: &ZoneApex, key: &Key) -> Result<Primary, AllocError> {
+    let mut provider = HistoryProvider::new(alloc, zone.read()?);
+    provider.grant(key.name().duplicate(), key.algorithm())?;
+    let transfers = XfrMiddlewareSvc::new(RefuseSvc, provider);
+    Ok(TsigMiddlewareSvc::new(transfers, key.duplicate()))
+}
+
+/// Transfers the zone; what is to be written, and the status.
+fn transfer<L: Link>(
+    alloc: Global,
+    script: Script,
+    link: &mut L,
+) -> Result<(Vec<u8>, Status), AllocError>
+    ensures report { IfOk result (λ r. r.1 ≡ Status.Done → IsReport r.0.items) }
+    ensures link_fault { IfOk result (λ r. r.1 ≡ Status.LinkFault → Rose (L.faults link.old) (L.faults link.new)) }
+    ensures others { IfOk result (λ r. (r.1 ≢ Status.SinkFault) × (r.1 ≢ Status.Usage) × (r.1 ≢ Status.SourceFault) × (r.1 ≢ Status.TooLong)) }
+{
+    let mut script = script;
+    let primary = primary_of(alloc, &script.primary, &script.key)?;
+    let moments = Moments {
+        at_primary: script.at_primary,
+        at_secondary: script.at_secondary,
+    };
+    let mut made = Vec::new(alloc);
+    let mut session = script.secondary.write(alloc);
+    let outcome = sync_zone(
+        alloc,
+        &primary,
+        &mut session,
+        &script.key,
+        XfrMode::Axfr,
+        link,
+        moments,
+        &mut made,
+    );
+    let zone = session.handle()?;
+    if outcome == Err(SyncError::Memory) {
+        return Err(AllocError);
+    }
+    let report = report_octets(alloc, &outcome, made.len(), &zone)?;
+    Ok((report, status_of(&outcome)))
+}

@@ -1,0 +1,106 @@
+//! Sources: where the octets of a script come from.
+ghost use Rattle.std.specs.Prelude.{◌≡◌, ◌≢◌, ◌<◌, ◌≤◌, ◌++◌, [], length, take, option_map, IfOk, IfErr, IfSome, OnOk, OnErr};
+ghost use Rattle.zone_sync.specs.Links.{Rose};
+ghost use Rattle.zone_sync.specs.Streams.{with_first};
+
+use crate::failures::Failures;
+use std::alloc::{AllocError, Global};
+use std::io::Read;
+
+/// A call of a source or a sink that failed; its count of faults rose.
+#[derive(Clone, Copy, Debug, PartialEq, Eq)]
+pub struct Failed;
+
+/// Octets that come in.
+pub trait Source {
+    ghost use Rattle.std.specs.Prelude.{ℕ, Option, List};
+
+    /// The octets that are left, where they are told.
+    ghost remaining: { Self → Option (List ℕ) };
+
+    /// How often a call failed.
+    ghost faults: { Self → ℕ };
+
+    /// Reads some octets into the front of a buffer that isn't empty, and says how many; 0 where none is left.
+    fn read(&mut self, buf: &mut [u8]) -> Result<usize, Failed>
+        requires { 0 < length buf.old }
+        ensures within { IfOk result (λ n. n ≤ length buf.old) }
+        // What was read, and then what is left, is what was left before.
+        ensures octets { IfOk result (λ n. with_first (take n buf.new) (remaining self.new) ≡ remaining self.old) }
+        ensures end { result ≡ Ok 0 → IfSome (remaining self.old) (λ left. left ≡ []) }
+        ensures err { OnErr result (remaining self.new ≡ remaining self.old) }
+        ensures failed { OnErr result (Rose (faults self.old) (faults self.new)) }
+        ensures steady { OnOk result (faults self.new ≡ faults self.old) };
+}
+
+/// The octets of a buffer, as a source whose calls can be made to fail.
+#[derive(Drop)]
+pub struct MemorySource {
+    octets: Vec<u8>,
+    place: usize,
+    failures: Failures,
+    ghost in_range: { place ≤ length octets.items },
+}
+
+impl MemorySource {
+    /// A source of these octets; the calls of the list, numbered from 1, fail and read nothing.
+    pub fn new(octets: Vec<u8>, failing: Vec<u64>) -> MemorySource {
+        MemorySource {
+            octets,
+            place: 0,
+            failures: Failures::new(failing),
+        }
+    }
+}
+
+impl Source for MemorySource {
+    ghost use Rattle.std.specs.Prelude.{Some, drop};
+
+    ghost remaining = { λ s. Some (drop s.place s.octets.items) };
+
+    ghost faults = { λ s. s.failures };
+
+    fn read(&mut self, buf: &mut [u8]) -> Result<usize, Failed> {
+        if self.failures.is_next_failing() {
+            return Err(Failed);
+        }
+        let left = self.octets.len() - self.place;
+        let count = left.min(buf.len());
+        let end = self.place + count;
+        buf[..count].copy_from_slice(&self.octets[self.place..end]);
+        self.place = end;
+        Ok(count)
+    }
+}
+
+/// A reader as a source. What it holds isn't told; each error is counted.
+#[derive(Drop)]
+pub struct StdSource<R: Read + Drop> {
+    reader: R,
+    faults: u64,
+}
+
+impl<R: Read + Drop> StdSource<R> {
+    /// A source over this reader, as over standard input.
+    pub fn new(reader: R) -> StdSource<R> {
+        StdSource { reader, faults: 0 }
+    }
+}
+
+impl<R: Read + Drop> Source for StdSource<R> {
+    ghost use Rattle.std.specs.Prelude.{None};
+
+    ghost remaining = { λ s. None };
+
+    ghost faults = { λ s. s.faults };
+
+    fn read(&mut self, buf: &mut [u8]) -> Result<usize, Failed> {
+        match self.reader.read(buf) {
+            Ok(count) => Ok(count),
+            Err(_) => {
+                self.faults = self.faults.saturating_add(1);
+                Err(Failed)
+            }
+        }
+    }
+}
