@@ -32,7 +32,8 @@ pub enum ServerError<K: KeyRef> {
     Formerr,
     /// This TSIG error, whose reply is unsigned: BADKEY, BADTRUNC or BADSIG.
     Unsigned(TsigRcode),
-    /// BADTIME: the key and the MAC under way of the reply, the request's time signed and fudge, and the server's time.
+    /// BADTIME, with what its signed reply is made of: key and MAC under way, when the request was signed and its fudge, and the
+    /// moment of the check.
     BadTime(K, Hmac, Time48, u16, Time48),
 }
 

@@ -42,8 +42,8 @@ fn last_tsig<'m>(message: &Message<'m>) -> Result<Option<ParsedRecord<'m>>, Pars
     Ok(None)
 }
 
-/// How the message is signed: by its last record, or not at all. Refused where it doesn't parse to the end of its additional
-/// records, or its TSIG isn't readable or isn't the last record (RFC 8945, 5.2).
+/// How the message is signed: by its last record, or not at all. An error where one of its counted items can't be read, where
+/// its TSIG can't be, or where another record follows the TSIG (RFC 8945, 5.2).
 pub fn signature<'m>(message: &Message<'m>) -> Result<Option<SignedBy<'m>>, ParseError>
     ensures found { IfOk result (λ o. MatchOption o (signature_of message.now ≡ Unsigned) (λ s. signature_of message.now ≡ Signed s.start s.owner s.tsig)) }
     ensures places { IfOk result (λ o. IfSome o (λ s. (12 ≤ s.start) × (s.start < length message.now))) }

@@ -67,7 +67,7 @@ impl ReadZone {
         self.version.apex()
     }
 
-    /// The sets in order, each once, with a flag that says whether the owner is at or below a cut.
+    /// Each set once, in order, marked where a cut stands at its owner or above it.
     pub fn iter_rrsets(&self) -> RrsetIter<'_>
         ensures { result ≡ walk self.now.version }
     {
