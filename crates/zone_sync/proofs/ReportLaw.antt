@@ -3,13 +3,13 @@ use Rattle.std.specs.Prelude.{◌≡◌, ℕ, List, [], Option, Some, Result, Ok
 use Rattle.std.proofs.Common.{rules}
 use Rattle.dns_rdata.specs.Records.{record_wire}
 use Rattle.zone_types.specs.Version.{Version}
-use Rattle.zone_sync.specs.Outcome.{Updated, UpToDate}
+use Rattle.xfr_course.specs.Outcome.{Updated, UpToDate}
 use Rattle.zone_sync.specs.Report.{report}
-use Rattle.zone_sync.specs.Ending.{outcome_of}
+use Rattle.zone_transfer.specs.Ending.{outcome_of}
 use Rattle.zone_sync.specs.Reported.{IsReport}
-use Rattle.zone_sync.specs.declared.outcome.SyncOk.{SyncOk}
-use Rattle.zone_sync.specs.declared.outcome.SyncOk.TheVariants as done
-use Rattle.zone_sync.specs.declared.outcome.SyncError.{SyncError}
+use Rattle.zone_transfer.specs.declared.outcome.SyncOk.{SyncOk}
+use Rattle.zone_transfer.specs.declared.outcome.SyncOk.TheVariants as done
+use Rattle.zone_transfer.specs.declared.outcome.SyncError.{SyncError}
 
 pub well_reported : (ok : SyncOk) (octets : List ℕ) (n : ℕ) (v : Version) → IfSome (outcome_of (Ok ok)) (λ how. octets ≡ report record_wire how n v [] []) → IsReport octets
 well_reported done.Updated octets n v e = record { how = Updated; made = n; last = v; is = e }

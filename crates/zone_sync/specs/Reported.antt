@@ -2,7 +2,7 @@
 use Rattle.std.specs.Prelude.{◌≡◌, ℕ, List, [], Option}
 use Rattle.dns_rdata.specs.Records.{record_wire}
 use Rattle.zone_types.specs.Version.{Version}
-use Rattle.zone_sync.specs.Outcome.{Outcome}
+use Rattle.xfr_course.specs.Outcome.{Outcome}
 use Rattle.zone_sync.specs.Report.{report}
 use Rattle.zone_sync.specs.Streams.{with_more}
 

@@ -1,26 +1,26 @@
 //! The program over its streams and its link.
 ghost use Rattle.std.specs.Prelude.{◌≡◌, ◌≢◌, ◌⊎◌, ◌<◌, ◌↔◌, Some, map, length, string_bytes, IfOk, IfSome, IsOk};
 ghost use Rattle.zone_types.specs.TransferText.{Axfr};
-ghost use Rattle.zone_sync.specs.Links.{Rose};
+ghost use Rattle.zone_transfer.specs.Links.{Rose};
 ghost use Rattle.zone_sync.specs.Streams.{with_more};
 ghost use Rattle.zone_sync.specs.Reported.{IsReport, TookReport};
-ghost use Rattle.zone_sync.specs.Words.{form_of, Transfer};
+ghost use Rattle.zone_script.specs.Words.{form_of, Transfer};
 
-use crate::client::XfrMode;
-use crate::links::Link;
-use crate::outcome::{SyncError, SyncOk};
 use crate::report::report_octets;
-use crate::script::{Script, ScriptError, parse};
 use crate::sinks::{Sink, write_all};
 use crate::sources::Source;
-use crate::sync::{Moments, sync_zone};
 use crate::whole::{MOST_OCTETS, ReadError, read_whole};
-use crate::words::is_axfr;
 use dns_name::Labelled;
 use std::alloc::{AllocError, Global};
 use tsig_port::Key;
 use xfr_server::{HistoryProvider, PrimaryStack, RefuseSvc, TsigMiddlewareSvc, XfrMiddlewareSvc};
+use zone_script::script::{Script, ScriptError, parse};
+use zone_script::words::is_axfr;
 use zone_store::ZoneApex;
+use zone_transfer::client::XfrMode;
+use zone_transfer::links::Link;
+use zone_transfer::outcome::{SyncError, SyncOk};
+use zone_transfer::sync::{Moments, sync_zone};
 
 /// The usage line.
 const USAGE: &[u8] = b"usage: zonesync axfr [K] / ixfr [K] / gen N SEED\n";

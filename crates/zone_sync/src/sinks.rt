@@ -1,12 +1,12 @@
 //! Sinks: where the octets of a report go.
 ghost use Rattle.std.specs.Prelude.{◌≡◌, ◌≢◌, ◌<◌, ◌≤◌, ◌++◌, length, take, option_map, IfOk, OnOk, OnErr, ℕ};
-ghost use Rattle.zone_sync.specs.Links.{Rose};
+ghost use Rattle.zone_transfer.specs.Links.{Rose};
 ghost use Rattle.zone_sync.specs.Streams.{with_more};
 
-use crate::failures::Failures;
 use crate::sources::Failed;
 use std::alloc::Global;
 use std::io::Write;
+use zone_transfer::failures::Failures;
 
 /// Octets that go out.
 pub trait Sink {

@@ -1,11 +1,11 @@
 //! Sources: where the octets of a script come from.
 ghost use Rattle.std.specs.Prelude.{◌≡◌, ◌≢◌, ◌<◌, ◌≤◌, ◌++◌, [], length, take, option_map, IfOk, IfErr, IfSome, OnOk, OnErr};
-ghost use Rattle.zone_sync.specs.Links.{Rose};
+ghost use Rattle.zone_transfer.specs.Links.{Rose};
 ghost use Rattle.zone_sync.specs.Streams.{with_first};
 
-use crate::failures::Failures;
 use std::alloc::{AllocError, Global};
 use std::io::Read;
+use zone_transfer::failures::Failures;
 
 /// A call of a source or a sink that failed; its count of faults rose.
 #[derive(Clone, Copy, Debug, PartialEq, Eq)]

@@ -1,14 +1,14 @@
 //! The program over streams and links in memory.
 
-use crate::links::Link;
-use crate::loop_link::LoopLink;
-use crate::memory_link::MemoryLink;
 use crate::program::{Status, run};
 use crate::sinks::{MemorySink, Sink, StdSink, write_all};
 use crate::sources::{MemorySource, Source, StdSource};
 use std::alloc::{AllocError, Global};
 use std::process::Abort;
 use std::test::Fail;
+use zone_transfer::links::Link;
+use zone_transfer::loop_link::LoopLink;
+use zone_transfer::memory_link::MemoryLink;
 
 /// Zone and key of each script.
 const HEAD: &[u8] = b"zone 076578616d706c6500 1\n\

@@ -1,6 +1,6 @@
 //! All octets of a source, up to a bound.
 ghost use Rattle.std.specs.Prelude.{◌≡◌, ◌≢◌, ◌<◌, ◌≤◌, length, IfOk, IfSome, Some, None};
-ghost use Rattle.zone_sync.specs.Links.{Rose};
+ghost use Rattle.zone_transfer.specs.Links.{Rose};
 ghost use Rattle.zone_sync.specs.Streams.{with_first};
 
 use crate::sources::{Failed, Source};

@@ -1,0 +1,25 @@
+use Rattle.std.proofs.Common.{refl, lit<, lit≤, [], ◌∷◌}
+use Rattle.xfr_course.specs.Granting.{sent_text}
+use Rattle.xfr_course.specs.CourseRows.{small_ends}
+use Rattle.xfr_course.proofs.transfer_examples.granting_row.Goals as goal
+
+pub returns-clause-met : goal.returns-clause-met
+returns-clause-met c = record {
+  offered = record { ends = refl; tells = refl; newer = refl; distinct = refl };
+  primary_accepts = lit≤ tt;
+  secondary_accepts = lit≤ tt;
+  primary_clock = lit≤ tt;
+  secondary_clock = lit≤ tt;
+  one_soa = refl;
+  pages = sent_text small_ends ∷ [];
+  cut = record { joined = refl; filled = refl };
+  few = lit≤ tt;
+  together = refl;
+  asks = refl;
+  caught_up = λ e. cc;
+  starts = refl;
+  same_apex = refl;
+  same_class = refl;
+  request_fits = lit≤ tt;
+  numbers_left = lit< tt;
+}

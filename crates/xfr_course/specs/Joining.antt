@@ -1,0 +1,31 @@
+-- The law that joins the halves: built answers, signed in sequence and handed as they were sent, are a course that says what they were built of (RFC 8945, 5.3.1).
+use Rattle.std.specs.Prelude.{◌≡◌, ℕ, ◌<◌, ◌≤◌, ◌^◌, true, List, length, map}
+use Rattle.std.specs.Int.{abs_diff}
+use Rattle.std.specs.List.{AllByRecursion}
+use Rattle.dns_wire.specs.Wire.{Message, message_wire}
+use Rattle.tsig_port.specs.Tsig.{TsigKey, mac_in, signed_answers}
+use Rattle.tsig_port.specs.Signing.{IsKey, CanSign}
+use Rattle.zone_types.specs.Version.{Version}
+use Rattle.zone_types.specs.Messages.{HaveData, read_of}
+use Rattle.xfr_course.specs.Outcome.{Outcome, Checked, Course}
+use Rattle.xfr_course.specs.Courses.{Handed, course_of, most_replies}
+
+-- a built message as a client has it, once it was signed, handed and taken
+abbrev pub built_checked : Message → Checked
+built_checked m = record { message = read_of m; signed = true }
+
+-- answers to a request, signed one after another at one moment, as the link handed them at another
+abbrev pub signed_handed : TsigKey → List ℕ → ℕ → ℕ → ℕ → List Message → Outcome → Handed
+signed_handed key request at fudge now messages gave_up =
+    record { key = key; now = now; request = request; replies = signed_answers key (mac_in request) at fudge (map message_wire messages); gave_up = gave_up }
+
+-- a course of these messages, at whose end stands what the link gave in place of a further one
+pub record IsCourseOf (c : Course) (messages : List Message) (gave_up : Outcome) : Type 0 where
+  pub checked : c.checked ≡ map built_checked messages
+  pub stop : c.stop ≡ gave_up
+
+abbrev pub SignedAreTheCourse : Type 0
+SignedAreTheCourse = (key : TsigKey) (request : List ℕ) (messages : List Message) (at now fudge number : ℕ) (base : Version) (gave_up : Outcome)
+    → IsKey key → at < 2 ^ 48 → fudge < 2 ^ 16 → abs_diff at now ≤ fudge
+    → AllByRecursion (CanSign key) messages → AllByRecursion (λ m. HaveData m.answers) messages → length messages < most_replies
+    → IsCourseOf (course_of (signed_handed key request at fudge now messages gave_up) base number) messages gave_up

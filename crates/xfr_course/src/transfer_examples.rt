@@ -1,0 +1,68 @@
+// Worked transfers, proved by computation.
+ghost use Rattle.std.specs.Prelude.{map, ◌≡◌, [], ◌∷◌, true, false, Some, drop};
+ghost use Rattle.zone_types.specs.Version.{same_version};
+ghost use Rattle.dns_name.specs.Codes.{type_axfr, type_ixfr};
+ghost use Rattle.zone_types.specs.Edits.{Incompatible};
+ghost use Rattle.zone_types.specs.TransferText.{Axfr, Ixfr};
+ghost use Rattle.zone_types.specs.Spells.{spelling};
+ghost use Rattle.zone_types.specs.Read.{spelt};
+ghost use Rattle.zone_types.specs.ZoneRows as rows;
+ghost use Rattle.zone_sync.specs.CourseRows as examples;
+ghost use Rattle.zone_types.specs.Read as reads;
+ghost use Rattle.xfr_course.specs.Granting as granting;
+ghost use Rattle.xfr_course.specs.Outcome as outcomes;
+ghost use Rattle.xfr_course.specs.Courses as courses;
+ghost use Rattle.xfr_course.specs.Client as clients;
+ghost use Rattle.tsig_port.specs.declared.errors.ValidationError.{ValidationError};
+ghost use Rattle.zone_types.specs.Walk.{records_of_version};
+ghost use Rattle.dns_rdata.specs.RecordRows as data_rows;
+ghost use Rattle.tsig_port.specs.ExchangeRows.{first_reply, bare_reply};
+ghost use Rattle.xfr_course.specs.Success.{CarrySent};
+
+/// Outcomes: a history is applied; an SOA alone says up to date, or asks to try otherwise; an unsigned end isn't enough.
+pub fn outcome_row()
+    ensures updated { outcomes.outcome (examples.course Ixfr type_ixfr rows.history_1 (examples.reply type_ixfr rows.history_text ∷ [])) ≡ outcomes.Updated }
+    ensures made { outcomes.made (examples.course Ixfr type_ixfr rows.history_1 (examples.reply type_ixfr rows.history_text ∷ [])) ≡ rows.history_1 ∷ rows.history_2 ∷ rows.history_3 ∷ [] }
+    ensures up_to_date { outcomes.outcome (examples.course Ixfr type_ixfr (rows.zone (rows.soa 1 ∷ [])) (examples.reply type_ixfr (rows.soa 1 ∷ []) ∷ [])) ≡ outcomes.UpToDate }
+    ensures signal { outcomes.outcome (examples.course Ixfr type_ixfr (rows.zone (rows.soa 2 ∷ [])) (examples.reply type_ixfr (rows.soa 1 ∷ []) ∷ [])) ≡ outcomes.RetrySignal }
+    ensures after_end { outcomes.outcome (examples.course Axfr type_axfr rows.history_1 (examples.reply type_axfr (rows.soa 2 ∷ rows.address rows.nezu 1 ∷ rows.soa 2 ∷ rows.address rows.nezu 1 ∷ []) ∷ [])) ≡ outcomes.Reading reads.AfterEnd }
+    ensures unfinished { outcomes.outcome (examples.course Axfr type_axfr rows.history_1 (examples.reply type_axfr (rows.soa 2 ∷ []) ∷ [])) ≡ outcomes.Ended }
+    ensures unsigned { outcomes.outcome (examples.course Axfr type_axfr rows.history_1 (examples.reply type_axfr (rows.soa 2 ∷ []) ∷ record (examples.reply type_axfr (rows.soa 2 ∷ [])) { signed = false } ∷ examples.reply type_axfr (rows.address rows.nezu 1 ∷ []) ∷ [])) ≡ outcomes.Tsig ValidationError.TooManyUnsigned }
+{}
+
+/// A client on small courses: a history in two messages, a refusal after a version, and too few numbers with and without one.
+pub fn client_row()
+    ensures made { (clients.client_of (examples.course Ixfr type_ixfr rows.history_1 (examples.reply type_ixfr (rows.soa 3 ∷ rows.soa 1 ∷ rows.address rows.nezu 5 ∷ []) ∷ examples.reply type_ixfr (drop 3 rows.history_text) ∷ []))).progress.committed ≡ rows.history_1 ∷ rows.history_2 ∷ rows.history_3 ∷ [] }
+    ensures met { (clients.client_of (examples.course Ixfr type_ixfr rows.history_1 (examples.reply type_ixfr (rows.soa 3 ∷ rows.soa 1 ∷ rows.address rows.nezu 5 ∷ []) ∷ examples.reply type_ixfr (drop 3 rows.history_text) ∷ []))).met ≡ Some outcomes.Updated }
+    ensures refused { (clients.client_of (examples.course Ixfr type_ixfr rows.history_1 (examples.reply type_ixfr (rows.soa 3 ∷ rows.soa 1 ∷ rows.address rows.nezu 6 ∷ rows.soa 2 ∷ []) ∷ []))).met ≡ Some (outcomes.Reading (reads.Refused Incompatible)) }
+    ensures before { (clients.client_of (examples.course Ixfr type_ixfr rows.history_1 (examples.reply type_ixfr (rows.soa 3 ∷ rows.soa 1 ∷ rows.address rows.nezu 6 ∷ rows.soa 2 ∷ []) ∷ []))).progress.committed ≡ rows.history_1 ∷ [] }
+    ensures last_number { (clients.client_of (record (examples.course Ixfr type_ixfr rows.history_1 (examples.reply type_ixfr (rows.soa 3 ∷ rows.soa 1 ∷ rows.address rows.nezu 6 ∷ rows.soa 2 ∷ []) ∷ [])) { number = 18446744073709551614 })).met ≡ Some (outcomes.Reading (reads.Refused Incompatible)) }
+    ensures no_number { (clients.client_of (record (examples.course Ixfr type_ixfr rows.history_1 (examples.reply type_ixfr (rows.soa 3 ∷ rows.soa 1 ∷ rows.address rows.nezu 6 ∷ rows.soa 2 ∷ []) ∷ [])) { number = 18446744073709551615 })).met ≡ Some outcomes.VersionsExhausted }
+    ensures one_number { (clients.client_of (record (examples.course Ixfr type_ixfr rows.history_1 (examples.reply type_ixfr rows.history_text ∷ [])) { number = 18446744073709551614 })).progress.committed ≡ rows.history_1 ∷ [] }
+    ensures stopped { (clients.client_of (record (examples.course Ixfr type_ixfr rows.history_1 (examples.reply type_ixfr rows.history_text ∷ [])) { number = 18446744073709551614 })).met ≡ Some outcomes.VersionsExhausted }
+    ensures up_to_date { (clients.client_of (examples.course Ixfr type_ixfr (rows.zone (rows.soa 1 ∷ [])) (examples.reply type_ixfr (rows.soa 1 ∷ []) ∷ []))).met ≡ Some outcomes.UpToDate }
+{}
+
+/// The premises of success can be met, and then what is sent spells the offered version.
+pub fn granting_row()
+    ensures met { granting.IsGranting examples.small_ends }
+    ensures spelt { (spelling Ixfr (granting.sent_text examples.small_ends) rows.history_1).versions ≡ rows.history_1 ∷ rows.history_2 ∷ rows.history_3 ∷ [] }
+    ensures whole { same_version rows.cut_zone rows.cut_zone ≡ true }
+{}
+
+/// From octets to an outcome: a whole zone in one signed answer; the same with another octet, too late, unsigned, too short, or not there.
+pub fn course_row()
+    ensures updated { outcomes.outcome (courses.course_of (examples.handed 1000 outcomes.Ended (examples.whole_reply ∷ [])) rows.empty_zone 0) ≡ outcomes.Updated }
+    ensures made { map (λ v. records_of_version v) (outcomes.made (courses.course_of (examples.handed 1000 outcomes.Ended (examples.whole_reply ∷ [])) rows.empty_zone 0)) ≡ (data_rows.ns_record ∷ data_rows.soa 1 ∷ data_rows.address 1 ∷ []) ∷ [] }
+    ensures spoilt { outcomes.outcome (courses.course_of (examples.handed 1000 outcomes.Ended (examples.spoilt_reply ∷ [])) rows.empty_zone 0) ≡ outcomes.Tsig ValidationError.BadSig }
+    ensures late { outcomes.outcome (courses.course_of (examples.handed 1301 outcomes.Ended (examples.whole_reply ∷ [])) rows.empty_zone 0) ≡ outcomes.Tsig ValidationError.BadTime }
+    ensures unsigned { outcomes.outcome (courses.course_of (examples.handed 1000 outcomes.Ended (bare_reply ∷ [])) rows.empty_zone 0) ≡ outcomes.Tsig ValidationError.ServerUnsigned }
+    ensures short { outcomes.outcome (courses.course_of (examples.handed 1000 outcomes.Ended ((1 ∷ 2 ∷ []) ∷ [])) rows.empty_zone 0) ≡ outcomes.Short }
+    ensures unfinished { outcomes.outcome (courses.course_of (examples.handed 1000 outcomes.Ended (first_reply ∷ [])) rows.empty_zone 0) ≡ outcomes.Ended }
+    ensures failed { outcomes.outcome (courses.course_of (examples.handed 1000 outcomes.LinkFault []) rows.empty_zone 0) ≡ outcomes.LinkFault }
+{}
+
+/// One message can carry what that primary sends.
+pub fn success_row()
+    ensures { CarrySent examples.small_ends 1000 examples.small_carrier [] }
+{}

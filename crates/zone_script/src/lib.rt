@@ -1,0 +1,8 @@
+//! What the program reads: its words, and its script of lines, numbers, names, records and a key (docs/SCRIPT.md).
+#![tactic(auto)]
+
+mod fields;
+mod lines;
+pub mod numbers;
+pub mod script;
+pub mod words;

@@ -1,0 +1,82 @@
+//! Numbers and octets as a script and a command line write them.
+ghost use Rattle.std.specs.Prelude.{◌≡◌, ◌<◌, ◌+◌, ◌*◌, IfOk, IfSome, option_map};
+ghost use Rattle.zone_script.specs.Script as scripts;
+ghost use Rattle.zone_script.specs.Digits.{below, next_number};
+
+use hex::FromHexError;
+use std::alloc::{AllocError, Global};
+
+/// The bound below which numbers can be asked for.
+pub const GREATEST_BOUND: u64 = 1_000_000_000_000_000_000;
+
+/// The number of one decimal digit.
+fn digit_of(octet: u8) -> Option<u64>
+    ensures { result ≡ scripts.digit_of octet }
+{
+    match octet {
+        b'0'..=b'9' => Some(u64::from(octet - b'0')),
+        _ => None,
+    }
+}
+
+/// A number with a further digit behind it.
+fn with_digit(number: u64, octet: u8) -> Option<u64>
+    requires { number < GREATEST_BOUND }
+    ensures { result ≡ next_number number octet }
+{
+    let digit = digit_of(octet)?;
+    Some(number * 10 + digit)
+}
+
+/// The number of the digits so far and of further ones, where it is below a bound.
+#[tactic(auto, using(crate::proofs::NumberSteps::past_bound, crate::proofs::NumberSteps::no_digit))]
+fn with_digits_below(bound: u64, so_far: u64, more: &[u8]) -> Option<u64>
+    requires { bound < GREATEST_BOUND }
+    ensures value { result ≡ below bound (scripts.more_digits (Some so_far) more.now) }
+    ensures within { IfSome result (λ n. n < bound) }
+{
+    let mut number = so_far;
+    for octet in more {
+        if number >= bound {
+            return None;
+        }
+        let Some(next) = with_digit(number, *octet) else {
+            return None;
+        };
+        number = next;
+    }
+    if number < bound { Some(number) } else { None }
+}
+
+/// The number that decimal digits say, without a sign and without a leading zero, where it is below a bound.
+#[tactic(auto, using(crate::proofs::NumberSteps::no_number))]
+pub fn number_below(bound: u64, digits: &[u8]) -> Option<u64>
+    requires { bound < GREATEST_BOUND }
+    ensures value { result ≡ scripts.number_below bound digits.now }
+    ensures within { IfSome result (λ n. n < bound) }
+{
+    let Some((first, more)) = digits.split_first() else {
+        return None;
+    };
+    if *first == b'0' && !more.is_empty() {
+        return None;
+    }
+    let Some(number) = digit_of(*first) else {
+        return None;
+    };
+    with_digits_below(bound, number, more)
+}
+
+/// The octets that pairs of hexadecimal digits in either case say; None where the text is empty or isn't that.
+pub fn octets_of_hex(alloc: Global, text: &[u8]) -> Result<Option<Vec<u8>>, AllocError>
+    ensures { IfOk result (λ o. option_map (λ v. v.items) o ≡ scripts.hex_of text.now) }
+{
+    if text.is_empty() {
+        return Ok(None);
+    }
+    match hex::decode(alloc, text) {
+        Ok(octets) => Ok(Some(octets)),
+        Err(FromHexError::OutOfMemory) => Err(AllocError),
+        Err(_) => Ok(None),
+    }
+}

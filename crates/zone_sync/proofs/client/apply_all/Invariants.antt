@@ -1,5 +1,0 @@
-use Rattle.std.proofs.Common.{length}
-use Rattle.zone_sync.proofs.client.apply_all.Given as goal
-
-abbrev pub decreases-updates : goal.decreases-updates
-decreases-updates l = length l.updates.run.updates

@@ -1,0 +1,15 @@
+-- A way of a link that hands on what it took, in order.
+use Rattle.std.specs.Prelude.{ℕ, Bool, false, List, [], take}
+use Rattle.zone_transfer.specs.Links.{Way}
+
+-- what it took, how many of it it handed on, and whether the last call of this way was told that no more come
+pub record Queued : Type 0 where
+  pub messages : List (List ℕ)
+  pub count : ℕ
+  pub stopped : Bool
+
+abbrev pub way_of : Queued → Way
+way_of q = record { taken = q.messages; handed = take q.count q.messages; ended = q.stopped }
+
+abbrev pub no_queue : Queued
+no_queue = record { messages = []; count = 0; stopped = false }
