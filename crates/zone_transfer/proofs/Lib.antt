@@ -1,1 +1,4 @@
 mod QueueSteps
+pub mod Steps
+pub mod Places
+pub mod Standings

@@ -55,3 +55,9 @@ pub mod Links
 pub mod Queues
 pub mod Refusals
 pub mod Ending
+pub mod Modes
+pub mod SoFar
+pub mod Steps
+pub mod Standing
+pub mod Replies
+pub mod Transfers

@@ -1,12 +1,31 @@
 //! The secondary's half of a transfer.
-ghost use Rattle.std.specs.Prelude.{◌≡◌, ◌≢◌, IfErr};
+ghost use Rattle.std.specs.Prelude.{◌≡◌, ◌≢◌, ◌≤◌, ◌<◌, ◌⊎◌, [], ℕ, Bool, false, List, min, length, IsSome, IfOk, IfErr, OnOk, OnErr, is_some, None};
+ghost use Rattle.dns_wire.specs.Wire.{message_wire, same_question};
+ghost use Rattle.tsig_port.specs.States.{ClientStands};
+ghost use Rattle.zone_types.specs.Commits.{Commit};
+ghost use Rattle.zone_types.specs.Session.{rolled_back};
+ghost use Rattle.zone_types.specs.TransferText.{Axfr};
+ghost use Rattle.zone_types.specs.Messages.{ReadMessage, type_of};
+ghost use Rattle.zone_types.specs.Machine.{Place};
+ghost use Rattle.zone_types.specs.Updates.{Progress};
+ghost use Rattle.xfr_client.specs.Interpreting.{read_here};
+ghost use Rattle.xfr_client.specs.Causes.{update_of};
+ghost use Rattle.zone_transfer.specs.Modes.{mode_of};
+ghost use Rattle.zone_transfer.specs.SoFar.{Asking, asked_octets, asked_mac, asked_id, asked_question, message_so_far, asking, asks_other};
+ghost use Rattle.zone_transfer.specs.Standing.{asking_of, Stands, TakesReply, ExchangeStands, IsUnderWay};
+ghost use Rattle.zone_transfer.specs.Replies.{AnswersReply, AnswersRequest, TestsReply, TakesMessage};
+ghost use Rattle.zone_transfer.specs.Steps.{Ahead, TakesOne, TakesAll};
 
 use crate::outcome::{SyncError, SyncOk};
-use dns_name::{Labelled, ParsedName, Rtype, ToName};
-use dns_wire::{Header, MessageBuf, MessageBuilder, PushError, Question};
+use dns_name::{KeyName, Labelled, ParsedName, Rtype, ToName};
+use dns_rdata::ReadRecord;
+use dns_wire::{AdditionalBuilder, Header, MessageBuf, MessageBuilder, PushError, Question};
 use std::alloc::{AllocError, Global};
+use std::marker::Model;
 use tsig_port::{ClientSequence, Key, Time48};
-use xfr_client::{XfrResponseInterpreter, XfrZoneUpdateIterator, ZoneUpdater};
+use xfr_client::{
+    XfrResponseInterpreter, XfrZoneUpdateIterator, ZoneUpdate, ZoneUpdater, protocol,
+};
 use zone_store::{ReadZone, WriteZone};
 
 /// What is asked for.
@@ -18,45 +37,52 @@ pub enum XfrMode {
 
 impl XfrMode {
     /// The type of the question that asks for it.
-    fn qtype(self) -> Rtype {
+    fn qtype(self) -> Rtype
+        ensures { result ≡ type_of (mode_of self) }
+    {
         match self {
             XfrMode::Axfr => Rtype::AXFR,
         }
     }
 }
 
-/// What is known of a request that was made.
+/// A request that was made, and how far its replies have led.
 #[derive(Drop)]
-struct Exchange {
+pub(crate) struct Exchange {
     sequence: ClientSequence<Key>,
     id: u16,
+    question: Question<KeyName>,
     interpreter: XfrResponseInterpreter,
     updater: ZoneUpdater,
 }
 
-/// A secondary in one transfer: it makes the request, and takes the replies one by one into its session.
+/// A secondary in one transfer: it makes the request, and takes the replies one by one into a session, with which it is handed each
+/// of them. One client goes with one session, which nothing else edits meanwhile.
 #[derive(Drop)]
-pub struct XfrClient<'s, 'z> {
+pub struct XfrClient {
     alloc: Global,
-    session: &'s mut WriteZone<'z>,
     key: Key,
     mode: XfrMode,
     at: Time48,
     exchange: Option<Exchange>,
 }
 
-impl<'s, 'z> XfrClient<'s, 'z> {
+impl Model for XfrClient {
+    ghost use Rattle.zone_transfer.specs.Modes.{mode_of};
+    ghost use Rattle.zone_transfer.specs.Standing.{ClientState};
+
+    ghost Value = { ClientState };
+
+    ghost view = { λ c. record { key = c.key; mode = mode_of c.mode; at = c.at; exchange = c.exchange } };
+}
+
+impl XfrClient {
     /// A client that made no request yet. It signs, and checks signatures, at this moment.
-    pub fn new(
-        alloc: Global,
-        session: &'s mut WriteZone<'z>,
-        key: &Key,
-        mode: XfrMode,
-        at: Time48,
-    ) -> XfrClient<'s, 'z> {
+    pub fn new(alloc: Global, key: &Key, mode: XfrMode, at: Time48) -> XfrClient
+        ensures { result ≡ record { key = key.now; mode = mode_of mode; at = at; exchange = None } }
+    {
         XfrClient {
             alloc,
-            session,
             key: key.duplicate(),
             mode,
             at,
@@ -65,29 +91,34 @@ impl<'s, 'z> XfrClient<'s, 'z> {
     }
 
     /// Whether a request was made, and neither an outcome nor a refusal came since.
-    pub fn is_open(&self) -> bool {
+    pub fn is_open(&self) -> bool
+        ensures { result ≡ is_some self.now.exchange }
+    {
         self.exchange.is_some()
     }
 
     /// Drops what is pending, and makes the signed request: the id is the low 16 bits of the moment, all flags are 0, and the
-    /// question is the zone's apex (RFC 5936, 2.1). `Request` where it has more octets than these or than a message.
-    pub fn request(&mut self, max_len: usize) -> Result<MessageBuf, SyncError>
-        ensures { IfErr result (λ e. e ≢ SyncError.LinkFault) }
+    /// question is the zone's apex (RFC 5936, 2.1). `Request(ShortBuf)` where it has more octets than these or than a message.
+    pub fn request(
+        &mut self,
+        session: &mut WriteZone<'_>,
+        max_len: usize,
+    ) -> Result<MessageBuf, SyncError>
+        ensures ok { IfOk result (λ m. (m ≡ asked_octets (asking_of self.old session.old.current)) × (length m ≤ min max_len 65535)) }
+        // The client stands for no reply yet.
+        ensures begun { OnOk result ((handles : List Commit) → Stands self.new session.new (asking_of self.old session.old.current) [] handles handles) }
+        ensures refused { IfErr result (λ e. (e ≡ SyncError.Memory) ⊎ ((e ≡ SyncError.Request PushError.ShortBuf) × (min max_len 65535 < length (asked_octets (asking_of self.old session.old.current))))) }
+        // Nothing is pending, and the current version stays.
+        ensures session { session.new ≡ record (rolled_back session.old) { has_handle = session.new.has_handle } }
+        ensures closed { OnErr result (self.new.exchange ≡ None) }
+        ensures asks { asking_of self.new session.new.current ≡ asking_of self.old session.old.current }
     {
         self.exchange = None;
-        self.session.rollback();
-        let id = low_bits(self.at);
-        let zone = self.session.handle()?;
-        let mut builder = MessageBuilder::new(self.alloc)?;
-        builder.set_header(Header::new(id));
-        let mut questions = builder.question();
-        let question = Question::new(
-            zone.apex_name().to_key_name(),
-            self.mode.qtype(),
-            zone.class(),
-        );
-        questions.push(&question)?;
-        let mut items = questions.answer().authority().additional();
+        session.rollback();
+        let zone = session.handle()?;
+        let question = self.question_of(&zone);
+        let id = (u64::from(self.at) % 65_536) as u16;
+        let mut items = ask(self.alloc, id, &question)?;
         let sequence = ClientSequence::request(self.key.duplicate(), &mut items, self.at)?;
         let message = items.finish();
         if message.as_slice().len() > max_len {
@@ -96,123 +127,180 @@ impl<'s, 'z> XfrClient<'s, 'z> {
         self.exchange = Some(Exchange {
             sequence,
             id,
+            question,
             interpreter: XfrResponseInterpreter::new(),
             updater: ZoneUpdater::new(self.alloc),
         });
         Ok(message)
     }
 
+    /// The question that asks for a zone.
+    fn question_of(&self, zone: &ReadZone) -> Question<KeyName>
+        ensures { result ≡ record { qname = zone.now.version.apex; qtype = type_of self.now.mode; qclass = zone.now.version.class } }
+    {
+        Question::new(
+            zone.apex_name().to_key_name(),
+            self.mode.qtype(),
+            zone.class(),
+        )
+    }
+
     /// Takes a reply: checks its signature, and applies the updates that it says. The outcome, where the transfer ends with it, is
-    /// told, and so is a refusal; after either the client isn't open, and after a refusal nothing is pending. Each version that is
-    /// committed gives a handle at the end of `made`.
+    /// told, and so is a refusal; after either the client isn't open and nothing is pending. Each version that is committed gives
+    /// a handle at the end of `made`.
     pub fn take(
         &mut self,
+        session: &mut WriteZone<'_>,
         octets: Vec<u8>,
         made: &mut Vec<ReadZone>,
     ) -> Result<Option<SyncOk>, SyncError>
-        ensures { IfErr result (λ e. e ≢ SyncError.LinkFault) }
+        requires { IsSome self.old.exchange }
+        ensures takes { (base : Commit) (taken : List (List ℕ)) (before : List Commit) → Stands self.old session.old (asking_of self.old base) taken before made.old.items
+            → TakesReply (asking_of self.old base) self.new session.new before made.new.items taken octets.items result }
+        ensures asks { (base : Commit) → asking_of self.new base ≡ asking_of self.old base }
+        ensures closed { result ≢ Ok None → self.new.exchange ≡ None }
     {
         let Some(mut exchange) = self.exchange.take() else {
-            return Err(SyncError::Ended);
+            unreachable!()
         };
-        let asked = Asked {
-            id: exchange.id,
-            mode: self.mode,
-            at: self.at,
-        };
-        match take_reply(self.session, &mut exchange, &asked, octets, made) {
+        match exchange.take(session, octets, self.at, made) {
             Ok(None) => {
                 self.exchange = Some(exchange);
                 Ok(None)
             }
             Ok(Some(outcome)) => Ok(Some(outcome)),
             Err(error) => {
-                self.session.rollback();
+                session.rollback();
                 Err(error)
             }
         }
     }
+}
 
-    /// Drops what is pending, and is no longer open.
-    pub fn give_up(&mut self) {
-        self.exchange = None;
-        self.session.rollback();
+impl Exchange {
+    /// Takes a reply: its signature, its tests and its updates.
+    fn take(
+        &mut self,
+        session: &mut WriteZone<'_>,
+        octets: Vec<u8>,
+        at: Time48,
+        made: &mut Vec<ReadZone>,
+    ) -> Result<Option<SyncOk>, SyncError>
+        ensures { (a : Asking) (taken : List (List ℕ)) (before : List Commit) → a.at ≡ at → a.mode ≡ Axfr → ExchangeStands self.old session.old a taken before made.old.items
+            → TakesMessage a self.new session.new before made.new.items taken octets.items result }
+    {
+        let message = self.checked(octets, at)?;
+        let updates = self.read(&message)?;
+        apply_all(session, &mut self.updater, updates, made)?;
+        if self.interpreter.is_finished() {
+            Ok(Some(SyncOk::Updated))
+        } else {
+            Ok(None)
+        }
+    }
+
+    /// A reply that has a header, and whose signature passes the tests behind those taken before; it loses its TSIG.
+    fn checked(&mut self, octets: Vec<u8>, at: Time48) -> Result<MessageBuf, SyncError>
+        ensures answers { (a : Asking) (taken : List (List ℕ)) → a.at ≡ at → self.old.sequence.key ≡ a.key → ClientStands (λ k. k) self.old.sequence (asked_mac a) taken
+            → AnswersReply a taken octets.items self.new.sequence result }
+        ensures others { self.new ≡ record self.old { sequence = self.new.sequence } }
+    {
+        let mut message = MessageBuf::from_octets(octets)?;
+        self.sequence.answer(&mut message, at)?;
+        Ok(message)
+    }
+
+    /// What a checked reply says, where it answers the request and is one of a transfer.
+    fn read<'m>(&mut self, message: &'m MessageBuf) -> Result<XfrZoneUpdateIterator<'m>, SyncError>
+        ensures tests { (a : Asking) (begun : Bool) (place : Place) → a.mode ≡ Axfr → self.old.id ≡ asked_id a → self.old.question ≡ asked_question a
+            → self.old.interpreter ≡ record { begun = begun; place = place; signalled = false } → IsUnderWay begun place
+            → TestsReply a begun place (message_so_far message.now) self.new.interpreter result }
+        ensures others { self.new ≡ record self.old { interpreter = self.new.interpreter } }
+    {
+        self.answers(message)?;
+        Ok(self.interpreter.interpret_response(message)?)
+    }
+
+    /// Tests that a reply has the request's id, and the request's question where it has one (RFC 5936, 2.2.1 and 2.2.2), and that
+    /// it still parses: a name in it may have pointed into the header.
+    fn answers(&self, message: &MessageBuf) -> Result<(), SyncError>
+        ensures { (a : Asking) → self.now.id ≡ asked_id a → self.now.question ≡ asked_question a → AnswersRequest a (message_so_far message.now) message.now result }
+    {
+        if message.header().id != self.id {
+            return Err(SyncError::OtherAnswer);
+        }
+        if message.end().is_err() {
+            return Err(SyncError::Xfr(protocol::Error::NotValidXfrResponse));
+        }
+        if self.asks_else(message) {
+            return Err(SyncError::OtherAnswer);
+        }
+        Ok(())
+    }
+
+    /// Whether a reply has one question, which isn't the request's.
+    fn asks_else(&self, message: &MessageBuf) -> bool
+        ensures { (m : ReadMessage) → read_here message.now ≡ Some m → result ≡ asks_other self.now.question m.questions }
+    {
+        match message.sole_question() {
+            Ok(question) => !self.is_asked(&question),
+            Err(_) => false,
+        }
+    }
+
+    /// Whether a question is the request's.
+    fn is_asked(&self, question: &Question<ParsedName<'_>>) -> bool
+        ensures { result ≡ same_question self.now.question question.now }
+    {
+        self.question.qname().name_eq(question.qname())
+            && self.question.qtype() == question.qtype()
+            && self.question.qclass() == question.qclass()
     }
 }
 
-/// What a reply has to fit.
-#[derive(Clone, Copy)]
-struct Asked {
-    id: u16,
-    mode: XfrMode,
-    at: Time48,
-}
-
-/// The low 16 bits of a moment.
-fn low_bits(at: Time48) -> u16 {
-    let octets = at.into_octets();
-    u16::from_be_bytes([octets[4], octets[5]])
-}
-
-/// Checks a reply and applies its updates.
-fn take_reply(
-    session: &mut WriteZone<'_>,
-    exchange: &mut Exchange,
-    asked: &Asked,
-    octets: Vec<u8>,
-    made: &mut Vec<ReadZone>,
-) -> Result<Option<SyncOk>, SyncError>
-    ensures { IfErr result (λ e. e ≢ SyncError.LinkFault) }
+/// The question of a request, unsigned yet.
+fn ask(alloc: Global, id: u16, question: &Question<KeyName>) -> Result<AdditionalBuilder, SyncError>
+    ensures ok { IfOk result (λ b. b ≡ record { octets = message_wire (asking id question.now); limit = 65535 }) }
+    ensures refused { IfErr result (λ e. e ≡ SyncError.Memory) }
 {
-    let mut message = MessageBuf::from_octets(octets)?;
-    exchange.sequence.answer(&mut message, asked.at)?;
-    let zone = session.handle()?;
-    if !answers(&message, asked, &zone) {
-        return Err(SyncError::OtherAnswer);
-    }
-    let updates = exchange.interpreter.interpret_response(&message)?;
-    apply_all(session, &mut exchange.updater, updates, made)?;
-    if exchange.interpreter.is_finished() {
-        Ok(Some(SyncOk::Updated))
-    } else {
-        Ok(None)
-    }
+    let mut builder = MessageBuilder::new(alloc)?;
+    builder.set_header(Header::new(id));
+    let mut questions = builder.question();
+    questions.push(question)?;
+    Ok(questions.answer().authority().additional())
 }
 
-/// Whether a reply has the request's id, and the request's question where it has one (RFC 5936, 2.2.1 and 2.2.2).
-fn answers(message: &MessageBuf, asked: &Asked, zone: &ReadZone) -> bool {
-    if message.header().id != asked.id {
-        return false;
-    }
-    match message.sole_question() {
-        Ok(question) => is_asked(&question, asked, zone),
-        Err(_) => message.counts().qdcount != 1,
-    }
-}
-
-/// Whether a question is the request's.
-fn is_asked(question: &Question<ParsedName<'_>>, asked: &Asked, zone: &ReadZone) -> bool {
-    question.qname().name_eq(zone.apex_name())
-        && question.qtype() == asked.mode.qtype()
-        && question.qclass() == zone.class()
-}
-
-/// Applies the updates of one message in order.
+/// Applies the updates of one message in order, and adds a handle for each version that they commit.
 fn apply_all(
     session: &mut WriteZone<'_>,
     updater: &mut ZoneUpdater,
     updates: XfrZoneUpdateIterator<'_>,
     made: &mut Vec<ReadZone>,
 ) -> Result<(), SyncError>
-    ensures { IfErr result (λ e. e ≢ SyncError.LinkFault) }
+    ensures { (base : Commit) (before : List Commit) (g : Progress) → updates.entry.retry ≡ false → Ahead base before updater.old session.old made.old.items g
+        → TakesAll base before updater.new session.new made.new.items g updates.entry result }
 {
     let mut updates = updates;
     'updates: while let Some(update) = updates.next_update() {
-        made.reserve(1)?;
-        if updater.apply(session, update?)? {
-            let handle = session.handle()?;
-            made.push(handle).map_err(AllocError::from)?;
-        }
+        apply_one(session, updater, update?, made)?;
+    }
+    Ok(())
+}
+
+/// Applies one update, and adds a handle for the version that it commits, for which there is room beforehand.
+fn apply_one(
+    session: &mut WriteZone<'_>,
+    updater: &mut ZoneUpdater,
+    update: ZoneUpdate<ReadRecord<'_>>,
+    made: &mut Vec<ReadZone>,
+) -> Result<(), SyncError>
+    ensures { (base : Commit) (before : List Commit) (g : Progress) → Ahead base before updater.old session.old made.old.items g
+        → TakesOne base before updater.new session.new made.new.items g (update_of update.entry) result }
+{
+    made.reserve(1)?;
+    if updater.apply(session, update)? {
+        let handle = session.handle()?;
+        made.push(handle).map_err(AllocError::from)?;
     }
     Ok(())
 }

@@ -1,6 +1,11 @@
 //! A transfer whole: both halves, and the link between them.
-ghost use Rattle.std.specs.Prelude.{◌≡◌, ◌≢◌};
+ghost use Rattle.std.specs.Prelude.{◌≡◌, ◌≢◌, ◌⊎◌, [], ◌∷◌, ℕ, List, IsSome, IsOk, IfOk, OnOk, OnErr, option_map};
+ghost use Rattle.zone_types.specs.Commits.{Commit};
 ghost use Rattle.zone_transfer.specs.Links.{Rose};
+ghost use Rattle.zone_transfer.specs.Modes.{mode_of};
+ghost use Rattle.zone_transfer.specs.SoFar.{Asking};
+ghost use Rattle.zone_transfer.specs.Standing.{asking_of, Stands};
+ghost use Rattle.zone_transfer.specs.Transfers.{SyncSays, EndsSo, LinkWentOn, IsEnded};
 
 use crate::client::{XfrClient, XfrMode};
 use crate::links::Link;
@@ -25,7 +30,7 @@ pub struct Moments {
 
 /// Brings a secondary's zone up to date with a primary's, over a link: what was pending is dropped, the request goes to the
 /// primary, and its replies come back, each checked and applied before the next. `made` grows by the handles of the versions
-/// that are committed, in order, whatever the answer is; after a refusal nothing is pending.
+/// that are committed, in order, whatever the answer is; nothing is pending afterwards.
 pub fn sync_zone<P: Service<()>, L: Link>(
     alloc: Global,
     primary: &P,
@@ -36,14 +41,27 @@ pub fn sync_zone<P: Service<()>, L: Link>(
     moments: Moments,
     made: &mut Vec<ReadZone>,
 ) -> Result<SyncOk, SyncError>
+    // Whatever octets the link hands back, exactly the versions that the checked text spells are committed, in order, and the
+    // answer is the outcome.
+    ensures transfers { SyncSays (record { key = key.now; mode = mode_of mode; at = moments.at_secondary; base = session.old.current }) (L.longest link.old)
+        (L.lists link.old) (L.lists link.new) made.old.items made.new.items session.new result }
+    ensures nothing_pending { session.new.pending ≡ session.new.current.version }
+    // The causes by the link.
     ensures failed { result ≡ Err SyncError.LinkFault → Rose (L.faults link.old) (L.faults link.new) }
     ensures steady { result ≢ Err SyncError.LinkFault → L.faults link.new ≡ L.faults link.old }
+    ensures ended { result ≡ Err SyncError.Ended → IsEnded (L.lists link.new) }
 {
-    let mut client = XfrClient::new(alloc, session, key, mode, moments.at_secondary);
-    let outcome = exchange(alloc, primary, &mut client, link, moments.at_primary, made);
-    if outcome.is_err() {
-        client.give_up();
-    }
+    let mut client = XfrClient::new(alloc, key, mode, moments.at_secondary);
+    let outcome = exchange(
+        alloc,
+        primary,
+        &mut client,
+        session,
+        link,
+        moments.at_primary,
+        made,
+    );
+    session.rollback();
     outcome
 }
 
@@ -51,15 +69,18 @@ pub fn sync_zone<P: Service<()>, L: Link>(
 fn exchange<P: Service<()>, L: Link>(
     alloc: Global,
     primary: &P,
-    client: &mut XfrClient<'_, '_>,
+    client: &mut XfrClient,
+    session: &mut WriteZone<'_>,
     link: &mut L,
     at_primary: Time48,
     made: &mut Vec<ReadZone>,
 ) -> Result<SyncOk, SyncError>
+    ensures says { SyncSays (asking_of client.old session.old.current) (L.longest link.old) (L.lists link.old) (L.lists link.new) made.old.items made.new.items session.new result }
     ensures failed { result ≡ Err SyncError.LinkFault → Rose (L.faults link.old) (L.faults link.new) }
     ensures steady { result ≢ Err SyncError.LinkFault → L.faults link.new ≡ L.faults link.old }
+    ensures ended { result ≡ Err SyncError.Ended → IsEnded (L.lists link.new) }
 {
-    let request = client.request(link.max_len())?;
+    let request = client.request(session, link.max_len())?;
     link.send_request(request.as_slice())?;
     let Some(asked) = link.take_request()? else {
         return Err(SyncError::Ended);
@@ -71,7 +92,7 @@ fn exchange<P: Service<()>, L: Link>(
         link,
         at_primary,
     )?;
-    take_replies(client, link, made)
+    take_replies(client, session, link, made)
 }
 
 /// Has a primary reply to a request, and gives its replies to the link.
@@ -82,8 +103,10 @@ fn serve<P: Service<()>, L: Link>(
     link: &mut L,
     at: Time48,
 ) -> Result<(), SyncError>
+    ensures link { (sent : List (List ℕ)) × LinkWentOn (L.lists link.old) (L.lists link.new) [] [] sent [] }
     ensures failed { result ≡ Err SyncError.LinkFault → Rose (L.faults link.old) (L.faults link.new) }
     ensures steady { result ≢ Err SyncError.LinkFault → L.faults link.new ≡ L.faults link.old }
+    ensures refused { OnErr result ((result ≡ Err SyncError.LinkFault) ⊎ ((result ≡ Err SyncError.Memory) ⊎ (result ≡ Err (SyncError.Primary ServiceError.InternalError)))) }
 {
     let request = Request::new(message, TransportSpecificContext::NonUdp, at, ());
     let mut replies = primary.call(alloc, request)?;
@@ -97,18 +120,22 @@ fn serve<P: Service<()>, L: Link>(
 
 /// Takes replies until the outcome is met.
 fn take_replies<L: Link>(
-    client: &mut XfrClient<'_, '_>,
+    client: &mut XfrClient,
+    session: &mut WriteZone<'_>,
     link: &mut L,
     made: &mut Vec<ReadZone>,
 ) -> Result<SyncOk, SyncError>
+    requires { IsSome client.old.exchange }
+    ensures ends { (a : Asking) (before : List Commit) → Stands client.old session.old a [] before made.old.items → EndsSo a (L.lists link.old) (L.lists link.new) before made.new.items session.new result }
     ensures failed { result ≡ Err SyncError.LinkFault → Rose (L.faults link.old) (L.faults link.new) }
     ensures steady { result ≢ Err SyncError.LinkFault → L.faults link.new ≡ L.faults link.old }
+    ensures ended { result ≡ Err SyncError.Ended → IsEnded (L.lists link.new) }
 {
     'taking: for _ in 0..MOST_REPLIES {
         let Some(reply) = link.take_reply()? else {
             return Err(SyncError::Ended);
         };
-        if let Some(outcome) = client.take(reply, made)? {
+        if let Some(outcome) = client.take(session, reply, made)? {
             return Ok(outcome);
         }
     }
