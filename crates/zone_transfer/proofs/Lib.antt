@@ -2,3 +2,5 @@ mod QueueSteps
 pub mod Steps
 pub mod Places
 pub mod Standings
+pub mod Answering
+pub mod Outcomes

@@ -1,14 +1,17 @@
 -- Single updates, and all that a message says.
 use Rattle.std.proofs.Common.{◌≡◌, ◌≢◌, ℕ, suc, ◌+◌, ◌-◌, ◌<◌, ◌≤◌, ◌^◌, Bool, true, false, if◌then◌else◌, List, [], ◌∷◌, ◌++◌, length, length-append, append_assoc, append-nil, refl, sym, ap, ◌∙◌, subst, arith, Option, Some, None, is_some, Result, Ok, Err}
-use Rattle.std.specs.Prelude.{nat_lt, ◌⊎◌}
-use Rattle.std.proofs.lemmas.Bool.{le-ltb}
+use Rattle.std.specs.Prelude.{nat_lt, ◌⊎◌, ◌==◌, ◌&&◌, IsOk}
+use Rattle.std.proofs.lemmas.Bool.{le-ltb, eq-eqb}
 use Rattle.zone_types.specs.Version.{Version}
 use Rattle.zone_types.specs.Commits.{Commit}
 use Rattle.zone_types.specs.Session.{Session, commits_after}
 use Rattle.zone_types.specs.Updates.{Update, Progress, UpdateFault, apply_update}
 use Rattle.zone_types.specs.Applying.{Halt, Denied, NoNumber, Held, within, apply_within, unless_halted}
 use Rattle.zone_types.proofs.Limits.{within-append, then_held}
-use Rattle.zone_transfer.specs.Steps.{commit_after, numbers_left, HasMade, Ahead, Led}
+use Rattle.zone_types.specs.Applying.{commits}
+use Rattle.zone_types.proofs.FinerSteps.{last_number}
+use Rattle.xfr_client.specs.Updating.{Updating, progress_of, new_version, next_commit, lacks_number}
+use Rattle.zone_transfer.specs.Steps.{commit_after, numbers_left, HasMade, Ahead, DoesOne, HaltsOne, Led}
 
 -- one version more behind those committed on a base
 pub number_after : (base : Commit) (vs : List Version) → (commit_after base vs).number ≡ base.number + length vs
@@ -46,3 +49,77 @@ halts_left limit p left u h e = ap (λ r. unless_halted p (λ x. apply_within li
 -- progress within the numbers
 pub within_numbers : (base : Commit) (q : Progress) → base.number + length q.committed ≤ 2 ^ 64 - 1 → within (numbers_left base) (Ok q) ≡ Ok q
 within_numbers base q few = ap (λ b. if b then Err NoNumber else Ok q) (le-ltb (numbers_left base) (length q.committed) (omega (arith, few)))
+
+-- a session that keeps its current commit has made what it had made
+pub made_still : (base : Commit) (before handles now : List Commit) (s t : Session) (vs : List Version) → HasMade base before s handles vs → t.current ≡ s.current → now ≡ handles → HasMade base before t now vs
+made_still base before handles now s t vs m e h = record { current = e ∙ m.current; handles = h ∙ m.handles }
+
+-- one version more
+pub made_more : (base : Commit) (before handles now : List Commit) (s t : Session) (vs : List Version) → HasMade base before s handles vs
+    → t.current ≡ record { number = s.current.number + 1; version = t.current.version } → now ≡ handles ++ t.current ∷ [] → HasMade base before t now (vs ++ t.current.version ∷ [])
+made_more base before handles now s t vs m e h =
+    let last = last_after base vs t.current.version in
+    let is : t.current ≡ record { number = (commit_after base vs).number + 1; version = t.current.version } = e ∙ ap (λ (c : Commit). record { number = c.number + 1; version = t.current.version }) m.current in
+    record {
+      current = is ∙ sym last;
+      handles = h ∙ ap (λ l. l ++ t.current ∷ []) m.handles ∙ append_assoc before (commits_after base vs) (t.current ∷ [])
+          ∙ ap (λ c. before ++ (commits_after base vs ++ c ∷ [])) is ∙ ap (λ l. before ++ l) (sym (all_after base vs t.current.version));
+    }
+
+-- an update that was done and committed nothing
+pub one_edited : (base : Commit) (before : List Commit) (u v : Updating) (s t : Session) (handles now : List Commit) (g : Progress) (update : Update)
+    → Ahead base before u s handles g → t.current ≡ s.current → now ≡ handles
+    → apply_update (progress_of u s g.committed) update ≡ Ok (progress_of v t (g.committed ++ [])) → DoesOne base before v t now g update
+one_edited base before u v s t handles now g update a e h ok =
+    let q : Progress = progress_of v t g.committed in
+    let did : apply_update g update ≡ Ok q = ap (λ p. apply_update p update) (sym a.progress) ∙ ok ∙ ap (λ l. Ok (progress_of v t l)) (append-nil g.committed) in
+    record {
+      progress = q;
+      done = ap (within (numbers_left base)) did ∙ within_numbers base q a.few;
+      ahead = record { progress = refl; made = made_still base before handles now s t g.committed a.made e h; few = a.few };
+    }
+
+-- .. and one that committed a version, of which there is a handle now
+not_last : (b c : Bool) → b ≡ true → (b && c) ≡ false → c ≡ false
+not_last true c e h = h
+not_last false c e h = absurd (cc e)
+
+pub one_committed : (base : Commit) (before : List Commit) (u v : Updating) (s t : Session) (handles now : List Commit) (g : Progress) (update : Update)
+    → Ahead base before u s handles g → t.current ≡ record { number = s.current.number + 1; version = t.current.version } → now ≡ handles ++ t.current ∷ []
+    → commits update ≡ true → lacks_number s.current.number update ≡ false
+    → apply_update (progress_of u s g.committed) update ≡ Ok (progress_of v t (g.committed ++ t.current.version ∷ [])) → DoesOne base before v t now g update
+one_committed base before u v s t handles now g update a e h commit number ok =
+    let q : Progress = progress_of v t (g.committed ++ t.current.version ∷ []) in
+    let did : apply_update g update ≡ Ok q = ap (λ p. apply_update p update) (sym a.progress) ∙ ok in
+    let at : s.current.number ≡ base.number + length g.committed = ap (λ (c : Commit). c.number) a.made.current ∙ number_after base g.committed in
+    let other : (s.current.number == 2 ^ 64 - 1) ≡ false = not_last (commits update) (s.current.number == 2 ^ 64 - 1) commit number in
+    let small = a.few in
+    let unlike : s.current.number ≢ 2 ^ 64 - 1 = λ (k : s.current.number ≡ 2 ^ 64 - 1). cc (sym (eq-eqb s.current.number (2 ^ 64 - 1) k) ∙ other) in
+    let size = length-append g.committed (t.current.version ∷ []) in
+    let few : base.number + length q.committed ≤ 2 ^ 64 - 1 = omega (arith, at, small, unlike, size) in
+    record {
+      progress = q;
+      done = ap (within (numbers_left base)) did ∙ within_numbers base q few;
+      ahead = record { progress = refl; made = made_more base before handles now s t g.committed a.made e h; few = few };
+    }
+
+-- an update that is refused
+pub one_refused : (base : Commit) (before : List Commit) (u : Updating) (s : Session) (handles : List Commit) (g : Progress) (update : Update) (why : UpdateFault)
+    → Ahead base before u s handles g → apply_update (progress_of u s g.committed) update ≡ Err why → within (numbers_left base) (apply_update g update) ≡ Err (Denied why)
+one_refused base before u s handles g update why a h = ap (λ p. within (numbers_left base) (apply_update p update)) (sym a.progress) ∙ ap (within (numbers_left base)) h
+
+-- .. and one for which there is no number
+ok_of : (p : Result Progress UpdateFault) → IsOk p → (q : Progress) × (p ≡ Ok q)
+ok_of (Ok q) h = (q, refl)
+ok_of (Err e) h = absurd h
+
+pub one_unnumbered : (base : Commit) (before : List Commit) (u : Updating) (s : Session) (handles : List Commit) (g : Progress) (update : Update)
+    → Ahead base before u s handles g → lacks_number s.current.number update ≡ true → IsOk (apply_update (progress_of u s g.committed) update)
+    → within (numbers_left base) (apply_update g update) ≡ Err NoNumber
+one_unnumbered base before u s handles g update a lacks ok =
+    let q = ok_of (apply_update g update) (subst (λ p. IsOk (apply_update p update)) a.progress ok) in
+    let at : s.current.number ≡ base.number + length g.committed = ap (λ (c : Commit). c.number) a.made.current ∙ number_after base g.committed in
+    let few = a.few in
+    let law = last_number (2 ^ 64 - 1) base.number g q.0 update (omega (arith, few)) (omega (arith, few)) q.1 in
+    let none : nat_lt (numbers_left base) (length q.0.committed) ≡ true = law ∙ ap (λ n. commits update && (n == 2 ^ 64 - 1)) (sym at) ∙ lacks in
+    ap (within (numbers_left base)) q.1 ∙ ap (λ b. if b then Err NoNumber else Ok q.0) none
