@@ -1,7 +1,7 @@
 -- Whether a reply answers the request, and what its records make.
-use Rattle.std.proofs.Common.{◌≡◌, ℕ, suc, Bool, true, false, not, ◌&&◌, ◌||◌, ◌==◌, if◌then◌else◌, List, [], ◌∷◌, map, length, refl, sym, ap, ◌∙◌, subst, arith, Option, Some, None, is_some}
+use Rattle.std.proofs.Common.{◌≡◌, ℕ, suc, Bool, true, false, not, ◌&&◌, ◌||◌, ◌==◌, if◌then◌else◌, List, [], ◌∷◌, map, length, refl, sym, ap, ◌∙◌, subst, arith, Option, Some, None, is_some, Result, Ok, Err}
 use Rattle.std.specs.Prelude.{option_map, unwrap_or}
-use Rattle.std.proofs.lemmas.Bool.{eq-eqb, eqb-true, and_left}
+use Rattle.std.proofs.lemmas.Bool.{eq-eqb, eqb-true, ne_eqb, and_left}
 use Rattle.std.proofs.Math.Bool.{and-false}
 use Rattle.dns_wire.specs.Wire.{Question, same_question, header_in, qdcount_in}
 use Rattle.dns_wire.specs.Parse.{Parsed, parsed, question_at, sole_question_in}
@@ -11,7 +11,15 @@ use Rattle.zone_types.specs.Read.{Fault, NotValid, Malformed, OtherAnswer, is_ot
 use Rattle.zone_types.specs.Interpreter.{mode_asked}
 use Rattle.zone_types.specs.Machine.{Place, AtStart, AtSecond, InWhole, InDeletes, InAdds, AtEnd, Run, run_items, is_at_end}
 use Rattle.zone_types.proofs.FinerSteps.{names_mode}
-use Rattle.xfr_client.specs.Interpreting.{Interpreting, read_here, as_read_here, run_from}
+use Rattle.xfr_client.specs.Interpreting.{Interpreting, Interprets, Refuses, read_here, as_read_here, run_from}
+use Rattle.xfr_client.specs.Rest.{Rest}
+use Rattle.xfr_client.specs.declared.protocol.Error.{Error}
+use Rattle.xfr_client.specs.declared.protocol.Error.TheVariants as errors
+use Rattle.xfr_course.specs.Outcome.{Reading}
+use Rattle.zone_transfer.specs.declared.outcome.SyncError.TheVariants as why
+use Rattle.zone_transfer.specs.Ending.{refusal_outcome}
+use Rattle.zone_transfer.specs.declared.outcome.SyncError.{SyncError}
+use Rattle.zone_transfer.specs.Replies.{AnswersRequest, IsAnswerTo, ReadsOn}
 use Rattle.xfr_client.specs.Rest.{asks_again}
 use Rattle.xfr_client.specs.Places.{is_at_second}
 use Rattle.xfr_client.proofs.MessageParts.{read_parts}
@@ -46,12 +54,15 @@ asks_nothing o m q h e =
 
 -- a message that is read, and one of which only the header is
 pub is_read : (o : List ℕ) (m : ReadMessage) → read_here o ≡ Some m → message_so_far o ≡ m
+unfolding message_so_far
 is_read o m h = ap (λ x. unwrap_or x (header_alone o)) h
 
 pub is_unread : (o : List ℕ) → parsed o ≡ None → message_so_far o ≡ header_alone o
+unfolding message_so_far
 is_unread o h = ap (λ x. unwrap_or (option_map (as_read_here o) x) (header_alone o)) h
 
 pub header_is : (o : List ℕ) → (message_so_far o).header ≡ header_in o
+unfolding message_so_far
 header_is o = by (read_here o) refl
   where
     by : (x : Option ReadMessage) → read_here o ≡ x → (unwrap_or x (header_alone o)).header ≡ header_in o
@@ -110,3 +121,83 @@ second_none AtEnd b = refl
 
 pub asks_no_other : (first : Bool) (a : Run) → IsBehind a.place → asks_again first a ≡ false
 asks_no_other first a b = ap (λ c. first && not (is_some a.fault) && c) (second_none a.place b) ∙ and-false (first && not (is_some a.fault))
+
+-- ---- the tests of a reply
+
+-- octets that parse are read
+pub read_parsed : (o : List ℕ) (p : Parsed) → parsed o ≡ Some p → read_here o ≡ Some (message_so_far o)
+read_parsed o p e =
+    let h : read_here o ≡ Some (as_read_here o p) = ap (option_map (as_read_here o)) e in
+    h ∙ ap (λ m. Some m) (sym (is_read o (as_read_here o p) h))
+
+pub id_refused : (id : ℕ) (q : Question) (o : List ℕ) (first : Bool) → ((header_in o).id ≡ id → ⊥) → request_fault id q first (message_so_far o) ≡ Some OtherAnswer
+id_refused id q o first ne =
+    let m : ReadMessage = message_so_far o in
+    refused_other id q first m (other_id id q m (ap (λ h. h.id == id) (header_is o) ∙ ne_eqb (header_in o).id id ne))
+
+pub unread_refused : (id : ℕ) (q : Question) (o : List ℕ) (first : Bool) → (header_in o).id ≡ id → parsed o ≡ None → request_fault id q first (message_so_far o) ≡ Some NotValid
+unread_refused id q o first e none = ap (λ m. request_fault id q first m) (is_unread o none) ∙ alone_refused id q first o e
+
+pub other_found : (id : ℕ) (q : Question) (o : List ℕ) (b : Bool) → (header_in o).id ≡ id → b ≡ asks_other q (message_so_far o).questions → is_other id q (message_so_far o) ≡ b
+other_found id q o b e h = other_is id q (message_so_far o) (ap (λ h. h.id) (header_is o) ∙ e) ∙ sym h
+
+-- ---- what an interpreter refuses
+
+way_open : (begun : Bool) (p : Place) → IsUnderWay begun p → is_at_end p ≡ false
+way_open true AtStart w = refl
+way_open true (AtSecond s) w = refl
+way_open true (InWhole s) w = refl
+way_open true (InDeletes s) w = refl
+way_open true (InAdds s) w = refl
+way_open true AtEnd w = absurd w
+way_open false AtStart w = refl
+way_open false (AtSecond s) w = refl
+way_open false (InWhole s) w = refl
+way_open false (InDeletes s) w = refl
+way_open false (InAdds s) w = refl
+way_open false AtEnd w = absurd w
+
+pub refuses_fault : (a : Asking) (begun : Bool) (p : Place) (i : Interpreting) (m : ReadMessage) (e : Error) → i ≡ record { begun = begun; place = p; signalled = false } → IsUnderWay begun p
+    → is_other (asked_id a) (asked_question a) m ≡ false → Refuses i m e
+    → (f : Fault) × ((request_fault (asked_id a) (asked_question a) (not begun) m ≡ Some f) × (refusal_outcome (why.Xfr e) ≡ Some (Reading f)))
+refuses_fault a begun p i m errors.Finished is w mine r = absurd (cc (sym (ap (λ x. x.signalled || is_at_end x.place) is ∙ way_open begun p w) ∙ r))
+refuses_fault a begun p i m errors.NotValidXfrResponse is w mine r =
+    (NotValid, (refused_message (asked_id a) (asked_question a) (not begun) m mine ∙ ap (λ x. message_fault (not x.begun) m) (sym is) ∙ r.1, refl))
+refuses_fault a begun p i m errors.Malformed is w mine r =
+    (Malformed, (refused_message (asked_id a) (asked_question a) (not begun) m mine ∙ ap (λ x. message_fault (not x.begun) m) (sym is) ∙ r.1, refl))
+refuses_fault a begun p i m errors.ParseError is w mine r = absurd r
+
+-- .. and what it reads
+pub reads_on : (a : Asking) (begun : Bool) (p : Place) (i j : Interpreting) (m : ReadMessage) (rest : Rest) → a.mode ≡ Axfr → i ≡ record { begun = begun; place = p; signalled = false } → IsUnderWay begun p
+    → is_other (asked_id a) (asked_question a) m ≡ false → Interprets i m rest j
+    → (request_fault (asked_id a) (asked_question a) (not begun) m ≡ None) × ReadsOn (run_items a.mode p (map record_item m.answers)) rest j
+reads_on a begun p i j m rest whole is w mine x =
+    let id : ℕ = asked_id a in
+    let q : Question = asked_question a in
+    let sound : request_fault id q (not begun) m ≡ None = refused_message id q (not begun) m mine ∙ ap (λ y. message_fault (not y.begun) m) (sym is) ∙ x.faultless in
+    let named : run_items (mode_asked m.questions) p (map record_item m.answers) ≡ run_items a.mode p (map record_item m.answers) =
+    whole_run id q begun p m (ap type_of whole) w sound ∙ ap (λ n. run_items n p (map record_item m.answers)) (sym whole) in
+    let run : run_from i m ≡ run_items a.mode p (map record_item m.answers) = ap (λ y. run_from y m) is ∙ named in
+    let behind : IsBehind (run_items a.mode p (map record_item m.answers)).place =
+    subst (λ n. IsBehind (run_items n p (map record_item m.answers)).place) (sym whole) (behind_message id q begun p m w sound) in
+    let single : asks_again (not i.begun) (run_from i m) ≡ false = ap (λ r. asks_again (not i.begun) r) run ∙ asks_no_other (not i.begun) (run_items a.mode p (map record_item m.answers)) behind in (
+      sound,
+      record {
+        run = ap (λ y. y.run) x.tells ∙ run;
+        no_retry = ap (λ y. y.retry) x.tells ∙ single;
+        stands = x.stands ∙ ap (λ b. record { begun = true; place = (run_from i m).place; signalled = b }) single ∙ ap (λ (r : Run). record { begun = true; place = r.place; signalled = false }) run;
+      },
+    )
+
+-- a reply that parses answers the request where its questions do
+pub parsed_answers : (a : Asking) (o : List ℕ) (p : Parsed) (q : Question) (r : Result (Unit {0}) SyncError) → parsed o ≡ Some p → (header_in o).id ≡ asked_id a → q ≡ asked_question a
+    → ((m : ReadMessage) → read_here o ≡ Some m → IsAnswerTo (asks_other q m.questions) r) → AnswersRequest a (message_so_far o) o r
+parsed_answers a o p q (Ok u) e i is h =
+    let found = read_parsed o p e in
+    (other_found (asked_id a) (asked_question a) o false i (sym (ap (λ x. asks_other x (message_so_far o).questions) (sym is) ∙ h (message_so_far o) found)), found)
+parsed_answers a o p q (Err x) e i is h =
+    let found = read_parsed o p e in
+    let other = h (message_so_far o) found in
+    let is_so : is_other (asked_id a) (asked_question a) (message_so_far o) ≡ true =
+    other_found (asked_id a) (asked_question a) o true i (sym (ap (λ y. asks_other y (message_so_far o).questions) (sym is) ∙ other.0)) in
+    (OtherAnswer, (λ first. refused_other (asked_id a) (asked_question a) first (message_so_far o) is_so, ap refusal_outcome other.1))

@@ -27,6 +27,7 @@ same_takes a ks ls o p cl [] = refl
 same_takes a ks ls o p cl (m ∷ more) = same_takes a ks ls o p (take_checked (asked_course a ks o) cl m) more
 
 pub course_client : (a : Asking) (ks : List (List ℕ)) (stop : Outcome) → client_of (asked_course a (map checked_so_far ks) stop) ≡ client_so_far a ks
+unfolding client_so_far
 course_client a ks stop = same_takes a (map checked_so_far ks) [] stop Ended (new_client (asked_course a [] Ended)) (map checked_so_far ks)
 
 -- what a course of these replies comes to
@@ -47,19 +48,19 @@ comes a ks stop =
 
 all_taken : (xs : List (List ℕ)) → list_all has_header xs ≡ true → take_while has_header xs ≡ xs
 all_taken [] h = refl
-all_taken (x ∷ xs) h = by (has_header x) refl h
+all_taken (x ∷ xs) h = by (has_header x) refl h (λ k. all_taken xs k)
   where
-    by : (b : Bool) → has_header x ≡ b → (b && list_all has_header xs) ≡ true → take_while has_header (x ∷ xs) ≡ x ∷ xs
-    by true e k = take_while-cons has_header x xs ∙ ap (λ b. cond b (x ∷ take_while has_header xs) []) e ∙ ap (λ l. x ∷ l) (all_taken xs k)
-    by false e k = absurd (cc k)
+    by : (b : Bool) → has_header x ≡ b → (b && list_all has_header xs) ≡ true → (list_all has_header xs ≡ true → take_while has_header xs ≡ xs) → take_while has_header (x ∷ xs) ≡ x ∷ xs
+    by true e k rest = take_while-cons has_header x xs ∙ ap (λ b. cond b (x ∷ take_while has_header xs) []) e ∙ ap (λ l. x ∷ l) (rest k)
+    by false e k rest = absurd (cc k)
 
 up_to_short : (xs : List (List ℕ)) (m : List ℕ) → list_all has_header xs ≡ true → has_header m ≡ false → take_while has_header (xs ++ m ∷ []) ≡ xs
 up_to_short [] m h s = take_while-cons has_header m [] ∙ ap (λ b. cond b (m ∷ []) []) s
-up_to_short (x ∷ xs) m h s = by (has_header x) refl h
+up_to_short (x ∷ xs) m h s = by (has_header x) refl h (λ k. up_to_short xs m k s)
   where
-    by : (b : Bool) → has_header x ≡ b → (b && list_all has_header xs) ≡ true → take_while has_header (x ∷ (xs ++ m ∷ [])) ≡ x ∷ xs
-    by true e k = take_while-cons has_header x (xs ++ m ∷ []) ∙ ap (λ b. cond b (x ∷ take_while has_header (xs ++ m ∷ [])) []) e ∙ ap (λ l. x ∷ l) (up_to_short xs m k s)
-    by false e k = absurd (cc k)
+    by : (b : Bool) → has_header x ≡ b → (b && list_all has_header xs) ≡ true → (list_all has_header xs ≡ true → take_while has_header (xs ++ m ∷ []) ≡ xs) → take_while has_header (x ∷ (xs ++ m ∷ [])) ≡ x ∷ xs
+    by true e k rest = take_while-cons has_header x (xs ++ m ∷ []) ∙ ap (λ b. cond b (x ∷ take_while has_header (xs ++ m ∷ [])) []) e ∙ ap (λ l. x ∷ l) (rest k)
+    by false e k rest = absurd (cc k)
 
 pub taken_whole : (xs : List (List ℕ)) → list_all has_header xs ≡ true → length xs ≤ most_replies → replies_taken xs ≡ xs
 taken_whole xs h few = ap (λ l. take_while has_header l) (take_all most_replies xs few) ∙ all_taken xs h
@@ -80,6 +81,7 @@ nothing_fails a xs = refl
 -- all of them passed
 pub passed_course : (a : Asking) (ks : List (List ℕ)) (gave_up : Outcome) → Passed (fault_so_far a) ks → length ks ≤ most_replies
     → course_so_far a ks gave_up ≡ asked_course a (map checked_so_far ks) (stop_after gave_up ks None)
+unfolding course_so_far
 passed_course a ks gave_up p few =
     let taken = taken_whole ks p.headed few in
     let all : passing (fault_so_far a) [] (replies_taken ks) ≡ ks =
@@ -100,6 +102,7 @@ fails_there a ks m e h = ap (λ o. option_or o (first_fault (fault_so_far a) (ks
 
 pub failed_course : (a : Asking) (ks : List (List ℕ)) (m : List ℕ) (e : ValidationError) (gave_up : Outcome) → Passed (fault_so_far a) ks → has_header m ≡ true → fault_so_far a ks m ≡ Some e
     → length (ks ++ m ∷ []) ≤ most_replies → course_so_far a (ks ++ m ∷ []) gave_up ≡ asked_course a (map checked_so_far ks) (Tsig e)
+unfolding course_so_far
 failed_course a ks m e gave_up p h fault few =
     let headed : list_all has_header (ks ++ m ∷ []) ≡ true = list_all-append has_header ks (m ∷ []) ∙ ap (λ b. b && (has_header m && true)) p.headed ∙ ap (λ b. b && true) h in
     let taken = taken_whole (ks ++ m ∷ []) headed few in
@@ -111,6 +114,7 @@ failed_course a ks m e gave_up p h fault few =
 -- the last of them is too short
 pub short_course : (a : Asking) (ks : List (List ℕ)) (m : List ℕ) (gave_up : Outcome) → Passed (fault_so_far a) ks → has_header m ≡ false
     → length (ks ++ m ∷ []) ≤ most_replies → course_so_far a (ks ++ m ∷ []) gave_up ≡ asked_course a (map checked_so_far ks) Short
+unfolding course_so_far
 short_course a ks m gave_up p h few =
     let taken = taken_short ks m p.headed h few in
     let all : passing (fault_so_far a) [] (replies_taken (ks ++ m ∷ [])) ≡ ks = ap (passing (fault_so_far a) []) (taken ∙ sym (append-nil ks)) ∙ p.passing [] ∙ nothing_passes a ks in

@@ -28,7 +28,7 @@ behind_way (AtSecond s) w = w
 behind_way (InWhole s) w = tt
 behind_way (InDeletes s) w = tt
 behind_way (InAdds s) w = tt
-behind_way AtEnd w = w
+behind_way AtEnd w = absurd w
 
 -- .. and not at its end
 pub way_behind : (p : Place) → IsBehind p → is_at_end p ≡ false → IsUnderWay true p

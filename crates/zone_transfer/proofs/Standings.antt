@@ -1,13 +1,14 @@
 -- One reply more, of a client that stands for those before it.
-use Rattle.std.proofs.Common.{◌≡◌, ℕ, ◌+◌, ◌-◌, ◌^◌, ◌≤◌, Bool, true, false, not, ◌&&◌, if◌then◌else◌, List, [], ◌∷◌, ◌++◌, map, length, append_assoc, append-nil, refl, sym, ap, ◌∙◌, subst, Option, Some, None, is_some, Result, Ok, Err}
+use Rattle.std.proofs.Common.{◌≡◌, ℕ, ◌+◌, ◌-◌, ◌^◌, ◌≤◌, Bool, true, false, not, ◌&&◌, if◌then◌else◌, List, [], ◌∷◌, ◌++◌, map, length, append_assoc, append-nil, refl, sym, ap, ◌∙◌, subst, arith, Option, Some, None, is_some, Result, Ok, Err}
 use Rattle.std.specs.Prelude.{nat_lt}
+use Rattle.std.proofs.lemmas.Bool.{le-ltb}
 use Rattle.std.specs.Option.{option_or}
 use Rattle.std.specs.List.{list_all}
 use Rattle.std.proofs.lemmas.List.{map-append}
 use Rattle.std.proofs.lemmas.List.Folds.{list_all-append}
 use Rattle.tsig_port.specs.Tsig.{Signature, signature_of, is_signed, tsig_by}
 use Rattle.tsig_port.specs.Tsig.Signature.{Malformed, Unsigned, Signed}
-use Rattle.tsig_port.specs.Checked.{answer_fault, fault_by, unsigned_fault, passing, first_fault, pass_on, unsigned_since}
+use Rattle.tsig_port.specs.Checked.{answer_fault, fault_by, unsigned_fault, passing, first_fault, pass_on, unsigned_since, taken_message}
 use Rattle.tsig_port.specs.declared.errors.ValidationError.{ValidationError}
 use Rattle.tsig_port.specs.declared.errors.ValidationError.TheVariants.{TooManyUnsigned, ServerUnsigned}
 use Rattle.zone_types.specs.Updates.{Update, Progress}
@@ -26,6 +27,10 @@ use Rattle.zone_transfer.proofs.Places.{IsBehind, behind_message, no_signal, way
 
 -- ---- what passed
 
+-- no number is below 0
+none_less : (n : ℕ) → 0 ≤ n
+none_less n = grind arith
+
 -- an answer that passes is signed
 signed_by_fault : (a : Asking) (taken : List (List ℕ)) (m : List ℕ) (s : Signature) → fault_by 0 a.key (asked_mac a) a.at taken m s ≡ None → is_some (tsig_by s) ≡ true
 signed_by_fault a taken m Malformed h = absurd (cc h)
@@ -33,10 +38,11 @@ signed_by_fault a [] m Unsigned h = absurd (cc h)
 signed_by_fault a (first ∷ taken) m Unsigned h = absurd (cc (sym (ap (λ b. if b then None else Some TooManyUnsigned) (none_below (length (unsigned_since (first ∷ taken))))) ∙ h))
   where
     none_below : (n : ℕ) → nat_lt n 0 ≡ false
-    none_below n = refl
+    none_below n = le-ltb n 0 (none_less n)
 signed_by_fault a taken m (Signed start owner t) h = refl
 
 pub passing_is_signed : (a : Asking) (taken : List (List ℕ)) (m : List ℕ) → fault_so_far a taken m ≡ None → is_signed m ≡ true
+unfolding fault_so_far
 passing_is_signed a taken m h = signed_by_fault a taken m (signature_of m) h
 
 pub none_passed : (fault : List (List ℕ) → List ℕ → Option ValidationError) → Passed fault []
@@ -66,9 +72,15 @@ abbrev pub course : Asking → Course
 course a = asked_course a [] Ended
 
 pub client_next : (a : Asking) (taken : List (List ℕ)) (m : List ℕ) → client_so_far a (taken ++ m ∷ []) ≡ take_checked (course a) (client_so_far a taken) (checked_so_far m)
+unfolding client_so_far
 client_next a taken m =
     ap (take_course (course a) (new_client (course a))) (map-append checked_so_far taken (m ∷ []))
     ∙ course_on (course a) (new_client (course a)) (map checked_so_far taken) (checked_so_far m ∷ [])
+
+-- a checked message is what is left of it once it was taken
+pub checked_message : (m : List ℕ) → (checked_so_far m).message ≡ message_so_far (taken_message m)
+unfolding checked_so_far
+checked_message m = refl
 
 -- the run of the message, and the client behind it
 abbrev pub run_next : Asking → List (List ℕ) → List ℕ → Run
@@ -76,6 +88,7 @@ run_next a taken m = run_message (course a) (client_so_far a taken) (checked_so_
 
 pub client_taken : (a : Asking) (taken : List (List ℕ)) (m : List ℕ) → (client_so_far a taken).met ≡ None
     → client_so_far a (taken ++ m ∷ []) ≡ client_after (course a) (client_so_far a taken).begun (is_signed m) (run_next a taken m) (apply_within (room (course a)) (client_so_far a taken).progress (run_next a taken m).updates)
+unfolding checked_so_far
 client_taken a taken m unmet =
     let cl : Client = client_so_far a taken in
     let r : Run = run_next a taken m in

@@ -26,7 +26,7 @@ use Rattle.zone_transfer.specs.declared.outcome.SyncError.TheVariants as why
 pub record ChecksReply (a : Asking) (taken : List (List ℕ)) (m message : List ℕ) (s : ClientSequence TsigKey) : Type 0 where
   pub headed : has_header m ≡ true
   pub sound : fault_so_far a taken m ≡ None
-  pub message : message ≡ taken_message m
+  pub loses : message ≡ taken_message m
   pub key : s.key ≡ a.key
   pub stands : ClientStands (λ k. k) s (asked_mac a) (taken ++ m ∷ [])
 
@@ -46,6 +46,11 @@ pub record ReadsOn (mode_run : Run) (rest : Rest) (i : Interpreting) : Type 0 wh
 abbrev pub TestsReply : Asking → Bool → Place → ReadMessage → Interpreting → Result Rest SyncError → Type 0
 TestsReply a begun p m i (Ok rest) = (request_fault (asked_id a) (asked_question a) (not begun) m ≡ None) × ReadsOn (run_items a.mode p (map record_item m.answers)) rest i
 TestsReply a begun p m i (Err e) = (f : Fault) × ((request_fault (asked_id a) (asked_question a) (not begun) m ≡ Some f) × (refusal_outcome e ≡ Some (Reading f)))
+
+-- whether its questions are those of an answer, where they are others or not
+abbrev pub IsAnswerTo : Bool → Result (Unit {0}) SyncError → Type 0
+IsAnswerTo other (Ok u) = other ≡ false
+IsAnswerTo other (Err e) = (other ≡ true) × (e ≡ why.OtherAnswer)
 
 -- whether it answers the request
 abbrev pub AnswersRequest : Asking → ReadMessage → List ℕ → Result (Unit {0}) SyncError → Type 0

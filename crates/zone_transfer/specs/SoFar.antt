@@ -37,10 +37,10 @@ abbrev pub request_message : Asking → Message
 request_message a = asking (asked_id a) (asked_question a)
 
 -- the request, signed with the fudge of 300 seconds, and its MAC
-abbrev pub asked_octets : Asking → List ℕ
+unfoldable pub asked_octets : Asking → List ℕ
 asked_octets a = signed_request a.key (message_wire (request_message a)) a.at 300
 
-abbrev pub asked_mac : Asking → List ℕ
+unfoldable pub asked_mac : Asking → List ℕ
 asked_mac a = (request_tsig a.key (message_wire (request_message a)) a.at 300).mac
 
 -- ---- replies
@@ -55,15 +55,15 @@ asks_other q (p ∷ r ∷ more) = false
 abbrev pub header_alone : List ℕ → ReadMessage
 header_alone octets = record { header = header_in octets; questions = []; answers = []; authority = 0 }
 
-abbrev pub message_so_far : List ℕ → ReadMessage
+unfoldable pub message_so_far : List ℕ → ReadMessage
 message_so_far octets = unwrap_or (read_here octets) (header_alone octets)
 
 -- a checked message as it is read: after it was taken, without its TSIG and with its original id
-abbrev pub checked_so_far : List ℕ → Checked
+unfoldable pub checked_so_far : List ℕ → Checked
 checked_so_far m = record { message = message_so_far (taken_message m); signed = is_signed m }
 
 -- the first test that an answer fails behind those taken before it
-abbrev pub fault_so_far : Asking → List (List ℕ) → List ℕ → Option ValidationError
+unfoldable pub fault_so_far : Asking → List (List ℕ) → List ℕ → Option ValidationError
 fault_so_far a taken m = answer_fault 0 a.key (asked_mac a) a.at taken m
 
 -- ---- the course
@@ -72,11 +72,11 @@ abbrev pub asked_course : Asking → List Checked → Outcome → Course
 asked_course a checked stop = record { mode = a.mode; id = asked_id a; question = asked_question a; base = a.base.version; number = a.base.number; checked = checked; stop = stop }
 
 -- the course of a transfer in which the link handed these replies, and gave that in place of a further one
-abbrev pub course_so_far : Asking → List (List ℕ) → Outcome → Course
+unfoldable pub course_so_far : Asking → List (List ℕ) → Outcome → Course
 course_so_far a replies gave_up = asked_course a
     (map checked_so_far (passing (fault_so_far a) [] (replies_taken replies)))
     (stop_after gave_up replies (first_fault (fault_so_far a) [] (replies_taken replies)))
 
 -- the client that has taken these replies, each of which passed
-abbrev pub client_so_far : Asking → List (List ℕ) → Client
+unfoldable pub client_so_far : Asking → List (List ℕ) → Client
 client_so_far a taken = take_course (asked_course a [] Ended) (new_client (asked_course a [] Ended)) (map checked_so_far taken)

@@ -1,5 +1,5 @@
 -- How far single updates have led: an updater, its session, and the handles made (RFC 5936, 6).
-use Rattle.std.specs.Prelude.{◌≡◌, ℕ, ◌+◌, ◌-◌, ◌≤◌, ◌^◌, Bool, false, List, [], ◌∷◌, ◌++◌, length, Option, Some, None, Result, Ok, Err, ◌⊎◌}
+use Rattle.std.specs.Prelude.{◌≡◌, ℕ, ◌+◌, ◌-◌, ◌≤◌, ◌^◌, false, List, [], ◌∷◌, ◌++◌, length, Option, Some, None, Result, Ok, Err, ◌⊎◌}
 use Rattle.zone_types.specs.Version.{Version}
 use Rattle.zone_types.specs.Commits.{Commit}
 use Rattle.zone_types.specs.Session.{Session, commits_after}
@@ -8,11 +8,14 @@ use Rattle.zone_types.specs.Read.{Fault}
 use Rattle.zone_types.specs.Applying.{Halt, Denied, NoNumber, Held, within, apply_within}
 use Rattle.xfr_client.specs.Updating.{Updating, progress_of}
 use Rattle.xfr_client.specs.Rest.{Rest}
+use Rattle.xfr_client.specs.declared.update.Error.{Error}
+use Rattle.xfr_client.specs.declared.update.Error.TheVariants as errors
 use Rattle.xfr_course.specs.Outcome.{Outcome, Reading}
 use Rattle.xfr_course.specs.Client.{halt_outcome}
-use Rattle.zone_transfer.specs.Ending.{refusal_outcome}
+use Rattle.zone_transfer.specs.Ending.{refusal_outcome, update_outcome}
 use Rattle.zone_transfer.specs.declared.outcome.SyncError.{SyncError}
 use Rattle.zone_transfer.specs.declared.outcome.SyncError.TheVariants.{Memory}
+
 
 -- the last of the commits that publish these versions after a commit
 abbrev pub commit_after : Commit → List Version → Commit
@@ -26,7 +29,7 @@ numbers_left base = 2 ^ 64 - 1 - base.number
 -- handles and current commit are those of versions committed on a base
 pub record HasMade (base : Commit) (before : List Commit) (s : Session) (handles : List Commit) (versions : List Version) : Type 0 where
   pub current : s.current ≡ commit_after base versions
-  pub handles : handles ≡ before ++ commits_after base versions
+  pub behind : handles ≡ before ++ commits_after base versions
 
 -- an updater and its session have come to this progress
 pub record Ahead (base : Commit) (before : List Commit) (u : Updating) (s : Session) (handles : List Commit) (g : Progress) : Type 0 where
@@ -40,20 +43,28 @@ pub record DoesOne (base : Commit) (before : List Commit) (u : Updating) (s : Se
   pub done : within (numbers_left base) (apply_update g update) ≡ Ok progress
   pub ahead : Ahead base before u s handles progress
 
-pub record HaltsOne (base : Commit) (g : Progress) (update : Update) (e : SyncError) : Type 0 where
+pub record HaltsOne (base : Commit) (g : Progress) (update : Update) (e : Error) : Type 0 where
   pub halt : Halt
   pub halts : within (numbers_left base) (apply_update g update) ≡ Err halt
-  pub why : refusal_outcome e ≡ Some (halt_outcome halt)
+  pub why : update_outcome e ≡ Some (halt_outcome halt)
 
-abbrev pub TakesOne : Commit → List Commit → Updating → Session → List Commit → Progress → Update → Result (Unit {0}) SyncError → Type 0
+abbrev pub TakesOne : Commit → List Commit → Updating → Session → List Commit → Progress → Update → Result (Unit {0}) Error → Type 0
 TakesOne base before u s handles g update (Ok x) = DoesOne base before u s handles g update
-TakesOne base before u s handles g update (Err e) = HasMade base before s handles g.committed × ((e ≡ Memory) ⊎ HaltsOne base g update e)
+TakesOne base before u s handles g update (Err e) = HasMade base before s handles g.committed × ((e ≡ errors.Memory) ⊎ HaltsOne base g update e)
 
 -- updates that were done, of those that a message says
 pub record Led (limit : ℕ) (g : Progress) (all : List Update) (p : Progress) (left : List Update) : Type 0 where
   pub done : List Update
   pub joined : all ≡ done ++ left
   pub led : apply_within limit g done ≡ record { progress = p; halt = None }
+
+-- so far in a message: the updates done, and those that are left with their fault
+pub record LedOn (base : Commit) (before : List Commit) (u : Updating) (s : Session) (handles : List Commit) (g : Progress) (all left : Rest) : Type 0 where
+  pub progress : Progress
+  pub led : Led (numbers_left base) g all.run.updates progress left.run.updates
+  pub fault : all.run.fault ≡ left.run.fault
+  pub no_retry : left.retry ≡ false
+  pub ahead : Ahead base before u s handles progress
 
 -- what ends a message's updates early: an update that isn't done, or a fault behind them all
 abbrev pub IsCause : Option Halt → Option Fault → SyncError → Type 0

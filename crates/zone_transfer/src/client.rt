@@ -1,5 +1,5 @@
 //! The secondary's half of a transfer.
-ghost use Rattle.std.specs.Prelude.{◌≡◌, ◌≢◌, ◌≤◌, ◌<◌, ◌⊎◌, [], ℕ, Bool, false, List, min, length, IsSome, IfOk, IfErr, OnOk, OnErr, is_some, None};
+ghost use Rattle.std.specs.Prelude.{◌≡◌, ◌≢◌, ◌≤◌, ◌<◌, ◌⊎◌, [], ℕ, Bool, false, List, min, length, IsSome, IfOk, IfErr, OnOk, OnErr, is_some, Some, None};
 ghost use Rattle.dns_wire.specs.Wire.{message_wire, same_question};
 ghost use Rattle.tsig_port.specs.States.{ClientStands};
 ghost use Rattle.zone_types.specs.Commits.{Commit};
@@ -13,18 +13,18 @@ ghost use Rattle.xfr_client.specs.Causes.{update_of};
 ghost use Rattle.zone_transfer.specs.Modes.{mode_of};
 ghost use Rattle.zone_transfer.specs.SoFar.{Asking, asked_octets, asked_mac, asked_id, asked_question, message_so_far, asking, asks_other};
 ghost use Rattle.zone_transfer.specs.Standing.{asking_of, Stands, TakesReply, ExchangeStands, IsUnderWay};
-ghost use Rattle.zone_transfer.specs.Replies.{AnswersReply, AnswersRequest, TestsReply, TakesMessage};
+ghost use Rattle.zone_transfer.specs.Replies.{AnswersReply, AnswersRequest, IsAnswerTo, TestsReply, TakesMessage};
 ghost use Rattle.zone_transfer.specs.Steps.{Ahead, TakesOne, TakesAll};
 
 use crate::outcome::{SyncError, SyncOk};
 use dns_name::{KeyName, Labelled, ParsedName, Rtype, ToName};
 use dns_rdata::ReadRecord;
 use dns_wire::{AdditionalBuilder, Header, MessageBuf, MessageBuilder, PushError, Question};
-use std::alloc::{AllocError, Global};
+use std::alloc::Global;
 use std::marker::Model;
 use tsig_port::{ClientSequence, Key, Time48};
 use xfr_client::{
-    XfrResponseInterpreter, XfrZoneUpdateIterator, ZoneUpdate, ZoneUpdater, protocol,
+    XfrResponseInterpreter, XfrZoneUpdateIterator, ZoneUpdate, ZoneUpdater, protocol, update,
 };
 use zone_store::{ReadZone, WriteZone};
 
@@ -168,7 +168,10 @@ impl XfrClient {
                 self.exchange = Some(exchange);
                 Ok(None)
             }
-            Ok(Some(outcome)) => Ok(Some(outcome)),
+            Ok(Some(outcome)) => {
+                session.rollback();
+                Ok(Some(outcome))
+            }
             Err(error) => {
                 session.rollback();
                 Err(error)
@@ -229,9 +232,16 @@ impl Exchange {
         if message.header().id != self.id {
             return Err(SyncError::OtherAnswer);
         }
-        if message.end().is_err() {
-            return Err(SyncError::Xfr(protocol::Error::NotValidXfrResponse));
+        match message.end() {
+            Err(_) => Err(SyncError::Xfr(protocol::Error::NotValidXfrResponse)),
+            Ok(_) => self.questions_answer(message),
         }
+    }
+
+    /// Tests that a reply that parses has the request's question where it has one.
+    fn questions_answer(&self, message: &MessageBuf) -> Result<(), SyncError>
+        ensures { (m : ReadMessage) → read_here message.now ≡ Some m → IsAnswerTo (asks_other self.now.question m.questions) result }
+    {
         if self.asks_else(message) {
             return Err(SyncError::OtherAnswer);
         }
@@ -274,13 +284,12 @@ fn ask(alloc: Global, id: u16, question: &Question<KeyName>) -> Result<Additiona
 fn apply_all(
     session: &mut WriteZone<'_>,
     updater: &mut ZoneUpdater,
-    updates: XfrZoneUpdateIterator<'_>,
+    mut updates: XfrZoneUpdateIterator<'_>,
     made: &mut Vec<ReadZone>,
 ) -> Result<(), SyncError>
     ensures { (base : Commit) (before : List Commit) (g : Progress) → updates.entry.retry ≡ false → Ahead base before updater.old session.old made.old.items g
         → TakesAll base before updater.new session.new made.new.items g updates.entry result }
 {
-    let mut updates = updates;
     'updates: while let Some(update) = updates.next_update() {
         apply_one(session, updater, update?, made)?;
     }
@@ -293,14 +302,20 @@ fn apply_one(
     updater: &mut ZoneUpdater,
     update: ZoneUpdate<ReadRecord<'_>>,
     made: &mut Vec<ReadZone>,
-) -> Result<(), SyncError>
+) -> Result<(), update::Error>
     ensures { (base : Commit) (before : List Commit) (g : Progress) → Ahead base before updater.old session.old made.old.items g
         → TakesOne base before updater.new session.new made.new.items g (update_of update.entry) result }
 {
-    made.reserve(1)?;
+    if made.reserve(1).is_err() {
+        return Err(update::Error::Memory);
+    }
     if updater.apply(session, update)? {
-        let handle = session.handle()?;
-        made.push(handle).map_err(AllocError::from)?;
+        let Ok(handle) = session.handle() else {
+            unreachable!()
+        };
+        let Ok(()) = made.push(handle) else {
+            unreachable!()
+        };
     }
     Ok(())
 }
