@@ -7,3 +7,5 @@ pub mod Outcomes
 pub mod Trial
 pub mod Messages
 pub mod Taking
+pub mod Checking
+pub mod Clients

@@ -36,7 +36,7 @@ IsOwn (Reading f) = Unit {0}
 IsOwn VersionsExhausted = Unit {0}
 IsOwn o = ⊥
 
-some_same : {A : Type 0} (x y : A) → ◌≡◌ {A = Option A} (Some x) (Some y) → x ≡ y
+pub some_same : {A : Type 0} (x y : A) → ◌≡◌ {A = Option A} (Some x) (Some y) → x ≡ y
 some_same x y h = cc h
 
 pub refuses_so : (a : Asking) (s : Session) (before handles : List Commit) (taken : List (List ℕ)) (m : List ℕ) (e : SyncError) (o : Outcome) → refusal_outcome e ≡ Some o → IsOwn o → Meets a taken m o
