@@ -10,7 +10,7 @@ use Rattle.dns_name.specs.Compression.{Element, element_at, element_from, label_
 use Rattle.dns_name.specs.Compression.Element.{Root, Label, Pointer}
 use Rattle.dns_name.specs.Compression.NameAt.{at_root, at_label, at_pointer}
 use Rattle.dns_name.proofs.Elements.{split_fits}
-use Rattle.dns_name.proofs.NameReading.{name_at-NameAt, NameAt-name_at}
+use Rattle.dns_name.proofs.NameReading.{guarded, name_at-NameAt, NameAt-name_at}
 
 -- the element at a place, by its octets
 data Seen (m : List ℕ) (p : ℕ) : Element → Type 0 where
@@ -22,10 +22,6 @@ data Seen (m : List ℕ) (p : ℕ) : Element → Type 0 where
 chosen : {A : Type 0} (b : Bool) (x y r : A) → (if b then x else y) ≡ r → ((b ≡ true) × (x ≡ r)) ⊎ ((b ≡ false) × (y ≡ r))
 chosen true x y r e = inl (refl, e)
 chosen false x y r e = inr (refl, e)
-
-guarded : {A : Type 0} (b : Bool) (x y : A) → (if b then Some x else None) ≡ Some y → (b ≡ true) × (x ≡ y)
-guarded true x y e = (refl, ap (λ r. unwrap_or r x) e)
-guarded false x y e = absurd (cc e)
 
 after_some : {A B : Type 0} (f : A → Option B) (o : Option A) (y : B) → option_and_then f o ≡ Some y → (x : A) × (o ≡ Some x) × (f x ≡ Some y)
 after_some f None y e = absurd (cc e)

@@ -4,9 +4,9 @@ use Rattle.std.specs.Prelude.{unwrap_or, if◌then◌else◌}
 use Rattle.std.specs.Str.{bytes_eq}
 use Rattle.std.specs.Cmp.Lexicographic.{bytes_decides}
 use Rattle.dns_name.specs.Octets.{◌>>=◌}
+use Rattle.dns_name.proofs.NameReading.{bound, guarded}
 use Rattle.dns_rdata.specs.Records.{Record, record_wire}
 use Rattle.dns_rdata.specs.Heads.{raw_record_at, readable, record_in}
-use Rattle.dns_rdata.proofs.ReadData.{bound, guarded}
 
 pub found_is_spelled : (octets : List ℕ) (r : Record) → record_in octets ≡ Some r → record_wire r ≡ octets
 found_is_spelled octets r e =

@@ -7,18 +7,11 @@ use Rattle.std.proofs.lemmas.List.{length-take-le, length-drop}
 use Rattle.dns_name.specs.Octets.{◌>>=◌, octets_at}
 use Rattle.dns_name.specs.Names.{Name}
 use Rattle.dns_name.specs.Compression.{name_at}
+use Rattle.dns_name.proofs.NameReading.{bound, guarded}
 use Rattle.dns_name.proofs.NameBounds.{read_is_name}
 use Rattle.dns_rdata.specs.Records.{Field, Part, part_allows, field_at, fields_at, are_strings}
 use Rattle.dns_rdata.specs.Records.Field.{Octets, DomainName}
 use Rattle.dns_rdata.specs.Records.Part.{Exactly, AtLeast, Strings, Named}
-
-pub bound : {A B : Type 0} (o : Option A) (f : A → Option B) (y : B) → (o >>= f) ≡ Some y → (x : A) × (o ≡ Some x) × (f x ≡ Some y)
-bound None f y e = absurd (cc e)
-bound (Some x) f y e = (x, refl, e)
-
-pub guarded : {A : Type 0} (b : Bool) (x y : A) → (if b then Some x else None) ≡ Some y → (b ≡ true) × (x ≡ y)
-guarded true x y e = (refl, ap (λ r. unwrap_or r x) e)
-guarded false x y e = absurd (cc e)
 
 inside : {A : Type 0} (x y : A) → Some x ≡ Some y → x ≡ y
 inside x y e = ap (λ r. unwrap_or r x) e
