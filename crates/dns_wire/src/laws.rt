@@ -1,8 +1,8 @@
 // Laws of the definitions, each the contract of a function with an empty body.
-ghost use Rattle.std.specs.Prelude.{◌≡◌, ◌+◌, ◌<◌, ◌^◌, ◌++◌, ◌∷◌, [], ℕ, List, length, Some, IsTrue};
+ghost use Rattle.std.specs.Prelude.{◌≡◌, ◌+◌, ◌<◌, ◌^◌, ◌++◌, ◌∷◌, [], ℕ, List, length, Some, IsTrue, ◌≤◌};
 ghost use Rattle.dns_name.specs.Names.{is_name};
 ghost use Rattle.dns_rdata.specs.Records.{Record, record_wire, is_data};
-ghost use Rattle.dns_wire.specs.Wire.{Message, Header, Question, question_wire, header_wire, header_in, message_wire, in_answer, with_answer, with_additional};
+ghost use Rattle.dns_wire.specs.Wire.{Message, Header, Question, question_wire, header_wire, header_in, message_wire, in_answer, with_answer, with_additional, without_last_additional, arcount_in};
 ghost use Rattle.dns_wire.specs.Parse.{question_at, parsed};
 ghost use Rattle.dns_rdata.specs.Heads.{readable};
 ghost use Rattle.dns_wire.specs.Written.{IsMessage, IsRecord, head_at, parsed_of};
@@ -22,6 +22,16 @@ pub fn pushed_is_listed()
 pub fn pushed_additional_is_listed()
     ensures { (m : Message) (r : Record) → length m.additional < 2 ^ 16
         → message_wire (record m { additional = m.additional ++ r ∷ [] }) ≡ with_additional (message_wire m) r }
+{}
+
+/// A last additional record that is taken back is one fewer in the list, and its octets stand unread behind the others. Where there is
+/// none, nothing changes.
+pub fn removed_is_unlisted()
+    ensures octets { (m : Message) (r : Record) (after : List ℕ) → length m.additional < 65535
+        → without_last_additional (message_wire (record m { additional = m.additional ++ r ∷ [] }) ++ after) ≡ message_wire m ++ (record_wire r ++ after) }
+    ensures read { (m : Message) (r : Record) (after : List ℕ) → IsMessage m → length m.additional < 65535
+        → parsed (without_last_additional (message_wire (record m { additional = m.additional ++ r ∷ [] }) ++ after)) ≡ Some (parsed_of m) }
+    ensures none { (message : List ℕ) → 12 ≤ length message → arcount_in message ≡ 0 → without_last_additional message ≡ message }
 {}
 
 /// A question that was written is read again, wherever it stands.
