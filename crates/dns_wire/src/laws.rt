@@ -3,13 +3,19 @@ ghost use Rattle.std.specs.Prelude.{◌≡◌, ◌+◌, ◌<◌, ◌^◌, ◌++�
 ghost use Rattle.dns_name.specs.Names.{is_name};
 ghost use Rattle.dns_rdata.specs.Records.{Record, record_wire, is_data};
 ghost use Rattle.dns_wire.specs.Wire.{Message, Header, Question, question_wire, header_wire, header_in, message_wire, in_answer, with_answer, with_additional, without_last_additional, arcount_in};
-ghost use Rattle.dns_wire.specs.Parse.{question_at, parsed};
+ghost use Rattle.dns_wire.specs.Numbers.{with_number};
+ghost use Rattle.dns_wire.specs.Parse.{Parsed, question_at, parsed};
 ghost use Rattle.dns_rdata.specs.Heads.{readable};
 ghost use Rattle.dns_wire.specs.Written.{IsMessage, IsRecord, head_at, parsed_of};
 
 /// A header that was written is read again.
 pub fn headers_written_are_read()
     ensures { (h : Header) (after : List ℕ) → h.id < 2 ^ 16 → h.opcode < 16 → h.rcode < 16 → header_in (header_wire h ++ after) ≡ h }
+{}
+
+/// An id that was written is read again, and the flags are as they were.
+pub fn ids_written_are_read()
+    ensures { (message : List ℕ) (id : ℕ) → id < 2 ^ 16 → header_in (with_number 0 message id) ≡ record (header_in message) { id = id } }
 {}
 
 /// A record pushed onto the octets is one more record in the list.
@@ -49,4 +55,9 @@ pub fn records_written_are_read()
 /// A message that was built parses to its items, whatever octets follow it.
 pub fn messages_written_are_read()
     ensures { (m : Message) (after : List ℕ) → IsMessage m → parsed (message_wire m ++ after) ≡ Some (parsed_of m) }
+{}
+
+/// Octets behind a message that parses aren't read: it parses to the same items with any octets behind it.
+pub fn octets_behind_are_unread()
+    ensures { (message after : List ℕ) (p : Parsed) → parsed message ≡ Some p → parsed (message ++ after) ≡ Some p }
 {}
