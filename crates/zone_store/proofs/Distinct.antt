@@ -1,5 +1,5 @@
 -- Lists of data without equal ones, and a datum put last.
-use Rattle.std.proofs.Common.{◌≡◌, ℕ, ◌==◌, Bool, true, false, cond, ◌&&◌, ◌||◌, not, if◌then◌else◌, List, [], ◌∷◌, ◌++◌, length, refl, sym, ap, ◌∙◌, true≢false, Option, Some, None, min, Ordering, Less, Equal, Greater, is_eq}
+use Rattle.std.proofs.Common.{◌≡◌, ◌==◌, Bool, true, false, cond, ◌&&◌, ◌||◌, not, if◌then◌else◌, List, [], ◌∷◌, ◌++◌, length, refl, sym, ap, ◌∙◌, true≢false, Option, Some, Ordering, Less, Equal, Greater}
 use Rattle.std.specs.List.{list_any, list_all, filter}
 use Rattle.std.specs.Option.{option_map_or}
 use Rattle.std.specs.Ordering.{match_ordering}
@@ -10,12 +10,11 @@ use Rattle.std.proofs.lemmas.List.{append-nil}
 use Rattle.std.proofs.lemmas.List.Elements.{filter-append}
 use Rattle.std.proofs.lemmas.List.Folds.{list_any-append}
 use Rattle.dns_name.specs.Names.{fold}
-use Rattle.dns_rdata.specs.Records.{Field, Record, same_data}
-use Rattle.zone_types.specs.Version.{RecordSet, Key, Sets, Version, key_cmp, has_key, set_in, all_differ}
-use Rattle.zone_types.specs.Edits.{distinct, put_set, remove_set, with_sets, has_data}
-use Rattle.zone_types.specs.Classify.{opened_with, lowest_ttl}
+use Rattle.dns_rdata.specs.Records.{Field, same_data}
+use Rattle.zone_types.specs.Version.{RecordSet, Key, Sets, key_cmp, has_key, set_in, all_differ}
+use Rattle.zone_types.specs.Edits.{distinct, put_set, remove_set, with_sets}
+use Rattle.zone_types.specs.Classify.{lowest_ttl}
 use Rattle.zone_types.proofs.Folded.{same_data_equiv}
-use Rattle.zone_store.specs.Puts.{opened_by}
 use Rattle.zone_store.specs.Opening.{has_distinct_data, OpensAsFile, KeepsDistinct}
 use Rattle.zone_store.proofs.Closing.{filter_none}
 
