@@ -1,11 +1,11 @@
 -- Octets behind a message that parses change nothing of it.
-use Rattle.std.proofs.Common.{◌≡◌, ℕ, zero, suc, ◌+◌, ◌-◌, ◌*◌, ◌<◌, ◌≤◌, Bool, true, false, List, [], ◌∷◌, ◌++◌, length, take, drop, Some, None, refl, ap, ◌∙◌, arith, le-leb, leb-true, lt-ltb, ltb-true, nat_le, nat_lt}
+use Rattle.std.proofs.Common.{◌≡◌, ℕ, zero, suc, ◌+◌, ◌-◌, ◌<◌, ◌≤◌, Bool, true, false, List, [], ◌∷◌, ◌++◌, length, take, drop, Some, None, refl, ap, ◌∙◌, arith, le-leb, leb-true, lt-ltb, ltb-true, nat_le, nat_lt}
 use Rattle.std.specs.Prelude.{Option, ◌==◌, slice_get, slice_range, option_and_then, if◌then◌else◌}
 use Rattle.std.proofs.lemmas.Option.{cond_some}
 use Rattle.std.proofs.lemmas.List.{drop-append-le, take-append-le, length-append, length-drop}
 use Rattle.dns_name.specs.Octets.{◌>>=◌, octets_at, u16_at, u32_at}
 use Rattle.dns_name.specs.Names.{Name}
-use Rattle.dns_name.specs.Compression.{Element, element_at, element_from, label_at, pointer_to, name_at, NameAt}
+use Rattle.dns_name.specs.Compression.{element_at, element_from, label_at, name_at, NameAt}
 use Rattle.dns_name.specs.Compression.Element.{Root, Label, Pointer}
 use Rattle.dns_name.specs.Compression.NameAt.{at_root, at_label, at_pointer}
 use Rattle.dns_name.proofs.NameReading.{name_at-NameAt, NameAt-name_at}

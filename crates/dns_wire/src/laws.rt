@@ -1,8 +1,8 @@
 // Laws of the definitions, each the contract of a function with an empty body.
-ghost use Rattle.std.specs.Prelude.{◌≡◌, ◌+◌, ◌<◌, ◌^◌, ◌++◌, ◌∷◌, [], ℕ, List, length, Some, IsTrue, ◌≤◌};
+ghost use Rattle.std.specs.Prelude.{◌≡◌, ◌+◌, ◌<◌, ◌^◌, ◌++◌, ◌∷◌, [], ℕ, List, length, replicate, Some, IsTrue, ◌≤◌};
 ghost use Rattle.dns_name.specs.Names.{is_name};
 ghost use Rattle.dns_rdata.specs.Records.{Record, record_wire, is_data};
-ghost use Rattle.dns_wire.specs.Wire.{Message, Header, Question, question_wire, header_wire, header_in, message_wire, in_answer, with_answer, with_additional, without_last_additional, arcount_in};
+ghost use Rattle.dns_wire.specs.Wire.{Message, Header, Question, question_wire, header_of, header_wire, header_in, message_wire, in_answer, with_answer, with_additional, without_last_additional, arcount_in};
 ghost use Rattle.dns_wire.specs.Numbers.{with_number};
 ghost use Rattle.dns_wire.specs.Parse.{Parsed, question_at, parsed};
 ghost use Rattle.dns_rdata.specs.Heads.{readable};
@@ -16,6 +16,11 @@ pub fn headers_written_are_read()
 /// An id that was written is read again, and the flags are as they were.
 pub fn ids_written_are_read()
     ensures { (message : List ℕ) (id : ℕ) → id < 2 ^ 16 → header_in (with_number 0 message id) ≡ record (header_in message) { id = id } }
+{}
+
+/// Twelve zero octets, with which a builder begins, are a message without items.
+pub fn zeros_are_empty()
+    ensures { message_wire (in_answer (header_of 0 0) [] []) ≡ replicate 12 0 }
 {}
 
 /// A record pushed onto the octets is one more record in the list.
