@@ -338,6 +338,17 @@ impl ZoneVersion {
         drop_strays(self, &mut copy.sets);
         Ok(copy)
     }
+
+    /// The same of a version that isn't needed otherwise, which is copied only where a set goes.
+    #[tactic(auto, using(crate::proofs::Closing::closed_is))]
+    pub(crate) fn into_closed(self) -> Result<ZoneVersion, AllocError>
+        ensures { IfOk result (λ v. v ≡ edits.close self) }
+    {
+        if self.has_stray() {
+            return self.closed();
+        }
+        Ok(self)
+    }
 }
 
 /// Whether a commit of the version would leave one of the sets out.
