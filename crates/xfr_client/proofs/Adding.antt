@@ -5,7 +5,7 @@ use Rattle.std.proofs.lemmas.List.{append-nil}
 use Rattle.dns_name.specs.Names.{under}
 use Rattle.dns_rdata.specs.Records.{Record}
 use Rattle.zone_types.specs.Version.{Version}
-use Rattle.zone_types.specs.Edits.{Refusal, OutOfZone, Incompatible, InvalidData, add, has_data, second_alias, put_set}
+use Rattle.zone_types.specs.Edits.{Refusal, OutOfZone, Incompatible, InvalidData, add, has_data, second_alias}
 use Rattle.zone_types.specs.Updates.{Progress, Update, UpdateFault, Edit, AfterFinish, AddRecord, apply, apply_update, edited}
 
 -- the order of the refusals
@@ -54,7 +54,7 @@ pub refused_data : (p : Progress) (r : Record) → add p.pending r ≡ Err Inval
 refused_data p r e = edits_alike p r (Err InvalidData) e (λ h. cc)
 
 -- progress that isn't finished takes an update
-not_finished : (p : Progress) (u : Update) → p.finished ≡ false → apply_update p u ≡ apply p u
+pub not_finished : (p : Progress) (u : Update) → p.finished ≡ false → apply_update p u ≡ apply p u
 not_finished p u f = let F : Bool → Result Progress UpdateFault = λ b. if b then Err AfterFinish else apply p u in ap F f
 
 -- the same as updates of progress that isn't finished

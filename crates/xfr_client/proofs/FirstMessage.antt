@@ -1,18 +1,16 @@
 -- What refuses a first message, test by test, and where one that isn't refused leads.
-use Rattle.std.proofs.Common.{◌≡◌, ℕ, Bool, true, false, List, [], ◌∷◌, Option, Some, None, length, map, refl, ap, ◌∙◌, sym}
-use Rattle.std.specs.Prelude.{◌&&◌, ◌==◌, not, nat_le, if◌then◌else◌, Result, Ok, Err}
+use Rattle.std.proofs.Common.{◌≡◌, Bool, true, false, List, [], ◌∷◌, Option, Some, None, length, map, refl, ap, ◌∙◌, sym}
+use Rattle.std.specs.Prelude.{◌==◌, not, if◌then◌else◌, Result, Ok, Err}
 use Rattle.std.specs.Cmp.{first_so, second_so}
 use Rattle.dns_rdata.specs.Records.{Record}
 use Rattle.zone_types.specs.Messages.{ReadMessage}
-use Rattle.zone_types.specs.Read.{Fault, NotValid, Malformed, Unreadable, Item, Good, Bad, message_fault, is_transfer_head, asks_transfer, first_record_fault, record_item}
-use Rattle.zone_types.specs.TransferText.{Mode, Axfr, Ixfr, is_soa}
+use Rattle.zone_types.specs.Read.{Fault, NotValid, Malformed, Item, Good, Bad, message_fault, is_transfer_head, asks_transfer, first_record_fault, record_item}
+use Rattle.zone_types.specs.TransferText.{Axfr, Ixfr, is_soa}
 use Rattle.zone_types.specs.Interpreter.{mode_asked}
 use Rattle.zone_types.specs.Machine.{first_step}
 use Rattle.xfr_client.specs.declared.place.Place.{Place}
 use Rattle.xfr_client.specs.declared.protocol.Error.{Error}
-use Rattle.xfr_client.specs.declared.protocol.Error.TheVariants as error
-use Rattle.xfr_client.specs.Places.{place_of}
-use Rattle.xfr_client.specs.Interpreting.{Begins, BeginsAt, IsPlaceAt, Asks}
+use Rattle.xfr_client.specs.Interpreting.{BeginsAt, IsPlaceAt}
 
 pub fault_head : (m : ReadMessage) (first : Bool) → is_transfer_head first m ≡ false → message_fault first m ≡ Some NotValid
 fault_head m first e = rw e refl

@@ -1,5 +1,6 @@
 pub mod RestSteps
 pub mod Adding
+mod Deleting
 pub mod MessageParts
 pub mod Places
 pub mod Sections

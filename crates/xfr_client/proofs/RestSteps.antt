@@ -1,21 +1,18 @@
 -- What a message's iterator has to tell, one step on.
-use Rattle.std.proofs.Common.{◌≡◌, Bool, true, false, List, [], ◌∷◌, Option, Some, None, Result, Ok, Err, ap, ◌∙◌, sym, refl}
-use Rattle.std.specs.Prelude.{◌&&◌}
+use Rattle.std.proofs.Common.{◌≡◌, Bool, true, false, List, [], ◌∷◌, Some, None, Err, refl}
 use Rattle.dns_rdata.specs.Records.{Record}
 use Rattle.dns_wire.specs.Parse.{SectionIn}
-use Rattle.zone_types.specs.Read.{Item, Good, Bad, Unreadable, AfterEnd}
+use Rattle.zone_types.specs.Read.{Item, Good, Bad}
 use Rattle.zone_types.specs.TransferText.{Axfr}
 use Rattle.zone_types.specs.Machine.{Run, went, then_run, step, run_items}
 use Rattle.zone_types.specs.Machine as machine
 use Rattle.xfr_client.specs.declared.place.Place.{Place}
 use Rattle.xfr_client.specs.declared.place.Told.TheVariants as told
-use Rattle.xfr_client.specs.declared.update.ZoneUpdate.{ZoneUpdate}
-use Rattle.xfr_client.specs.declared.update.ZoneUpdate.TheVariants as update
 use Rattle.xfr_client.specs.declared.protocol.IterationError.TheVariants as error
-use Rattle.xfr_client.specs.Places.{place_of, is_at_second}
+use Rattle.xfr_client.specs.Places.{place_of}
 use Rattle.xfr_client.specs.Told.{run_of}
 use Rattle.xfr_client.specs.Items.{items_left}
-use Rattle.xfr_client.specs.Rest.{Rest, NextTold, rest_of, rest_from, nothing_behind}
+use Rattle.xfr_client.specs.Rest.{NextTold, rest_of}
 
 -- behind the end nothing is told
 pub at_end_stays : (xs : List Item) → (run_items Axfr machine.AtEnd xs).place ≡ machine.AtEnd

@@ -1,11 +1,11 @@
 -- What taking a message comes to: the run of its answer records from the place before it.
 use Rattle.std.proofs.Common.{◌≡◌, Bool, true, false, List, [], ◌∷◌, ◌++◌, Option, Some, None, map, refl, ap, ◌∙◌, sym}
-use Rattle.std.specs.Prelude.{◌&&◌, not, is_some, is_none, if◌then◌else◌}
+use Rattle.std.specs.Prelude.{◌&&◌, not, is_some, is_none}
 use Rattle.dns_rdata.specs.Records.{Record}
 use Rattle.dns_wire.specs.Parse.{SectionIn}
 use Rattle.zone_types.specs.Messages.{ReadMessage}
 use Rattle.zone_types.specs.Updates.{Update}
-use Rattle.zone_types.specs.Read.{Item, Good, Bad, first_fault, record_item, message_fault, is_transfer_head}
+use Rattle.zone_types.specs.Read.{Item, Good, first_fault, record_item, is_transfer_head}
 use Rattle.zone_types.specs.TransferText.{Mode, Axfr, Ixfr}
 use Rattle.zone_types.specs.Interpreter.{mode_asked}
 use Rattle.zone_types.specs.Machine.{Run, went, then_run, first_step, run_items}

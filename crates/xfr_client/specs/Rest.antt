@@ -1,6 +1,5 @@
 -- What is left of one message's updates.
-use Rattle.std.specs.Prelude.{◌≡◌, ℕ, Bool, true, false, ◌&&◌, not, List, [], ◌∷◌, ◌++◌, map, Option, Some, None, is_some, Result, Ok, Err, if◌then◌else◌}
-use Rattle.std.specs.Option.{option_map_or}
+use Rattle.std.specs.Prelude.{◌≡◌, Bool, true, false, ◌&&◌, not, List, [], ◌∷◌, ◌++◌, Option, Some, None, is_some, Result, Ok, Err}
 use Rattle.dns_rdata.specs.Records.{Record}
 use Rattle.dns_wire.specs.Parse.{SectionIn}
 use Rattle.zone_types.specs.Updates.{Update}

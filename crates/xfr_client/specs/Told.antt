@@ -1,6 +1,5 @@
 -- What one record says, as a run of the machine.
 use Rattle.std.specs.Prelude.{◌≡◌, List, [], ◌∷◌, Option, Some, None}
-use Rattle.dns_rdata.specs.Records.{Record}
 use Rattle.zone_types.specs.Updates.{Update, DeleteAllRecords, AddRecord}
 use Rattle.zone_types.specs.Read.{Fault, AfterEnd}
 use Rattle.zone_types.specs.Machine.{Run}

@@ -1,10 +1,10 @@
 -- What an updater keeps beside its session, and what both stand for.
-use Rattle.std.specs.Prelude.{◌≡◌, ◌+◌, Bool, true, false, List, [], ◌∷◌, ◌++◌, if◌then◌else◌}
-use Rattle.dns_rdata.specs.Records.{Record}
+use Rattle.std.specs.Prelude.{ℕ, ◌+◌, ◌-◌, ◌^◌, ◌==◌, ◌&&◌, Bool, true, false, List, [], ◌∷◌}
 use Rattle.zone_types.specs.Version.{Version}
 use Rattle.zone_types.specs.Commits.{Commit}
 use Rattle.zone_types.specs.Session.{Session}
-use Rattle.zone_types.specs.Updates.{Update, DeleteAllRecords, DeleteRecord, AddRecord, BeginBatchDelete, BeginBatchAdd, Finished, Progress}
+use Rattle.zone_types.specs.Updates.{Update, Progress}
+use Rattle.zone_types.specs.Applying.{commits}
 
 -- whether equal data are passed over, and whether the end has come
 pub record Updating : Type 0 where
@@ -25,11 +25,6 @@ abbrev pub next_commit : Bool → Commit → Version → Commit
 next_commit true last v = record { number = last.number + 1; version = v }
 next_commit false last v = last
 
--- the updates that are applied so far: all but deletes
-abbrev pub is_delete : Update → Bool
-is_delete DeleteAllRecords = false
-is_delete (DeleteRecord r) = true
-is_delete (AddRecord r) = false
-is_delete (BeginBatchDelete r) = false
-is_delete (BeginBatchAdd r) = false
-is_delete (Finished r) = false
+-- whether an update commits, and the version before has the greatest number
+abbrev pub lacks_number : ℕ → Update → Bool
+lacks_number number u = commits u && (number == 2 ^ 64 - 1)

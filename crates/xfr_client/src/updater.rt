@@ -1,13 +1,15 @@
 // The updater of a zone.
-ghost use Rattle.std.specs.Prelude.{◌≡◌, ◌++◌, ◌^◌, ◌-◌, [], true, false, not, List, IsTrue, IfOk, IfErr, IfSome, OnOk, OnErr, Some, None, Ok, Err};
+ghost use Rattle.std.specs.Prelude.{◌≡◌, ◌↔◌, ◌++◌, ◌^◌, ◌-◌, [], true, false, List, IfOk, IfErr, IfSome, OnOk, OnErr, IsOk, Some, None, Ok, Err};
 ghost use Rattle.zone_types.specs.TransferText.{is_soa};
 ghost use Rattle.zone_types.specs.Version.{Version};
 ghost use Rattle.zone_types.specs.Edits.{with_sets, set_soa};
 ghost use Rattle.zone_types.specs.Session.{with_pending, committed};
 ghost use Rattle.zone_types.specs.Updates as updates;
 ghost use Rattle.zone_types.specs.Updates.{UpdateFault, apply_update, after_refusal};
+ghost use Rattle.zone_types.specs.Applying.{commits};
+ghost use Rattle.xfr_client.specs.declared.update.Error.TheVariants.{VersionsExhausted, Memory};
 ghost use Rattle.xfr_client.specs.Causes.{update_of, update_fault_of};
-ghost use Rattle.xfr_client.specs.Updating.{progress_of, new_version, next_commit, is_delete};
+ghost use Rattle.xfr_client.specs.Updating.{progress_of, new_version, next_commit, lacks_number};
 
 use crate::update::{Error, ZoneUpdate};
 use dns_rdata::{ReadRecord, StoredRecord, ZoneRecordData};
@@ -56,7 +58,11 @@ impl ZoneUpdater {
     }
 
     /// A read handle of the session's current version; after an update that committed it takes no memory.
-    pub fn handle(&self, session: &mut WriteZone<'_>) -> Result<ReadZone, AllocError> {
+    pub fn handle(&self, session: &mut WriteZone<'_>) -> Result<ReadZone, AllocError>
+        ensures current { IfOk result (λ z. z ≡ session.old.current) }
+        ensures ready { session.old.has_handle ≡ true → IsOk result }
+        ensures same { session.new ≡ record session.old { has_handle = session.new.has_handle } }
+    {
         session.handle()
     }
 
@@ -64,16 +70,22 @@ impl ZoneUpdater {
     ///
     /// `Finished` comes after the end and after `IncompatibleUpdate`; after the other refusals the updater goes on.
     /// After `Memory` or `VersionsExhausted` the same update may be applied again; where it was `Finished` the new SOA
-    /// may be pending already. Records can't be deleted so far: a `DeleteRecord` is refused as `IncompatibleUpdate`.
+    /// may be pending already. An update that lacks both memory and a number is answered by either.
     pub fn apply(
         &mut self,
         session: &mut WriteZone<'_>,
         update: ZoneUpdate<ReadRecord<'_>>,
     ) -> Result<bool, Error>
-        ensures ok { (before : List Version) → IsTrue (not (is_delete (update_of update.entry))) → IfOk result (λ told. apply_update (progress_of self.old session.old before) (update_of update.entry) ≡ Ok (progress_of self.new session.new (before ++ new_version told session.new))) }
-        ensures refused { (before : List Version) → IsTrue (not (is_delete (update_of update.entry))) → IfErr result (λ e. IfSome (update_fault_of e) (λ why. (apply_update (progress_of self.old session.old before) (update_of update.entry) ≡ Err why) × (progress_of self.new session.new before ≡ after_refusal (progress_of self.old session.old before) why))) }
+        ensures ok { (before : List Version) → IfOk result (λ told. apply_update (progress_of self.old session.old before) (update_of update.entry) ≡ Ok (progress_of self.new session.new (before ++ new_version told session.new))) }
+        ensures refused { (before : List Version) → IfErr result (λ e. IfSome (update_fault_of e) (λ why. (apply_update (progress_of self.old session.old before) (update_of update.entry) ≡ Err why) × (progress_of self.new session.new before ≡ after_refusal (progress_of self.old session.old before) why))) }
+        ensures told { IfOk result (λ told. told ≡ commits (update_of update.entry)) }
         ensures current { IfOk result (λ told. session.new.current ≡ next_commit told session.old.current session.new.current.version) }
-        ensures err { OnErr result (session.new.current ≡ session.old.current) }
+        ensures ready { IfOk result (λ told. told ≡ true → session.new.has_handle ≡ true) }
+        ensures kept { IfOk result (λ told. told ≡ false → session.new ≡ with_pending session.old session.new.pending) }
+        ensures err { OnErr result (session.new ≡ with_pending session.old session.new.pending) }
+        // No commit goes past the greatest number.
+        ensures numbered { IfOk result (λ told. lacks_number session.old.current.number (update_of update.entry) ≡ false) }
+        ensures exhausted { (before : List Version) → result ≡ Err VersionsExhausted → (lacks_number session.old.current.number (update_of update.entry) ≡ true) × IsOk (apply_update (progress_of self.old session.old before) (update_of update.entry)) }
         // Want of memory or of a number changes nothing of the updater.
         ensures unchanged { IfErr result (λ e. update_fault_of e ≡ None → self.new ≡ self.old) }
     {
@@ -86,27 +98,58 @@ impl ZoneUpdater {
                 self.is_replacing = true;
                 Ok(false)
             }
-            ZoneUpdate::DeleteRecord(_) => {
-                self.is_finished = true;
-                Err(Error::IncompatibleUpdate)
-            }
+            ZoneUpdate::DeleteRecord(deleted) => self.delete(session, &deleted),
             ZoneUpdate::AddRecord(added) => self.add(session, &added),
-            ZoneUpdate::BeginBatchDelete(_) => {
-                commit(session)?;
-                self.is_replacing = false;
-                Ok(true)
-            }
+            ZoneUpdate::BeginBatchDelete(_) => self.publish(session),
             ZoneUpdate::BeginBatchAdd(soa) => {
                 put_soa(self.alloc, session, &soa)?;
                 Ok(false)
             }
             ZoneUpdate::Finished(soa) => {
                 put_soa(self.alloc, session, &soa)?;
-                commit(session)?;
-                self.is_replacing = false;
+                self.publish(session)?;
                 self.is_finished = true;
                 Ok(true)
             }
+        }
+    }
+
+    // What is pending is published.
+    fn publish(&mut self, session: &mut WriteZone<'_>) -> Result<bool, Error>
+        ensures ok { OnOk result ((self.new ≡ record { replacing = false; finished = self.old.finished }) × (session.new ≡ committed session.old false)) }
+        ensures told { IfOk result (λ told. told ≡ true) }
+        ensures err { IfErr result (λ e. (self.new ≡ self.old) × (session.new ≡ session.old) × (update_fault_of e ≡ None)) }
+        ensures exhausted { (result ≡ Err VersionsExhausted) ↔ (session.old.current.number ≡ 2 ^ 64 - 1) }
+    {
+        commit(session)?;
+        self.is_replacing = false;
+        Ok(true)
+    }
+
+    // One record less.
+    #[tactic(auto, using(crate::proofs::Deleting::update_deleted, crate::proofs::Deleting::update_not_deleted, crate::proofs::Adding::and_none))]
+    fn delete(
+        &mut self,
+        session: &mut WriteZone<'_>,
+        deleted: &ReadRecord<'_>,
+    ) -> Result<bool, Error>
+        ensures ok { (before : List Version) → self.old.finished ≡ false → IfOk result (λ told. apply_update (progress_of self.old session.old before) (updates.DeleteRecord deleted.now) ≡ Ok (progress_of self.new session.new (before ++ new_version told session.new))) }
+        ensures refused { (before : List Version) → self.old.finished ≡ false → IfErr result (λ e. IfSome (update_fault_of e) (λ why. (apply_update (progress_of self.old session.old before) (updates.DeleteRecord deleted.now) ≡ Err why) × (progress_of self.new session.new before ≡ after_refusal (progress_of self.old session.old before) why))) }
+        ensures told { IfOk result (λ told. told ≡ false) }
+        ensures numbered { result ≡ Err VersionsExhausted → ⊥ }
+        ensures else_same { session.new ≡ with_pending session.old session.new.pending }
+        ensures unchanged { IfErr result (λ e. update_fault_of e ≡ None → self.new ≡ self.old) }
+    {
+        let stored = stored(self.alloc, deleted)?;
+        match session.delete_record(&stored) {
+            Ok(()) => Ok(false),
+            Err(EditError::Incompatible) => {
+                self.is_finished = true;
+                Err(Error::IncompatibleUpdate)
+            }
+            Err(EditError::OutOfZone) => Err(Error::OutOfZone),
+            Err(EditError::InvalidData) => Err(Error::InvalidData),
+            Err(EditError::Memory) => Err(Error::Memory),
         }
     }
 
@@ -115,8 +158,9 @@ impl ZoneUpdater {
     fn add(&mut self, session: &mut WriteZone<'_>, added: &ReadRecord<'_>) -> Result<bool, Error>
         ensures ok { (before : List Version) → self.old.finished ≡ false → IfOk result (λ told. apply_update (progress_of self.old session.old before) (updates.AddRecord added.now) ≡ Ok (progress_of self.new session.new (before ++ new_version told session.new))) }
         ensures refused { (before : List Version) → self.old.finished ≡ false → IfErr result (λ e. IfSome (update_fault_of e) (λ why. (apply_update (progress_of self.old session.old before) (updates.AddRecord added.now) ≡ Err why) × (progress_of self.new session.new before ≡ after_refusal (progress_of self.old session.old before) why))) }
-        ensures current { IfOk result (λ told. session.new.current ≡ next_commit told session.old.current session.new.current.version) }
-        ensures err { OnErr result (session.new.current ≡ session.old.current) }
+        ensures told { IfOk result (λ told. told ≡ false) }
+        ensures numbered { result ≡ Err VersionsExhausted → ⊥ }
+        ensures else_same { session.new ≡ with_pending session.old session.new.pending }
         ensures unchanged { IfErr result (λ e. update_fault_of e ≡ None → self.new ≡ self.old) }
     {
         let stored = stored(self.alloc, added)?;
@@ -139,7 +183,7 @@ impl ZoneUpdater {
 // A copy that holds its octets.
 fn stored(alloc: Global, found: &ReadRecord<'_>) -> Result<StoredRecord, Error>
     ensures ok { IfOk result (λ r. r ≡ found.now) }
-    ensures err { IfErr result (λ e. update_fault_of e ≡ None) }
+    ensures err { IfErr result (λ e. e ≡ Memory) }
 {
     match found.flatten(alloc) {
         Ok(stored) => Ok(stored),
@@ -150,7 +194,7 @@ fn stored(alloc: Global, found: &ReadRecord<'_>) -> Result<StoredRecord, Error>
 // No record is pending.
 fn clear(session: &mut WriteZone<'_>) -> Result<(), Error>
     ensures ok { OnOk result (session.new ≡ with_pending session.old (with_sets session.old.pending [])) }
-    ensures err { IfErr result (λ e. (session.new ≡ session.old) × (update_fault_of e ≡ None)) }
+    ensures err { IfErr result (λ e. (session.new ≡ session.old) × (e ≡ Memory)) }
 {
     match session.clear_all() {
         Ok(()) => Ok(()),
@@ -163,6 +207,7 @@ fn put_soa(alloc: Global, session: &mut WriteZone<'_>, soa: &ReadRecord<'_>) -> 
     ensures ok { OnOk result ((is_soa soa.now ≡ true) × (session.new ≡ with_pending session.old (set_soa session.old.pending soa.now))) }
     ensures err { OnErr result (session.new ≡ session.old) }
     ensures refused { IfErr result (λ e. IfSome (update_fault_of e) (λ why. (is_soa soa.now ≡ false) × (why ≡ updates.NotSoaRecord))) }
+    ensures numbered { result ≡ Err VersionsExhausted → ⊥ }
 {
     let stored = stored(alloc, soa)?;
     let (_, _, ttl, data) = stored.into_parts();
@@ -179,6 +224,7 @@ fn put_soa(alloc: Global, session: &mut WriteZone<'_>, soa: &ReadRecord<'_>) -> 
 fn commit(session: &mut WriteZone<'_>) -> Result<(), Error>
     ensures ok { OnOk result (session.new ≡ committed session.old false) }
     ensures err { IfErr result (λ e. (session.new ≡ session.old) × (update_fault_of e ≡ None)) }
+    ensures exhausted { (result ≡ Err VersionsExhausted) ↔ (session.old.current.number ≡ 2 ^ 64 - 1) }
 {
     match session.commit() {
         Ok(()) => Ok(()),

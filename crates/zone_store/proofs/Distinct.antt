@@ -1,5 +1,5 @@
 -- Lists of data without equal ones, and a datum put last.
-use Rattle.std.proofs.Common.{◌≡◌, ℕ, ◌==◌, Bool, true, false, cond, ◌&&◌, ◌||◌, not, if◌then◌else◌, List, [], ◌∷◌, ◌++◌, length, refl, sym, ap, ◌∙◌, true≢false, Option, Some, None, min, Ordering, Less, Equal, Greater, is_eq}
+use Rattle.std.proofs.Common.{◌≡◌, ◌==◌, Bool, true, false, cond, ◌&&◌, ◌||◌, not, if◌then◌else◌, List, [], ◌∷◌, ◌++◌, length, refl, sym, ap, ◌∙◌, true≢false, Option, Some, Ordering, Less, Equal, Greater, IsTrue}
 use Rattle.std.specs.List.{list_any, list_all, filter}
 use Rattle.std.specs.Option.{option_map_or}
 use Rattle.std.specs.Ordering.{match_ordering}
@@ -12,11 +12,11 @@ use Rattle.std.proofs.lemmas.List.Folds.{list_any-append}
 use Rattle.dns_name.specs.Names.{fold}
 use Rattle.dns_rdata.specs.Records.{Field, Record, same_data}
 use Rattle.zone_types.specs.Version.{RecordSet, Key, Sets, Version, key_cmp, has_key, set_in, all_differ}
-use Rattle.zone_types.specs.Edits.{distinct, put_set, remove_set, with_sets, has_data}
+use Rattle.zone_types.specs.Edits.{distinct, put_set, remove_set, with_sets}
 use Rattle.zone_types.specs.Classify.{opened_with, lowest_ttl}
 use Rattle.zone_types.proofs.Folded.{same_data_equiv}
 use Rattle.zone_store.specs.Puts.{opened_by}
-use Rattle.zone_store.specs.Opening.{has_distinct_data, OpensAsFile, KeepsDistinct}
+use Rattle.zone_store.specs.Opening.{has_distinct_data}
 use Rattle.zone_store.proofs.Closing.{filter_none}
 
 not_true : (b : Bool) → not b ≡ true → b ≡ false
@@ -63,7 +63,7 @@ first_or true b h = absurd (true≢false h)
 first_or false b h = (refl, h)
 
 -- a datum that the list lacks may be put last
-differ_push : (xs : List (List Field)) (d : List Field) → all_differ xs ≡ true → list_any (same_data d) xs ≡ false → all_differ (xs ++ d ∷ []) ≡ true
+pub differ_push : (xs : List (List Field)) (d : List Field) → all_differ xs ≡ true → list_any (same_data d) xs ≡ false → all_differ (xs ++ d ∷ []) ≡ true
 differ_push [] d h n = refl
 differ_push (x ∷ xs) d h n =
     let parts = first_or (same_data d x) (list_any (same_data d) xs) n in
@@ -72,7 +72,7 @@ differ_push (x ∷ xs) d h n =
     list_any-append (same_data x) xs (d ∷ []) ∙ ap (λ b. b || (same_data x d || false)) apart ∙ or_false (same_data x d) ∙ same_data_equiv.symm x d ∙ parts.0 in
     both _ (all_differ (xs ++ d ∷ [])) (ap not last) (differ_push xs d (second_so (not (list_any (same_data x) xs)) (all_differ xs) h) parts.1)
 
-differ_pushed : (xs : List (List Field)) (d : List Field) → all_differ xs ≡ true → all_differ (pushed_new xs d) ≡ true
+pub differ_pushed : (xs : List (List Field)) (d : List Field) → all_differ xs ≡ true → all_differ (pushed_new xs d) ≡ true
 differ_pushed xs d h = by (list_any (same_data d) xs) refl
   where
     by : (b : Bool) → list_any (same_data d) xs ≡ b → all_differ (if b then xs else xs ++ d ∷ []) ≡ true
@@ -112,12 +112,14 @@ all_remove (e ∷ es) k h = by (has_key k e.0) (all_remove es k (second_so (diff
     by true later = second_so (differs e) (list_all differs es) h
     by false later = both (differs e) (list_all differs (remove_entry (has_key k) es)) (first_so (differs e) (list_all differs es) h) later
 
-pub opens_as_file : OpensAsFile
+-- where no set has equal data twice, an opening record is put as a zone file puts it
+pub opens_as_file : (v : Version) (r : Record) → IsTrue (has_distinct_data v) → opened_by v r ≡ opened_with v r
 opens_as_file v r h =
     ap (λ (l : List (List Field)). put_set v r.owner r.rtype (record { ttl = lowest_ttl r (set_in v.sets (fold r.owner, r.rtype)); items = l }))
     (sym (distinct-pushed (items_in (set_in v.sets (fold r.owner, r.rtype))) r.fields (data_differ v.sets (fold r.owner, r.rtype) h)))
 
-pub keeps_distinct : KeepsDistinct
+-- .. and no set gets equal data twice
+pub keeps_distinct : (v : Version) (r : Record) → IsTrue (has_distinct_data v) → IsTrue (has_distinct_data (opened_by v r))
 keeps_distinct v r h = by (length put.items == 0)
   where
     put : RecordSet

@@ -1,5 +1,5 @@
 -- What a write behind a borrow, and an insertion, make of a version.
-use Rattle.std.proofs.Common.{◌≡◌, ℕ, ◌==◌, Bool, true, false, cond, if◌then◌else◌, List, [], ◌∷◌, ◌++◌, length, refl, sym, ap, ◌∙◌, subst, true≢false, Ordering, Less, Equal, Greater, Option, Some, None, Result, Ok, Err, OnOk, OnErr, IfOk, is_some, is_eq, min, suc, eqb-true, arith}
+use Rattle.std.proofs.Common.{◌≡◌, ℕ, ◌==◌, Bool, true, false, cond, if◌then◌else◌, List, [], ◌∷◌, ◌++◌, length, refl, sym, ap, ◌∙◌, true≢false, Ordering, Less, Equal, Greater, Option, Some, None, Result, Ok, Err, OnOk, OnErr, IfOk, is_some, is_eq, min, suc, eqb-true, arith}
 use Rattle.std.specs.Option.{option_map_or}
 use Rattle.std.specs.List.{list_any}
 use Rattle.std.specs.Ordering.{match_ordering}
@@ -37,7 +37,7 @@ module _ {K X : Type 0} {R : K → K → Ordering} (o : IsTotalOrder R) where
 pub put_some : (v : Version) (owner : Name) (rtype : ℕ) (s : RecordSet) → (length s.items == 0) ≡ false → with_sets v (insert_entry key_cmp v.sets (fold owner, rtype) s) ≡ put_set v owner rtype s
 put_some v owner rtype s h = sym (ap (λ b. if b then remove_set v owner rtype else with_sets v (insert_entry key_cmp v.sets (fold owner, rtype) s)) h)
 
-suc_not : (n : ℕ) → (suc n == 0) ≡ false
+pub suc_not : (n : ℕ) → (suc n == 0) ≡ false
 suc_not n = by (suc n == 0) refl
   where
     by : (b : Bool) → (suc n == 0) ≡ b → b ≡ false

@@ -1,6 +1,6 @@
 -- The stop behind a key.
-use Rattle.std.proofs.Common.{◌≡◌, ℕ, Bool, true, false, cond, ◌&&◌, not, if◌then◌else◌, List, [], ◌∷◌, map, refl, sym, ap, ◌∙◌, Ordering, Less, Equal, Greater, is_gt, is_lt, Option, Some, None, option_map}
-use Rattle.std.specs.List.{find, filter}
+use Rattle.std.proofs.Common.{◌≡◌, Bool, true, false, cond, ◌&&◌, if◌then◌else◌, List, [], ◌∷◌, map, refl, sym, ap, ◌∙◌, Ordering, Less, Equal, Greater, is_gt, is_lt, Option, Some, None, option_map}
+use Rattle.std.specs.List.{find}
 use Rattle.std.specs.Ordering.{ordering_reverse}
 use Rattle.std.specs.Map.Iter.{TakesFirst}
 use Rattle.std.specs.BTreeMap.Range.{entries_between}
@@ -8,7 +8,7 @@ use Rattle.std.specs.declared.ops.Bound.TheVariants.{Excluded, Unbounded}
 use Rattle.dns_name.specs.Names.{Name, fold, same_name, spelling_cmp}
 use Rattle.std.specs.Ordering.{ordering_then, nat_cmp}
 use Rattle.zone_types.specs.Version.{RecordSet, Key, Sets, Version, key_cmp}
-use Rattle.zone_types.specs.Walk.{Stop, shown_owner, walk, next_stop}
+use Rattle.zone_types.specs.Walk.{Stop, shown_owner}
 use Rattle.zone_types.proofs.Folded.{fold-fold, key_total, same_name-Decides}
 use Rattle.zone_store.specs.Stops.{stop_of}
 

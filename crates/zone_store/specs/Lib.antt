@@ -4,3 +4,4 @@ pub mod Pending
 pub mod Stops
 pub mod Strays
 pub mod Opening
+pub mod Sound

@@ -1,16 +1,21 @@
 -- What single edits make of a version (RFC 2136, 3.4.2; RFC 2181, 5.2).
-use Rattle.std.specs.Prelude.{ℕ, Bool, List, ◌++◌, ◌∷◌, [], Option, Some, None, min, if◌then◌else◌}
+use Rattle.std.specs.Prelude.{ℕ, Bool, List, ◌++◌, ◌∷◌, [], Option, Some, None, min, not, ◌==◌, length, filter, if◌then◌else◌}
 use Rattle.std.specs.Option.{option_map_or}
 use Rattle.std.specs.BTreeMap.{insert_entry}
+use Rattle.std.specs.Map.{remove_entry}
 use Rattle.dns_name.specs.Codes.{type_soa}
-use Rattle.dns_rdata.specs.Records.{Field, Record}
-use Rattle.zone_types.specs.Version.{Version, RecordSet, Key, Sets, key_cmp, set_in, set_at, data_at}
+use Rattle.dns_rdata.specs.Records.{Field, Record, same_data}
+use Rattle.zone_types.specs.Version.{Version, RecordSet, Key, Sets, key_cmp, has_key, set_in, set_at, data_at}
 use Rattle.zone_types.specs.Edits.{put_set, has_data}
 use Rattle.zone_types.specs.Classify.{lowest_ttl}
 
 -- the version with a record's data last in its set, whose TTL is then the record's
 abbrev pub appended : Version → Record → Version
 appended v r = put_set v r.owner r.rtype (record { ttl = r.ttl; items = data_at v r.owner r.rtype ++ r.fields ∷ [] })
+
+-- the version without a record's data; what is left of their set takes the record's TTL
+abbrev pub without : Version → Record → Version
+without v r = put_set v r.owner r.rtype (record { ttl = r.ttl; items = filter (λ d. not (same_data r.fields d)) (data_at v r.owner r.rtype) })
 
 -- the version with a record that it opens with: equal data are passed over, and the set's TTL is the lowest of its records'
 abbrev pub opened_by : Version → Record → Version
@@ -37,3 +42,11 @@ last_set ttl fields (Some s) = record { ttl = ttl; items = s.items ++ fields ∷
 abbrev pub opening_set : ℕ → List Field → Bool → Option RecordSet → RecordSet
 opening_set ttl fields had None = record { ttl = ttl; items = fields ∷ [] }
 opening_set ttl fields had (Some s) = record { ttl = min s.ttl ttl; items = if had then s.items else s.items ++ fields ∷ [] }
+
+-- the set at a key without some data
+abbrev pub thinned : ℕ → List Field → Sets → Key → RecordSet
+thinned ttl fields sets k = record { ttl = ttl; items = filter (λ d. not (same_data fields d)) (items_at sets k) }
+
+-- the sets with that in its place, unless it is empty
+abbrev pub taken_out : ℕ → List Field → Key → Sets → Sets
+taken_out ttl fields k sets = if length (thinned ttl fields sets k).items == 0 then remove_entry (has_key k) sets else insert_entry key_cmp sets k (thinned ttl fields sets k)

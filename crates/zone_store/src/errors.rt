@@ -9,7 +9,7 @@ pub enum EditError {
     /// The owner is neither the apex nor below it.
     #[error("the owner isn't in the zone")]
     OutOfZone,
-    /// The set has equal data already.
+    /// The set has data equal to those that are added, or lacks those that are deleted.
     #[error("the data don't fit what the zone holds")]
     Incompatible,
     /// A second CNAME record of one name (RFC 2181, 10.1).
@@ -27,6 +27,27 @@ impl From<AllocError> for EditError {
 
     fn from(_error: AllocError) -> EditError {
         EditError::Memory
+    }
+}
+
+/// Why a record isn't put into a zone that opens. The zone is then as before.
+#[derive(Clone, Copy, Debug, PartialEq, Eq, Drop, Error)]
+pub enum InsertError {
+    /// The owner is neither the apex nor below it.
+    #[error("the owner isn't in the zone")]
+    OutOfZone,
+    #[error("out of memory")]
+    Memory,
+}
+
+impl From<AllocError> for InsertError {
+    ghost use Rattle.std.specs.Prelude.{◌≡◌};
+    ghost use Rattle.zone_store.specs.declared.errors.InsertError.{InsertError};
+
+    ghost from_gives = { λ e f. f ≡ InsertError.Memory };
+
+    fn from(_error: AllocError) -> InsertError {
+        InsertError::Memory
     }
 }
 

@@ -2,6 +2,7 @@
 #![tactic(auto)]
 
 mod apex;
+mod builder;
 mod errors;
 mod laws;
 mod read;
@@ -13,7 +14,8 @@ mod walk;
 mod write;
 
 pub use apex::ZoneApex;
-pub use errors::{CommitError, EditError};
+pub use builder::ZoneBuilder;
+pub use errors::{CommitError, EditError, InsertError};
 pub use read::ReadZone;
 pub use sets::RecordSet;
 pub use version::WalkItem;

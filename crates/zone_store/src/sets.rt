@@ -1,5 +1,5 @@
 // A record set, and where it stands in a version.
-ghost use Rattle.std.specs.Prelude.{◌≡◌, ◌++◌, ◌∷◌, [], ◌==◌, ◌&&◌, OnOk, OnErr, IfOk, IfSome, map, min, if◌then◌else◌};
+ghost use Rattle.std.specs.Prelude.{◌≡◌, ◌++◌, ◌∷◌, [], ◌==◌, ◌&&◌, OnOk, OnErr, IfOk, IfSome, map, min, not, filter, if◌then◌else◌};
 ghost use Rattle.std.specs.List.{list_any};
 ghost use Rattle.dns_name.specs.Names.{fold};
 ghost use Rattle.dns_rdata.specs.Records.{same_data};
@@ -66,6 +66,14 @@ impl RecordSet {
         is_among(&self.items, item)
     }
 
+    /// Whether data other than these stand in the set.
+    #[tactic(auto, using(crate::proofs::Equality::list_any_map))]
+    pub(crate) fn has_others(&self, item: &StoredRecordData) -> bool
+        ensures { result ≡ list_any (λ d. not (same_data (data_fields item.now) d)) self.now.items }
+    {
+        has_others(&self.items, item)
+    }
+
     /// Puts the data last, and this TTL in place of the set's.
     pub(crate) fn append(&mut self, ttl: Ttl, item: StoredRecordData) -> Result<(), AllocError>
         ensures ok { OnOk result (self.new ≡ record { ttl = ttl; items = self.old.items ++ data_fields item ∷ [] }) }
@@ -74,6 +82,15 @@ impl RecordSet {
         self.items.push(item)?;
         self.ttl = ttl;
         Ok(())
+    }
+
+    /// Takes the data equal to these out, and puts this TTL in place of the set's.
+    #[tactic(auto, using(crate::proofs::Equality::filter_map))]
+    pub(crate) fn remove(&mut self, ttl: Ttl, item: &StoredRecordData)
+        ensures { self.new ≡ record { ttl = ttl; items = filter (λ d. not (same_data (data_fields item.now) d)) self.old.items } }
+    {
+        drop_equal(&mut self.items, item);
+        self.ttl = ttl;
     }
 
     /// Puts the lower of this TTL and the set's, and the data last, unless the set had equal data.
@@ -101,6 +118,20 @@ fn is_among(items: &[StoredRecordData], item: &StoredRecordData) -> bool
     ensures { result ≡ list_any (λ kept. same_data (data_fields item.now) (data_fields kept)) items.now }
 {
     items.iter().any(|kept| is_same(item, kept))
+}
+
+/// Whether some of the data aren't equal to the others.
+fn has_others(items: &[StoredRecordData], item: &StoredRecordData) -> bool
+    ensures { result ≡ list_any (λ kept. not (same_data (data_fields item.now) (data_fields kept))) items.now }
+{
+    items.iter().any(|kept| !is_same(item, kept))
+}
+
+/// Takes the data out that are equal to the others.
+fn drop_equal(items: &mut Vec<StoredRecordData>, item: &StoredRecordData)
+    ensures { items.new.items ≡ filter (λ kept. not (same_data (data_fields item.now) (data_fields kept))) items.old.items }
+{
+    items.retain(|kept| !is_same(item, kept));
 }
 
 /// Whether two data are equal.

@@ -1,16 +1,17 @@
 // One version of a zone: look-ups, the walk, and edits.
-ghost use Rattle.std.specs.Prelude.{◌≡◌, not, ◌++◌, ◌∷◌, [], Some, None, Ok, Err, IfOk, IfErr, IfSome, OnOk, OnErr, IfNone, IsSomeAnd, is_some, option_copied, option_map, map, find, filter};
+ghost use Rattle.std.specs.Prelude.{◌≡◌, not, IsSome, ◌++◌, ◌∷◌, [], Some, None, Ok, Err, IfOk, IfErr, IfSome, OnOk, OnErr, IfNone, IsSomeAnd, is_some, option_copied, option_map, map, find, filter};
 ghost use Rattle.std.specs.List.{list_any};
 ghost use Rattle.dns_name.specs.Names.{fold, under};
 ghost use Rattle.zone_types.specs.Version.{key_cmp, set_in, set_at, below_apex, is_cut};
 ghost use Rattle.zone_types.specs.Answer.{highest_cut};
 ghost use Rattle.zone_types.specs.Walk.{next_stop};
 ghost use Rattle.zone_store.specs.Stops.{stop_of, first_stop};
-ghost use Rattle.zone_types.specs.Edits.{add, with_sets};
+ghost use Rattle.zone_types.specs.Edits.{add, delete, with_sets};
 ghost use Rattle.zone_types.specs.Edits as edits;
 ghost use Rattle.zone_store.specs.Causes.{refusal_of};
 ghost use Rattle.zone_store.specs.Strays.{is_stray_at};
-ghost use Rattle.zone_store.specs.Puts.{appended, opened_by, with_soa, items_at, put_with, last_set, opening_set};
+ghost use Rattle.zone_store.specs.Puts.{appended, without, opened_by, with_soa, items_at, put_with, last_set, opening_set, thinned, taken_out};
+ghost use Rattle.std.specs.BTreeMap.{insert_entry};
 ghost use Rattle.std.specs.Map.{keys_of};
 ghost use Rattle.std.specs.Map.Iter.{deref_pair};
 ghost use Rattle.std.specs.Ordering.{is_lt};
@@ -250,6 +251,20 @@ impl ZoneVersion {
         }
     }
 
+    /// What refuses the deletion of a record.
+    pub(crate) fn deletion_refusal(&self, deleted: &StoredRecord) -> Option<EditError>
+        ensures refused { IfSome result (λ e. IsSomeAnd (refusal_of e) (λ why. delete self.now deleted.now ≡ Err why)) }
+        ensures accepted { IfNone result (delete self.now deleted.now ≡ Ok (without self.now deleted.now)) }
+    {
+        if self.is_outside(deleted) {
+            Some(EditError::OutOfZone)
+        } else if !self.has_data(deleted) {
+            Some(EditError::Incompatible)
+        } else {
+            None
+        }
+    }
+
     /// Puts a record's data last in its set, whose TTL is then the record's.
     pub(crate) fn append(&mut self, alloc: Global, added: StoredRecord) -> Result<(), AllocError>
         ensures ok { OnOk result (self.new ≡ appended self.old added) }
@@ -258,6 +273,15 @@ impl ZoneVersion {
         let key = SetKey::new(added.owner(), added.rtype());
         let ttl = added.ttl();
         put_last(&mut self.sets, alloc, key, ttl, added.into_data())
+    }
+
+    /// Takes a record's data out of its set, whose TTL is then the record's; an emptied set goes.
+    #[tactic(auto, using(crate::proofs::Removing::without_is))]
+    pub(crate) fn remove(&mut self, deleted: &StoredRecord)
+        ensures { self.new ≡ without self.old deleted.now }
+    {
+        let key = SetKey::new(deleted.owner(), deleted.rtype());
+        take_out(&mut self.sets, &key, deleted.ttl(), deleted.data());
     }
 
     /// Puts a record that the zone opens with: equal data are passed over, and the set's TTL is the lowest of its records'.
@@ -314,6 +338,17 @@ impl ZoneVersion {
         drop_strays(self, &mut copy.sets);
         Ok(copy)
     }
+
+    /// The same of a version that isn't needed otherwise, which is copied only where a set goes.
+    #[tactic(auto, using(crate::proofs::Closing::closed_is))]
+    pub(crate) fn into_closed(self) -> Result<ZoneVersion, AllocError>
+        ensures { IfOk result (λ v. v ≡ edits.close self) }
+    {
+        if self.has_stray() {
+            return self.closed();
+        }
+        Ok(self)
+    }
 }
 
 /// Whether a commit of the version would leave one of the sets out.
@@ -347,6 +382,37 @@ fn put_last(
             sets.insert(key, RecordSet::of_one(alloc, ttl, item)?)?;
             Ok(())
         }
+    }
+}
+
+/// Whether data other than these stand in the set at a key.
+fn has_others(sets: &BTreeMap<SetKey, RecordSet>, key: &SetKey, item: &StoredRecordData) -> bool
+    ensures { result ≡ list_any (λ d. not (same_data (data_fields item.now) d)) (items_at sets.now.entries key.now) }
+{
+    match sets.get(key) {
+        Some(set) => set.has_others(item),
+        None => false,
+    }
+}
+
+/// Takes the data equal to these out of a set that stands at a key, and puts this TTL in place of the set's.
+fn thin_out(sets: &mut BTreeMap<SetKey, RecordSet>, key: &SetKey, ttl: Ttl, item: &StoredRecordData)
+    ensures { IsSome (set_in sets.old.entries key.now) → sets.new.entries ≡ insert_entry key_cmp sets.old.entries key.now (thinned ttl (data_fields item.now) sets.old.entries key.now) }
+{
+    if let Some(set) = sets.get_mut(key) {
+        set.remove(ttl, item);
+    }
+}
+
+/// Takes the data equal to these out of the set at a key, and puts this TTL in place of the set's; an emptied set goes.
+#[tactic(auto, using(crate::proofs::Removing::some_others, crate::proofs::Removing::no_others, crate::proofs::Removing::others_some))]
+fn take_out(sets: &mut BTreeMap<SetKey, RecordSet>, key: &SetKey, ttl: Ttl, item: &StoredRecordData)
+    ensures { sets.new.entries ≡ taken_out ttl (data_fields item.now) key.now sets.old.entries }
+{
+    if has_others(sets, key, item) {
+        thin_out(sets, key, ttl, item);
+    } else {
+        let _ = sets.remove(key);
     }
 }
 

@@ -1,11 +1,10 @@
 // A session that writes a zone's next versions.
 ghost use Rattle.std.specs.Prelude.{◌≡◌, ◌↔◌, ◌-◌, ◌^◌, [], Ok, Err, IfOk, IfErr, IfSome, OnOk, OnErr, IsOk, IsTrue, false};
-ghost use Rattle.dns_name.specs.Names.{under};
-ghost use Rattle.zone_types.specs.Edits.{add, with_sets};
+ghost use Rattle.zone_types.specs.Edits.{add, delete, with_sets};
 ghost use Rattle.zone_types.specs.Edits as edits;
 ghost use Rattle.zone_types.specs.Session.{opened_session, with_pending, committed, rolled_back};
 ghost use Rattle.zone_store.specs.Causes.{refusal_of};
-ghost use Rattle.zone_store.specs.Puts.{appended, opened_by, with_soa};
+ghost use Rattle.zone_store.specs.Puts.{appended, without, with_soa};
 ghost use Rattle.dns_rdata.specs.DataFields.{soa_fields};
 ghost use Rattle.dns_rdata.specs.ZoneData.{data_fields};
 ghost use Rattle.std.specs.Arc.{arc_value};
@@ -111,22 +110,21 @@ impl<'z> WriteZone<'z> {
         Ok(appended?)
     }
 
-    /// Puts a record that the zone opens with: equal data are passed over, and the set's TTL is the lowest of its records'. `OutOfZone` and
-    /// `Memory` alone refuse it.
-    pub fn insert_opening(&mut self, added: StoredRecord) -> Result<(), EditError>
-        ensures ok { OnOk result (self.new ≡ with_pending self.old (opened_by self.old.pending added)) }
-        ensures inside { OnOk result (IsTrue (under added.owner self.old.pending.apex)) }
-        ensures refused { IfErr result (λ e. IfSome (refusal_of e) (λ why. (why ≡ edits.OutOfZone) × (under added.owner self.old.pending.apex ≡ false))) }
+    /// Deletes a record: the data equal to its own, whatever the TTL. What is left of the set takes the record's TTL, and an emptied set goes.
+    /// The class isn't looked at. Refused are, tested in this order, an owner outside the zone and data that the set lacks (`Incompatible`).
+    pub fn delete_record(&mut self, deleted: &StoredRecord) -> Result<(), EditError>
+        ensures ok { OnOk result (delete self.old.pending deleted.now ≡ Ok self.new.pending) }
+        ensures refused { IfErr result (λ e. IfSome (refusal_of e) (λ why. delete self.old.pending deleted.now ≡ Err why)) }
+        ensures else_same { self.new ≡ with_pending self.old self.new.pending }
         ensures err { OnErr result (self.new ≡ self.old) }
     {
-        if self.shown().is_outside(&added) {
-            return Err(EditError::OutOfZone);
+        if let Some(error) = self.shown().deletion_refusal(deleted) {
+            return Err(error);
         }
-        let alloc = self.alloc;
         let mut pending = self.take_pending()?;
-        let put = open_with(&mut pending, alloc, added);
+        let removed = remove(&mut pending, deleted);
         self.pending = Some(pending);
-        Ok(put?)
+        Ok(removed?)
     }
 
     /// Makes the apex SOA set this one record.
@@ -224,17 +222,14 @@ fn append(
     version.append(alloc, added)
 }
 
-/// Puts a record that the zone opens with.
-fn open_with(
-    pending: &mut Arc<ZoneVersion>,
-    alloc: Global,
-    added: StoredRecord,
-) -> Result<(), AllocError>
-    ensures ok { OnOk result (arc_value pending.new ≡ opened_by (arc_value pending.old) added) }
+/// Takes a record's data out of its set.
+fn remove(pending: &mut Arc<ZoneVersion>, deleted: &StoredRecord) -> Result<(), AllocError>
+    ensures ok { OnOk result (arc_value pending.new ≡ without (arc_value pending.old) deleted.now) }
     ensures err { OnErr result (arc_value pending.new ≡ arc_value pending.old) }
 {
     let version = Arc::make_mut(pending)?;
-    version.open_with(alloc, added)
+    version.remove(deleted);
+    Ok(())
 }
 
 /// Makes the apex SOA set one record.

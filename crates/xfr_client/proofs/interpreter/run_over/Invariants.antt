@@ -1,4 +1,4 @@
-use Rattle.std.proofs.Common.{◌≡◌, ℕ, length, is_some}
+use Rattle.std.proofs.Common.{◌≡◌, length, is_some}
 use Rattle.zone_types.specs.TransferText.{Axfr}
 use Rattle.zone_types.specs.Read.{first_fault}
 use Rattle.zone_types.specs.Machine.{run_items}

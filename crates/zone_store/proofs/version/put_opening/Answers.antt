@@ -1,7 +1,7 @@
-use Rattle.std.proofs.Common.{ap, sym, ◌∙◌}
+use Rattle.std.proofs.Common.{◌∙◌}
 use Rattle.dns_rdata.specs.ZoneData.{data_fields}
 use Rattle.zone_store.specs.Puts.{opening_set}
-use Rattle.zone_store.proofs.Putting.{written, unwritten, inserted, on_ok, on_err}
+use Rattle.zone_store.proofs.Putting.{written, unwritten, on_ok, on_err}
 use Rattle.zone_store.proofs.version.put_opening.Goals as goal
 
 -- The set that stood is written anew, or stays.

@@ -1,4 +1,4 @@
-use Rattle.std.proofs.Common.{◌≡◌, ◌∷◌, true, false, Option, Some, None, Result, Ok, Err, subst, sym, ap, ◌∙◌}
+use Rattle.std.proofs.Common.{◌≡◌, ◌∷◌, true, false, Option, Some, None, Result, Err, subst, sym, ap, ◌∙◌}
 use Rattle.dns_name.specs.declared.octets.ParseError.{ParseError}
 use Rattle.dns_rdata.specs.Records.{Record}
 use Rattle.zone_types.specs.Read.{Good}

@@ -1,4 +1,4 @@
-use Rattle.std.proofs.Common.{◌≡◌, not, ap, sym, ◌∙◌}
+use Rattle.std.proofs.Common.{◌≡◌, not, ap, ◌∙◌}
 use Rattle.std.specs.List.{filter}
 use Rattle.zone_types.specs.Version.{Key, RecordSet, Version}
 use Rattle.zone_types.specs.Edits.{with_sets}

@@ -1,4 +1,4 @@
-use Rattle.std.proofs.Common.{◌≡◌, List, ap, sym, ◌∙◌}
+use Rattle.std.proofs.Common.{List, ap, ◌∙◌}
 use Rattle.std.specs.List.{list_any}
 use Rattle.dns_name.specs.Names.{fold}
 use Rattle.dns_rdata.specs.Records.{Field, same_data}
