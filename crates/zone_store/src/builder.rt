@@ -1,5 +1,6 @@
 // How a zone opens.
-ghost use Rattle.std.specs.Prelude.{◌≡◌, ◌↔◌, [], false, Err, OnOk, OnErr, IfOk};
+ghost use Rattle.std.specs.Prelude.{◌≡◌, ◌↔◌, [], false, Err, OnOk, OnErr, IfOk, is_some};
+ghost use Rattle.zone_types.specs.Version.{set_at};
 ghost use Rattle.dns_name.specs.Names.{under};
 ghost use Rattle.zone_types.specs.Classify.{opened_with};
 ghost use Rattle.zone_types.specs.Edits as edits;
@@ -8,7 +9,7 @@ use crate::apex::ZoneApex;
 use crate::errors::InsertError;
 use crate::read::ReadZone;
 use crate::version::ZoneVersion;
-use dns_name::{Class, StoredName};
+use dns_name::{Class, Labelled, Rtype, StoredName};
 use dns_rdata::StoredRecord;
 use std::alloc::{AllocError, Global};
 use std::marker::Model;
@@ -44,6 +45,27 @@ impl ZoneBuilder {
             alloc,
             version: ZoneVersion::empty(alloc, apex, class),
         }
+    }
+
+    /// The name of the apex, as it was given.
+    pub fn apex(&self) -> &StoredName
+        ensures { result.now ≡ self.now.apex }
+    {
+        self.version.apex()
+    }
+
+    /// The class.
+    pub fn class(&self) -> Class
+        ensures { result ≡ self.now.class }
+    {
+        self.version.class()
+    }
+
+    /// Whether an owner has a set of a type.
+    pub fn has_set<N: Labelled>(&self, owner: &N, rtype: Rtype) -> bool
+        ensures { result ≡ is_some (set_at self.now (N.labels owner.now) rtype) }
+    {
+        self.version.set_at(owner, rtype).is_some()
     }
 
     /// Puts a record: equal data are passed over, and the set's TTL is the lowest of its records' (RFC 2181, 5). The class isn't looked at.
