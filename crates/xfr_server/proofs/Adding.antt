@@ -27,13 +27,13 @@ adds_one r old new (Ok u) added = (
   added.2 ∙ ap (λ octets. building octets old.limit) (sym (with_more old.octets r [] ∙ with_none (with_answer old.octets r))),
 )
 adds_one r old new (Err ShortBuf) added = room_short old.limit old.octets r [] added.0
-adds_one r old new (Err CountOverflow) added = room_full old.limit old.octets r [] added.0
+adds_one r old new (Err CountOverflow) added = room_full old.limit old.octets r [] added.1
 adds_one r old new (Err Memory) added = tt
 
 -- a refusal of the first of some records refuses all
 pub refused_first : (r : Record) (rs : List Record) (old new after : Building) (e : PushError) → Adds {A = Unit {0}} 6 (record_wire r) old (Err e) new → AddsAnswers {A = Unit {0}} (r ∷ rs) old (Err e) after
 refused_first r rs old new after ShortBuf added = room_short old.limit old.octets r rs added.0
-refused_first r rs old new after CountOverflow added = room_full old.limit old.octets r rs added.0
+refused_first r rs old new after CountOverflow added = room_full old.limit old.octets r rs added.1
 refused_first r rs old new after Memory added = tt
 
 -- so does a refusal of a front

@@ -75,7 +75,7 @@ puts the_key state next message new (Err CountOverflow) adds goes kept s signing
     let added = adds s.request_mac signs.macs signs.stands in
     let m = message.octets in
     let P : ServerSequence _ → Type 0 = λ q. Signs the_key (record state { sequence = q }) s signing prior in
-    (has_no_count (fits 65535 (signed_reply s prior m)) (header_number 10 m) added.0, subst P (sym kept) signs)
+    (has_no_count (fits 65535 (signed_reply s prior m)) (header_number 10 m) added.1, subst P (sym kept) signs)
 puts the_key state next message new (Err Memory) adds goes kept s signing prior signs limit = tt
 
 -- ---- a reply, or the truncated one in its place

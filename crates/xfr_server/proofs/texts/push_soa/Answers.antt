@@ -22,4 +22,4 @@ returns c =
     let made : c.new.result ≡ record_with v.apex type_soa v.class c.in-Some.found.now.ttl (data_fields c.in-Some-first.rdata.now) =
     c.new.ensures ∙ rw (c.to_key_name-owner.ensures.value, c.apex_name-2.ensures, c.class.ensures, c.ttl.ensures) refl in
     pushed_soa data_fields c.items.result.now c.in-Some-first.rdata.now v c.in-Some.found.now c.new.result c.args.answer.now c.push.new.self c.push.result
-    found c.in-Some-first.ensures.value c.items.ensures made c.push.ensures
+    found c.in-Some-first.ensures.value c.items.ensures made c.push.ensures.adds
