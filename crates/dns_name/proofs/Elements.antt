@@ -44,7 +44,7 @@ pub octets_fit : (m : List ℕ) → ((k : ℕ) → get_or m k 0 < 256) → list_
 octets_fit [] h = refl
 octets_fit (c ∷ m) h = rw (lt-ltb c 256 (h 0), octets_fit m (λ k. h (suc k))) refl
 
-split_fits : (i : ℕ) (m : List ℕ) → list_all (λ c. nat_lt c 256) m ≡ true
+pub split_fits : (i : ℕ) (m : List ℕ) → list_all (λ c. nat_lt c 256) m ≡ true
     → (list_all (λ c. nat_lt c 256) (take i m) ≡ true) × (list_all (λ c. nat_lt c 256) (drop i m) ≡ true)
 split_fits i m h =
     let whole = ap (list_all (λ c. nat_lt c 256)) (take-append-drop i m) ∙ h in

@@ -45,6 +45,24 @@ impl<'a> Label<'a> {
         Label { octets }
     }
 
+    /// The root label, which has no octets.
+    pub fn root() -> Label<'a>
+        ensures { result ≡ [] }
+    {
+        Label {
+            octets: b"".as_slice(),
+        }
+    }
+
+    /// The label of a wildcard name (RFC 4592, 2.1.1).
+    pub fn wildcard() -> Label<'a>
+        ensures { result ≡ 42 ∷ [] }
+    {
+        Label {
+            octets: b"*".as_slice(),
+        }
+    }
+
     /// The octets.
     pub fn as_slice(&self) -> &'a [u8]
         ensures value { result.now ≡ self.now }
@@ -66,15 +84,15 @@ impl<'a> Label<'a> {
     {
         self.octets == b"*".as_slice()
     }
-}
 
-/// The octets of the label with its ASCII letters in lower case.
-fn folded(label: &Label<'_>) -> NameOctets
-    ensures { result ≡ str_to_ascii_lowercase label.now }
-{
-    let mut octets = NameOctets::from_slice(label.as_slice());
-    octets.make_ascii_lowercase();
-    octets
+    /// The octets with the ASCII letters in lower case (RFC 4343, 3).
+    pub fn to_canonical(&self) -> NameOctets
+        ensures { result ≡ str_to_ascii_lowercase self.now }
+    {
+        let mut octets = NameOctets::from_slice(self.octets);
+        octets.make_ascii_lowercase();
+        octets
+    }
 }
 
 impl<'a> PartialEq for Label<'a> {
@@ -83,7 +101,7 @@ impl<'a> PartialEq for Label<'a> {
     ghost laws = { same_label_per };
 
     fn eq(&self, other: &Self) -> bool {
-        folded(self).as_slice() == folded(other).as_slice()
+        self.to_canonical().as_slice() == other.to_canonical().as_slice()
     }
 }
 
@@ -111,7 +129,9 @@ impl<'a> Ord for Label<'a> {
     ghost matches_eq = { label_ties };
 
     fn cmp(&self, other: &Self) -> Ordering {
-        folded(self).as_slice().cmp(folded(other).as_slice())
+        self.to_canonical()
+            .as_slice()
+            .cmp(other.to_canonical().as_slice())
     }
 }
 
@@ -121,6 +141,6 @@ impl<'a> Hash for Label<'a> {
     ghost respects_eq = { same_label_hash };
 
     fn hash<H: Hasher>(&self, state: &mut H) {
-        folded(self).as_slice().hash(state);
+        self.to_canonical().as_slice().hash(state);
     }
 }

@@ -4,8 +4,9 @@ ghost use Rattle.std.specs.Bool.{OnTrue};
 ghost use Rattle.dns_name.specs.Names.{Name as LabelList, is_name, name_wire, fold, labels_in};
 
 use crate::label::Label;
+use crate::labels::Labels;
 use crate::name_octets::NameOctets;
-use crate::parsed::decode;
+use crate::parsed::{ParsedName, decode};
 use bytes::Bytes;
 use std::alloc::{AllocError, Global};
 use std::convert::AsSlice;
@@ -114,9 +115,7 @@ impl<Octs: AsSlice<u8>> Name<Octs> {
         ensures value { result ≡ self.now }
         ensures few { length result ≤ 127 }
     {
-        Labels {
-            rest: self.borrowed(),
-        }
+        Labels::of(ParsedName::whole(self.as_slice()))
     }
 }
 
@@ -222,35 +221,5 @@ impl Clone for Name<Bytes> {
         Ok(Name {
             octets: self.octets.clone()?,
         })
-    }
-}
-
-/// The labels of a name from the left.
-#[derive(Drop)]
-pub struct Labels<'a> {
-    rest: NameRef<'a>,
-}
-
-impl<'a> Model for Labels<'a> {
-    ghost use Rattle.std.specs.Prelude.{ℕ, List};
-
-    ghost Value = { List (List ℕ) };
-
-    ghost view = { λ i. i.rest };
-}
-
-impl<'a> Iterator for Labels<'a> {
-    type Item = Label<'a>;
-
-    ghost use Rattle.std.specs.Iterator.{YieldsFirst, item_count};
-
-    ghost next_gives = { YieldsFirst (λ i. i) };
-
-    ghost remaining = { item_count (λ i. i) };
-
-    fn next(&mut self) -> Option<Label<'a>> {
-        let (label, rest) = self.rest.split_first()?;
-        self.rest = rest;
-        Some(label)
     }
 }

@@ -1,5 +1,5 @@
 // Octets of a name in place.
-ghost use Rattle.std.specs.Prelude.{◌≡◌, ◌≤◌, ◌+◌, ◌++◌, ◌∷◌, [], length, map};
+ghost use Rattle.std.specs.Prelude.{◌≡◌, ◌≤◌, ◌<◌, ◌+◌, ◌++◌, ◌∷◌, [], length, map};
 ghost use Rattle.std.specs.Char.{to_ascii_lowercase};
 ghost use Rattle.std.specs.Prelude.{if◌then◌else◌, nat_le, OnErr, OnOk};
 
@@ -85,8 +85,13 @@ impl NameOctets {
     pub fn append_label(&mut self, label: &[u8]) -> Result<(), NameError>
         requires { length label.now ≤ 63 }
         ensures ok { OnOk result (self.new ≡ self.old ++ length label.now ∷ label.now) }
+        ensures fits { OnOk result (length self.old + length label.now < 255) }
+        ensures err { OnErr result (self.new ≡ self.old) }
         ensures full { OnErr result (255 ≤ length self.old + length label.now) }
     {
+        if label.len() >= 255 - self.len {
+            return Err(NameError);
+        }
         self.append(&[label.len() as u8])?;
         self.append(label)
     }

@@ -71,3 +71,37 @@ impl<'m> PartialEq for ParsedName<'m> {
 impl<'m> Eq for ParsedName<'m> {
     ghost laws = { same_name_equiv };
 }
+
+impl<'m> PartialOrd for ParsedName<'m> {
+    ghost partial_cmp = { λ a b. Some (canonical_cmp a b) };
+
+    ghost laws = { canonical_po };
+
+    fn partial_cmp(&self, other: &Self) -> Option<Ordering> {
+        Some(self.name_cmp(other))
+    }
+}
+
+impl<'m> Ord for ParsedName<'m> {
+    ghost cmp = { canonical_cmp };
+
+    ghost total = { canonical_total };
+
+    ghost matches_partial_cmp = { λ a b. refl };
+
+    ghost matches_eq = { canonical_ties };
+
+    fn cmp(&self, other: &Self) -> Ordering {
+        self.name_cmp(other)
+    }
+}
+
+impl<'m> Hash for ParsedName<'m> {
+    ghost hash_input = { name_hash };
+
+    ghost respects_eq = { same_hash };
+
+    fn hash<H: Hasher>(&self, state: &mut H) {
+        self.to_canonical().as_slice().hash(state);
+    }
+}

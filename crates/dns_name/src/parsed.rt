@@ -1,8 +1,11 @@
 // Names within messages, compressed ones too (RFC 1035, 4.1.4).
-ghost use Rattle.std.specs.Prelude.{◌≡◌, ◌∷◌, [], IfOk, OnErr, Some, None, ◌==◌, if◌then◌else◌};
+ghost use Rattle.std.specs.Prelude.{◌≡◌, ◌∷◌, [], IfOk, OnErr, IsTrue, MatchOption, Some, None, ◌==◌, if◌then◌else◌};
+ghost use Rattle.dns_name.specs.Names.{is_name, name_wire, labels_in};
 ghost use Rattle.dns_name.specs.Compression.{name_at, element_at};
 ghost use Rattle.dns_name.specs.Pieces.{element_of, IsWithin};
 
+use crate::label::Label;
+use crate::labels::Labels;
 use crate::name::{KeyName, StoredName};
 use crate::name_octets::NameOctets;
 use crate::octets::ParseError;
@@ -120,6 +123,37 @@ impl<'m> ParsedName<'m> {
         Ok((ParsedName { message, pos }, after))
     }
 
+    /// The name that the octets spell, all of them and without a pointer.
+    pub fn whole(octets: &'m [u8]) -> ParsedName<'m>
+        requires name { IsTrue (is_name (labels_in octets.now)) }
+        requires wire { name_wire (labels_in octets.now) ≡ octets.now }
+        ensures { result ≡ labels_in octets.now }
+    {
+        ParsedName {
+            message: octets,
+            pos: 0,
+        }
+    }
+
+    /// The first label and the name behind it, if this isn't the root.
+    pub fn split_first(&self) -> Option<(Label<'m>, ParsedName<'m>)>
+        ensures { MatchOption result (self.now ≡ []) (λ r. self.now ≡ r.0 ∷ r.1) }
+    {
+        let message = self.message;
+        let mut place = self.pos;
+        'pieces: loop {
+            match piece_at(message, place) {
+                Ok(Piece::Pointer(offset)) => place = offset,
+                Ok(Piece::Label(octets)) => {
+                    let pos = place + 1 + octets.len();
+                    return Some((Label::of(octets), ParsedName { message, pos }));
+                }
+                Ok(Piece::Root) => return None,
+                Err(_) => unreachable!(),
+            }
+        }
+    }
+
     /// The same name again.
     pub fn duplicate(&self) -> ParsedName<'m>
         ensures { result ≡ self.now }
@@ -140,6 +174,10 @@ impl<'m> ParsedName<'m> {
 
 impl<'m> Labelled for ParsedName<'m> {
     ghost labels = { λ n. n };
+
+    fn iter_labels(&self) -> Labels<'_> {
+        Labels::of(self.duplicate())
+    }
 
     fn to_key_name(&self) -> KeyName {
         match decode(self.message, self.pos) {

@@ -100,9 +100,22 @@ fn pointers_that_lead_nowhere(rt: HostRuntime) {
 fn flattened(rt: HostRuntime) -> Result<(), ParseError> {
     let (question, _) = ParsedName::parse(MESSAGE, 12)?;
     let (server, _) = ParsedName::parse(MESSAGE, 27)?;
-    assert!(rt; question != server);
+    assert!(rt; question < server);
+    assert_eq!(rt; hash_of(&question), hash_of(&question.to_canonical()));
     let flat = server.flatten(rt.alloc()).map_err(|_| ParseError)?;
     assert_eq!(rt; flat.as_slice(), NS_EXAMPLE);
+    Ok(())
+}
+
+/// The labels of `ns.example`, the second one behind a pointer.
+#[test]
+fn labels_in_a_message(rt: HostRuntime) -> Result<(), ParseError> {
+    let (server, _) = ParsedName::parse(MESSAGE, 27)?;
+    let mut labels = server.iter_labels();
+    let (first, second) = (labels.next(), labels.next());
+    assert!(rt; first.is_some_and(|l| l.as_slice() == b"ns".as_slice()));
+    assert!(rt; second.is_some_and(|l| l.as_slice() == b"example".as_slice()));
+    assert!(rt; labels.next().is_none());
     Ok(())
 }
 
@@ -186,6 +199,8 @@ fn labels(rt: HostRuntime) -> Result<(), ParseError> {
     let lower = Label::from_slice(b"ns").map_err(|_| ParseError)?;
     assert!(rt; upper == lower && !lower.is_wildcard() && !lower.is_root());
     assert_eq!(rt; hash_of(&upper), hash_of(&lower));
+    assert_eq!(rt; upper.to_canonical().as_slice(), b"ns".as_slice());
+    assert!(rt; Label::root().is_root() && Label::wildcard().is_wildcard());
     Ok(())
 }
 

@@ -2,6 +2,7 @@
 ghost use Rattle.std.specs.Prelude.{◌≡◌, ◌++◌};
 
 use crate::compare::{compare_spelling, is_spelled_alike, is_spelled_under};
+use crate::labels::Labels;
 use crate::name::{KeyName, Name, StoredName};
 use std::alloc::{AllocError, Global};
 use std::cmp::Ordering;
@@ -18,6 +19,10 @@ pub trait Labelled {
     fn to_key_name(&self) -> KeyName
         ensures value { result ≡ labels self.now }
         ensures name { IsTrue (is_name (labels self.now)) };
+
+    /// The labels from the left, without the root label.
+    fn iter_labels(&self) -> Labels<'_>
+        ensures { result ≡ labels self.now };
 
     /// The octets of the wire form.
     fn compose_len(&self) -> u16
@@ -96,6 +101,10 @@ impl<Octs: AsSlice<u8>> Labelled for Name<Octs> {
         Name::in_place(self)
     }
 
+    fn iter_labels(&self) -> Labels<'_> {
+        Name::iter_labels(self)
+    }
+
     fn compose_len(&self) -> u16 {
         self.as_slice().len() as u16
     }
@@ -112,6 +121,10 @@ impl<N: Labelled> Labelled for &N {
 
     fn to_key_name(&self) -> KeyName {
         (**self).to_key_name()
+    }
+
+    fn iter_labels(&self) -> Labels<'_> {
+        (**self).iter_labels()
     }
 }
 

@@ -1,16 +1,16 @@
 -- Questions added one after another.
-use Rattle.std.proofs.Common.{◌≡◌, ℕ, ◌+◌, ◌-◌, ◌<◌, ◌≤◌, ◌^◌, true, false, List, [], ◌∷◌, ◌++◌, length, take, drop, refl, sym, ap, ◌∙◌, arith, subst}
-use Rattle.std.specs.Prelude.{slice_range, zero, suc, Option, None, Some, Ok, Err, flat_map, filter_map, replicate}
+use Rattle.std.proofs.Common.{◌≡◌, ℕ, ◌+◌, ◌-◌, ◌<◌, ◌≤◌, ◌^◌, true, false, List, [], ◌∷◌, ◌++◌, length, take, drop, sym, ap, ◌∙◌, arith, subst}
+use Rattle.std.specs.Prelude.{slice_range, zero, suc, Option, None, Some, Ok, Err, filter_map, replicate}
 use Rattle.std.specs.Int.{w16, from_be_bytes}
 use Rattle.std.proofs.lemmas.Bool.Decides.{nat_tests}
-use Rattle.std.proofs.lemmas.List.Concat.{flat_map-append}
 use Rattle.std.proofs.lemmas.List.{append_assoc, append-nil, drop_at, take_at, length-take-le, length-append, length-take, length-drop}
 use Rattle.std.proofs.lemmas.Nat.{from_be_bytes-to_be_bytes_2}
 use Rattle.dns_name.specs.Octets.{u16_octets}
-use Rattle.dns_wire.specs.Wire.{Building, Header, Question, question_wire, header_in, header_wire, message_wire, header_number, with_item, with_question, fits}
+use Rattle.dns_wire.specs.Wire.{Building, Question, question_wire, header_in, header_wire, message_wire, header_number, with_item, with_question, fits}
 use Rattle.dns_wire.specs.Builds.{with_questions, Adds, AddsQuestions, Builds, building}
 use Rattle.dns_wire.specs.Parse.{readings, reading_then, questions_in}
 use Rattle.dns_wire.specs.Reply.{answer_header, answer_with, empty_answer}
+use Rattle.dns_wire.proofs.Pushing.{message_wire-more_questions}
 use Rattle.dns_wire.specs.declared.builder.PushError.{PushError}
 use Rattle.dns_wire.specs.declared.builder.PushError.TheVariants.{ShortBuf, CountOverflow, Memory}
 
@@ -58,29 +58,15 @@ questions_refused A B old now new after q rest all ShortBuf limit same count ref
     let longer = questions_longer (with_question now.octets q) rest in
     let out : fits now.limit (with_questions now.octets (q ∷ rest)) ≡ false = not_fitting now.limit (with_question now.octets q) _ longer refused.0 in
     rw (limit, same) at out
-questions_refused A B old now new after q rest all CountOverflow limit same count refused = omega (arith, refused.0)
+questions_refused A B old now new after q rest all CountOverflow limit same count refused = omega (arith, refused.1)
 questions_refused A B old now new after q rest all Memory limit same count refused = tt
 
 -- ---- an answer of questions alone
 
--- the octets of a message with so many questions, and of them
-abbrev built_questions : Header → ℕ → List ℕ → List ℕ
-built_questions h n rest = header_wire h ++ u16_octets n ++ u16_octets 0 ++ u16_octets 0 ++ u16_octets 0 ++ rest
-
-questions_more : (done : List Question) (q : Question)
-    → flat_map question_wire done ++ [] ++ [] ++ [] ++ question_wire q ≡ flat_map question_wire (done ++ q ∷ []) ++ [] ++ [] ++ []
-questions_more done q = simp (flat_map-append, append-nil) refl
-
 -- a question pushed onto the octets is one more in the list
 pub one_more_question : (request : List ℕ) (rcode : ℕ) (done : List Question) (q : Question) → length done < 2 ^ 16
     → with_question (message_wire (answer_with request rcode done)) q ≡ message_wire (answer_with request rcode (done ++ q ∷ []))
-one_more_question request rcode done q small =
-    let h = answer_header (header_in request) rcode in
-    let n = header_number 4 (message_wire (answer_with request rcode done)) + 1 in
-    let counted : header_number 4 (message_wire (answer_with request rcode done)) ≡ length done = from_be_bytes-to_be_bytes_2 (length done) small in
-    let more : n ≡ length (done ++ q ∷ []) = ap (λ k. k + 1) counted ∙ sym (length-append done (q ∷ [])) in
-    ap (λ k. built_questions h k (flat_map question_wire done ++ [] ++ [] ++ [] ++ question_wire q)) more
-    ∙ ap (λ rest. built_questions h (length (done ++ q ∷ [])) rest) (questions_more done q)
+one_more_question request rcode done q small = sym (message_wire-more_questions (answer_header (header_in request) rcode) done q small)
 
 -- the questions pushed one after another are the list
 pub all_questions : (questions : List Question) (request : List ℕ) (rcode : ℕ) (done : List Question) → length done + length questions < 2 ^ 16

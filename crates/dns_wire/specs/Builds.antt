@@ -14,12 +14,12 @@ building octets limit = record { octets = octets; limit = limit }
 abbrev pub pushed : ℕ → Building → List ℕ → Building
 pushed k old item = record old { octets = with_item k old.octets item }
 
--- One case for each answer: added where it fits and the count has room; ShortBuf where it doesn't fit, CountOverflow where
--- the count is full, and then, as for want of memory, nothing has changed.
+-- One case for each answer: added where it fits and the count has room; ShortBuf where it doesn't fit; CountOverflow where it
+-- fits and the count is full. So but for want of memory the answer is determined. Where nothing was added, nothing has changed.
 abbrev pub Adds : {A : Type 0} → ℕ → List ℕ → Building → Result A PushError → Building → Type 0
 Adds k item old (Ok a) new = (fits old.limit (with_item k old.octets item) ≡ true) × (header_number k old.octets ≢ 65535) × (new ≡ pushed k old item)
 Adds k item old (Err ShortBuf) new = (fits old.limit (with_item k old.octets item) ≡ false) × (new ≡ old)
-Adds k item old (Err CountOverflow) new = (header_number k old.octets ≡ 65535) × (new ≡ old)
+Adds k item old (Err CountOverflow) new = (fits old.limit (with_item k old.octets item) ≡ true) × (header_number k old.octets ≡ 65535) × (new ≡ old)
 Adds k item old (Err Memory) new = new ≡ old
 
 -- the same of a record

@@ -117,3 +117,7 @@ questions_in message = filter_map (λ q. q) (readings (question_at message) (qdc
 -- the one question, where QDCOUNT is 1 and it parses (RFC 1035, 4.1.2)
 abbrev pub sole_question_in : List ℕ → Option Question
 sole_question_in message = if qdcount_in message == 1 then option_map (λ q. q.0) (question_at message 12) else None
+
+-- the type of the first question, where there is one that parses (RFC 1035, 4.1.2)
+abbrev pub qtype_in : List ℕ → Option ℕ
+qtype_in message = if qdcount_in message == 0 then None else option_map (λ q. q.0.qtype) (question_at message 12)

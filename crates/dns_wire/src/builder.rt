@@ -98,6 +98,7 @@ impl MessageBuilder {
     pub fn set_header(&mut self, header: Header)
         ensures after { self.new ≡ record self.old { octets = header_wire header ++ drop 4 self.old.octets } }
         ensures read { header_in self.new.octets ≡ header }
+        ensures listed { (m : MessageOf) → self.old.octets ≡ message_wire m → self.new.octets ≡ message_wire (record m { header = header }) }
     {
         set_number(&mut self.octets, 0, header.id);
         set_number(&mut self.octets, 2, header.to_word());

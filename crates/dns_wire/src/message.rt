@@ -1,16 +1,17 @@
 // Messages as they were received (RFC 1035, 4.1).
 
-ghost use Rattle.std.specs.Prelude.{◌≡◌, ◌^◌, ◌<◌, ◌≤◌, length, IfOk, OnOk, OnErr, Some, None};
+ghost use Rattle.std.specs.Prelude.{◌≡◌, ◌≢◌, ◌↔◌, ◌^◌, ◌<◌, ◌≤◌, length, IsTrue, IfOk, OnOk, OnErr, Some, None};
+ghost use Rattle.dns_name.specs.Codes.{noerror};
 ghost use Rattle.dns_wire.specs.Wire.{header_in, qdcount_in, without_last_additional};
 ghost use Rattle.dns_wire.specs.Numbers.{counts_in, with_number};
 ghost use Rattle.dns_wire.specs.Reads.{ReadsAs};
-ghost use Rattle.dns_wire.specs.Parse.{Parsed, parsed, question_at, readings, sole_question_in, answers_start, authority_start, additional_start, message_end, answer_readings, authority_readings, additional_readings};
+ghost use Rattle.dns_wire.specs.Parse.{Parsed, parsed, question_at, readings, sole_question_in, qtype_in, answers_start, authority_start, additional_start, message_end, answer_readings, authority_readings, additional_readings};
 
 use crate::header::{Header, HeaderCounts, counts_from, header_from};
 use crate::numbers::{number_at, set_number};
 use crate::question::Question;
 use crate::sections::{QuestionSection, RecordSection, after_questions, after_records};
-use dns_name::{ParseError, ParsedName};
+use dns_name::{ParseError, ParsedName, Rcode, Rtype};
 use std::marker::Model;
 use thiserror::Error;
 
@@ -39,6 +40,7 @@ impl<'m> Message<'m> {
     /// The message of these octets, refused exactly where they are fewer than 12.
     pub fn from_octets(octets: &'m [u8]) -> Result<Message<'m>, ShortMessage>
         ensures found { IfOk result (λ message. message ≡ octets.now) }
+        ensures whole { OnOk result (12 ≤ length octets.now) }
         ensures short { OnErr result (length octets.now < 12) }
     {
         if octets.len() < 12 {
@@ -70,6 +72,13 @@ impl<'m> Message<'m> {
         header_from(self.octets)
     }
 
+    /// Whether the rcode isn't NOERROR (RFC 1035, 4.1.1).
+    pub fn is_error(&self) -> bool
+        ensures { IsTrue result ↔ ((header_in self.now).rcode ≢ noerror) }
+    {
+        self.header().rcode != Rcode::NOERROR
+    }
+
     /// How many items the sections are said to have.
     pub fn counts(&self) -> HeaderCounts
         ensures { result ≡ counts_in self.now }
@@ -98,9 +107,23 @@ impl<'m> Message<'m> {
         Ok(question)
     }
 
+    /// The type of the first question, where there is one that can be read (RFC 1035, 4.1.2).
+    pub fn qtype(&self) -> Option<Rtype>
+        ensures { result ≡ qtype_in self.now }
+    {
+        if self.counts().qdcount == 0 {
+            return None;
+        }
+        match Question::parse(self.octets, 12) {
+            Ok((question, _)) => Some(question.qtype()),
+            Err(_) => None,
+        }
+    }
+
     /// The answer records, refused where a question before them can't be read.
     pub fn answer(&self) -> Result<RecordSection<'m>, ParseError>
         ensures found { IfOk result (λ section. section ≡ record { message = self.now; left = answer_readings self.now }) }
+        ensures begins { OnOk result (answers_start self.now ≢ None) }
         ensures none { OnErr result (answers_start self.now ≡ None) }
         ensures few { IfOk result (λ section. length section.left < 2 ^ 16) }
     {
@@ -111,6 +134,7 @@ impl<'m> Message<'m> {
     /// The authority records, refused where an item before them can't be read.
     pub fn authority(&self) -> Result<RecordSection<'m>, ParseError>
         ensures found { IfOk result (λ section. section ≡ record { message = self.now; left = authority_readings self.now }) }
+        ensures begins { OnOk result (authority_start self.now ≢ None) }
         ensures none { OnErr result (authority_start self.now ≡ None) }
         ensures few { IfOk result (λ section. length section.left < 2 ^ 16) }
     {
@@ -121,6 +145,7 @@ impl<'m> Message<'m> {
     /// The additional records, refused where an item before them can't be read.
     pub fn additional(&self) -> Result<RecordSection<'m>, ParseError>
         ensures found { IfOk result (λ section. section ≡ record { message = self.now; left = additional_readings self.now }) }
+        ensures begins { OnOk result (additional_start self.now ≢ None) }
         ensures none { OnErr result (additional_start self.now ≡ None) }
         ensures few { IfOk result (λ section. length section.left < 2 ^ 16) }
     {
@@ -200,12 +225,14 @@ impl MessageBuf {
     /// The message of these octets, refused exactly where they are fewer than 12.
     pub fn from_octets(octets: Vec<u8>) -> Result<MessageBuf, ShortMessage>
         ensures found { IfOk result (λ message. message ≡ octets.items) }
+        ensures whole { OnOk result (12 ≤ length octets.items) }
         ensures short { OnErr result (length octets.items < 12) }
     {
-        if octets.len() < 12 {
-            return Err(ShortMessage);
+        if octets.len() >= 12 {
+            Ok(MessageBuf { octets })
+        } else {
+            Err(ShortMessage)
         }
-        Ok(MessageBuf { octets })
     }
 
     /// The message of octets that are known to be a header at least.
@@ -240,6 +267,13 @@ impl MessageBuf {
         header_from(self.octets.as_slice())
     }
 
+    /// Whether the rcode isn't NOERROR (RFC 1035, 4.1.1).
+    pub fn is_error(&self) -> bool
+        ensures { IsTrue result ↔ ((header_in self.now).rcode ≢ noerror) }
+    {
+        self.as_message().is_error()
+    }
+
     /// How many items the sections are said to have.
     pub fn counts(&self) -> HeaderCounts
         ensures { result ≡ counts_in self.now }
@@ -263,9 +297,17 @@ impl MessageBuf {
         self.as_message().sole_question()
     }
 
+    /// The type of the first question, where there is one that can be read (RFC 1035, 4.1.2).
+    pub fn qtype(&self) -> Option<Rtype>
+        ensures { result ≡ qtype_in self.now }
+    {
+        self.as_message().qtype()
+    }
+
     /// The answer records, refused where a question before them can't be read.
     pub fn answer(&self) -> Result<RecordSection<'_>, ParseError>
         ensures found { IfOk result (λ section. section ≡ record { message = self.now; left = answer_readings self.now }) }
+        ensures begins { OnOk result (answers_start self.now ≢ None) }
         ensures none { OnErr result (answers_start self.now ≡ None) }
         ensures few { IfOk result (λ section. length section.left < 2 ^ 16) }
     {
@@ -275,6 +317,7 @@ impl MessageBuf {
     /// The authority records, refused where an item before them can't be read.
     pub fn authority(&self) -> Result<RecordSection<'_>, ParseError>
         ensures found { IfOk result (λ section. section ≡ record { message = self.now; left = authority_readings self.now }) }
+        ensures begins { OnOk result (authority_start self.now ≢ None) }
         ensures none { OnErr result (authority_start self.now ≡ None) }
         ensures few { IfOk result (λ section. length section.left < 2 ^ 16) }
     {
@@ -284,6 +327,7 @@ impl MessageBuf {
     /// The additional records, refused where an item before them can't be read.
     pub fn additional(&self) -> Result<RecordSection<'_>, ParseError>
         ensures found { IfOk result (λ section. section ≡ record { message = self.now; left = additional_readings self.now }) }
+        ensures begins { OnOk result (additional_start self.now ≢ None) }
         ensures none { OnErr result (additional_start self.now ≡ None) }
         ensures few { IfOk result (λ section. length section.left < 2 ^ 16) }
     {

@@ -1,6 +1,6 @@
 // A message that is being built, section by section: items are added at its end, so that no section comes behind a later one.
 
-ghost use Rattle.std.specs.Prelude.{◌≡◌, ◌≤◌, ◌++◌, List, [], drop, length, Some};
+ghost use Rattle.std.specs.Prelude.{◌≡◌, ◌≤◌, ◌<◌, ◌^◌, ◌++◌, List, [], ◌∷◌, drop, length, Some, OnOk};
 ghost use Rattle.dns_wire.specs.Wire.{header_in, header_wire, question_wire, message_wire, in_answer, in_authority, Header as HeaderOf, Question as QuestionOf, Message as MessageOf};
 ghost use Rattle.dns_rdata.specs.Records.{Record};
 ghost use Rattle.dns_wire.specs.Parse.{parsed, answers_start, authority_start, additional_start};
@@ -40,7 +40,10 @@ impl QuestionBuilder {
 
     /// Adds a question at the end, or refuses it and leaves the message as it was.
     pub fn push<N: Labelled>(&mut self, question: &Question<N>) -> Result<(), PushError>
-        ensures { Adds 4 (question_wire question.now) self.old result self.new }
+        ensures adds { Adds 4 (question_wire question.now) self.old result self.new }
+        ensures listed { OnOk result ((header : HeaderOf) (questions : List QuestionOf) → length questions < 2 ^ 16
+            → self.old.octets ≡ message_wire (in_answer header questions [])
+            → self.new.octets ≡ message_wire (in_answer header (questions ++ question.now ∷ []) [])) }
     {
         self.message.push_question(question)
     }
@@ -81,6 +84,7 @@ impl QuestionBuilder {
     pub fn set_header(&mut self, header: Header)
         ensures after { self.new ≡ record self.old { octets = header_wire header ++ drop 4 self.old.octets } }
         ensures read { header_in self.new.octets ≡ header }
+        ensures listed { (m : MessageOf) → self.old.octets ≡ message_wire m → self.new.octets ≡ message_wire (record m { header = header }) }
     {
         self.message.set_header(header);
     }
@@ -154,7 +158,10 @@ impl AnswerBuilder {
 
     /// Adds a record at the end, or refuses it and leaves the message as it was.
     pub fn push<R: ComposeRecord>(&mut self, item: &R) -> Result<(), PushError>
-        ensures { Pushes 6 (R.record_of item.now) self.old result self.new }
+        ensures adds { Pushes 6 (R.record_of item.now) self.old result self.new }
+        ensures listed { OnOk result ((header : HeaderOf) (questions : List QuestionOf) (answers : List Record) → length answers < 2 ^ 16
+            → self.old.octets ≡ message_wire (in_answer header questions answers)
+            → self.new.octets ≡ message_wire (in_answer header questions (answers ++ R.record_of item.now ∷ []))) }
     {
         self.message.push_record(6, item)
     }
@@ -197,6 +204,7 @@ impl AnswerBuilder {
     pub fn set_header(&mut self, header: Header)
         ensures after { self.new ≡ record self.old { octets = header_wire header ++ drop 4 self.old.octets } }
         ensures read { header_in self.new.octets ≡ header }
+        ensures listed { (m : MessageOf) → self.old.octets ≡ message_wire m → self.new.octets ≡ message_wire (record m { header = header }) }
     {
         self.message.set_header(header);
     }
@@ -263,7 +271,10 @@ impl AuthorityBuilder {
 
     /// Adds a record at the end, or refuses it and leaves the message as it was.
     pub fn push<R: ComposeRecord>(&mut self, item: &R) -> Result<(), PushError>
-        ensures { Pushes 8 (R.record_of item.now) self.old result self.new }
+        ensures adds { Pushes 8 (R.record_of item.now) self.old result self.new }
+        ensures listed { OnOk result ((header : HeaderOf) (questions : List QuestionOf) (answers authority : List Record) → length authority < 2 ^ 16
+            → self.old.octets ≡ message_wire (in_authority header questions answers authority)
+            → self.new.octets ≡ message_wire (in_authority header questions answers (authority ++ R.record_of item.now ∷ []))) }
     {
         self.message.push_record(8, item)
     }
@@ -306,6 +317,7 @@ impl AuthorityBuilder {
     pub fn set_header(&mut self, header: Header)
         ensures after { self.new ≡ record self.old { octets = header_wire header ++ drop 4 self.old.octets } }
         ensures read { header_in self.new.octets ≡ header }
+        ensures listed { (m : MessageOf) → self.old.octets ≡ message_wire m → self.new.octets ≡ message_wire (record m { header = header }) }
     {
         self.message.set_header(header);
     }
@@ -365,7 +377,9 @@ impl AdditionalBuilder {
 
     /// Adds a record at the end, or refuses it and leaves the message as it was.
     pub fn push<R: ComposeRecord>(&mut self, item: &R) -> Result<(), PushError>
-        ensures { Pushes 10 (R.record_of item.now) self.old result self.new }
+        ensures adds { Pushes 10 (R.record_of item.now) self.old result self.new }
+        ensures listed { OnOk result ((m : MessageOf) → length m.additional < 2 ^ 16 → self.old.octets ≡ message_wire m
+            → self.new.octets ≡ message_wire (record m { additional = m.additional ++ R.record_of item.now ∷ [] })) }
     {
         self.message.push_record(10, item)
     }
@@ -407,6 +421,7 @@ impl AdditionalBuilder {
     pub fn set_header(&mut self, header: Header)
         ensures after { self.new ≡ record self.old { octets = header_wire header ++ drop 4 self.old.octets } }
         ensures read { header_in self.new.octets ≡ header }
+        ensures listed { (m : MessageOf) → self.old.octets ≡ message_wire m → self.new.octets ≡ message_wire (record m { header = header }) }
     {
         self.message.set_header(header);
     }

@@ -155,3 +155,44 @@ fn later_sections_taken_back(rt: HostRuntime) -> Result<(), Fail> {
     assert_eq!(rt; additional.as_slice().len(), 27);
     Ok(())
 }
+
+// a question for `e`, an answer record whose owner points to it, and two octets behind the last counted item
+fn compressed(alloc: Global) -> Result<MessageBuf, Fail> {
+    let mut octets = Vec::new(alloc);
+    octets.extend_from_slice(b"\x00\x07\x80\x00\x00\x01\x00\x01\x00\x00\x00\x00")?;
+    octets.extend_from_slice(b"\x01e\x00\x00\x01\x00\x01")?;
+    octets.extend_from_slice(b"\xc0\x0c\x00\x01\x00\x01\x00\x00\x0e\x10\x00\x04\xc0\x00\x02\x01")?;
+    octets.extend_from_slice(b"\xff\xff")?;
+    Ok(MessageBuf::from_octets(octets)?)
+}
+
+#[test]
+fn owner_points_to_the_question(rt: HostRuntime) -> Result<(), Fail> {
+    let message = compressed(rt.alloc())?;
+    let record = message.answer()?.next_record().ok_or("a record")??;
+    let mut spelled = Vec::new(rt.alloc());
+    record.owner().compose(&mut spelled)?;
+    assert_eq!(rt; spelled.as_slice(), b"\x01e\x00".as_slice());
+    Ok(())
+}
+
+#[test]
+fn octets_behind_are_unread(rt: HostRuntime) -> Result<(), Fail> {
+    let message = compressed(rt.alloc())?;
+    assert_eq!(rt; message.as_slice().len(), 37);
+    assert_eq!(rt; message.end()?, 35);
+    Ok(())
+}
+
+#[test]
+fn type_and_error(rt: HostRuntime) -> Result<(), Fail> {
+    let query = axfr_query(rt.alloc())?;
+    assert_eq!(rt; query.qtype(), Some(Rtype::AXFR));
+    assert!(rt; !query.is_error());
+    let started = MessageBuilder::new(rt.alloc())?;
+    let refused = started
+        .start_answer(&query.as_message(), Rcode::REFUSED)?
+        .finish();
+    assert!(rt; refused.is_error());
+    Ok(())
+}

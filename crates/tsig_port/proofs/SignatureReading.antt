@@ -3,7 +3,6 @@ use Rattle.std.proofs.Common.{◌≡◌, ℕ, ◌+◌, ◌/◌, ◌<◌, ◌^◌
 use Rattle.std.specs.Prelude.{flat_map}
 use Rattle.std.specs.List.{AllByRecursion}
 use Rattle.std.proofs.lemmas.List.{append_assoc, append-nil}
-use Rattle.std.proofs.lemmas.Nat.{from_be_bytes-to_be_bytes_8}
 use Rattle.dns_name.specs.Octets.{u32_octets, u16_octets, u48_octets, u48_number, u48_at}
 use Rattle.dns_name.specs.Names.{Name, name_wire, is_name}
 use Rattle.dns_rdata.specs.Records.{Record, record_wire, data_wire}
@@ -17,21 +16,12 @@ use Rattle.tsig_port.specs.Signing.{IsTsig, NoTsigs}
 use Rattle.dns_wire.proofs.DataWriting.{front_length}
 use Rattle.dns_wire.proofs.Pushing.{with_more, additional_more, message_wire-more_additional}
 use Rattle.dns_wire.proofs.ItemWriting.{parsed-message_wire, octets_read, name_read, shifted, u16_read}
+use Rattle.tsig_port.proofs.Times.{u48_read}
 
 -- ---- the data
 
-u48_again : (n : ℕ) → n < 2 ^ 48 → u48_number (u48_octets n) ≡ n
-u48_again n small =
-    let all = from_be_bytes-to_be_bytes_8 n (omega (arith, small)) in
-    let seventh : n / 256 ^ 7 ≡ 0 = omega (arith, small) in
-    let sixth : n / 256 ^ 6 ≡ 0 = omega (arith, small) in
-    rw (seventh, sixth) at all
-
-u48_read : (m : List ℕ) (p n : ℕ) (before after : List ℕ) → m ≡ before ++ (u48_octets n ++ after) → length before ≡ p → n < 2 ^ 48
-    → u48_at m p ≡ Some (n, p + 6)
-u48_read m p n before after e eb small = rw (octets_read m p 6 before (u48_octets n) after e eb refl, u48_again n small) refl
-
-tsig_read : (m : List ℕ) (p : ℕ) (t : Tsig) (before after : List ℕ) → m ≡ before ++ (tsig_wire t ++ after) → length before ≡ p → IsTsig t
+-- data that were written are read again
+pub tsig_read : (m : List ℕ) (p : ℕ) (t : Tsig) (before after : List ℕ) → m ≡ before ++ (tsig_wire t ++ after) → length before ≡ p → IsTsig t
     → tsig_at m p ≡ Some (t, p + length (tsig_wire t))
 tsig_read m p t before after e eb ok =
     let n = name_wire t.algorithm in
@@ -182,3 +172,6 @@ signature_written m owner t ok none few name is short =
     let ends : raw.rdata + length (tsig_wire t) ≡ raw.rdata + raw.rdlength = ap (λ k. raw.rdata + length k) (sym wire) in
     let tsig_is : tsig_of text raw ≡ Some t = rw (data_read, eq-eqb _ _ ends, lt-ltb _ _ short) refl in
     ap signature_of (sym same) ∙ rw read (last_of text place m.additional owner t none ∙ ap (λ o. signature_by raw o) tsig_is ∙ ap (λ k. Signed k owner t) begins)
+
+pub data_again : (before after : List ℕ) (t : Tsig) → IsTsig t → tsig_at (before ++ (tsig_wire t ++ after)) (length before) ≡ Some (t, length before + length (tsig_wire t))
+data_again before after t ok = tsig_read (before ++ (tsig_wire t ++ after)) (length before) t before after refl refl ok

@@ -20,6 +20,8 @@ pub mod Received
 pub mod Signers
 pub mod Signing
 pub mod Checked
+pub mod OneByOne
+pub mod Exchange
 pub mod ServerCheck
 pub mod States
 pub mod ExchangeRows

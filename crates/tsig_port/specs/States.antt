@@ -1,7 +1,7 @@
 -- Which messages the state of a signed exchange stands for, one fact for each of its fields.
 use Rattle.std.specs.Prelude.{◌≡◌, ◌↔◌, ℕ, Bool, true, false, List, [], ◌++◌, length, nat_lt, not, ◌≢◌, IsTrue, IsSome, Option, Some, None, unwrap_or, IsSomeAnd, Result, Ok, Err, if◌then◌else◌}
 use Rattle.std.specs.List.{concat, last_or}
-use Rattle.dns_name.specs.Codes.{formerr, badsig, badtrunc}
+use Rattle.dns_name.specs.Codes.{formerr, badsig, badtime, badtrunc}
 use Rattle.tsig_port.specs.Tsig.{TsigKey, Tsig, Signature, with_len, tsig_in, mac_in, is_mac}
 use Rattle.tsig_port.specs.Tsig.Signature.{Malformed, Unsigned, Signed}
 use Rattle.tsig_port.specs.Checked.{answer_fault, prior_mac, unsigned_since, taken_message}
@@ -57,6 +57,19 @@ RefusalOf the_key (Refused error) request now (errors.Unsigned code) = (code ≡
 RefusalOf the_key (BadTime key) request now (errors.BadTime k context time_signed fudge server) = (the_key k ≡ key) × (server ≡ now)
     × IsSomeAnd (tsig_in request) (λ t. (time_signed ≡ t.time_signed) × (fudge ≡ t.fudge) × HoldsHmac context key.algorithm key.secret (with_len t.mac))
 RefusalOf the_key _ request now _ = ⊥
+
+-- the TSIG error of a refusal, and RCODE FORMERR where it has none (RFC 8945, 3 and 5.2)
+abbrev pub error_of : {K : Type 0} → ServerError K → ℕ
+error_of errors.Formerr = formerr
+error_of (errors.Unsigned code) = code
+error_of (errors.BadTime k context time_signed fudge server) = badtime
+
+-- the same of what the server found of a request
+abbrev pub error_found : Verdict → Option ℕ
+error_found NoTsig = None
+error_found (Accepted key) = None
+error_found (Refused error) = Some error
+error_found (BadTime key) = Some badtime
 
 -- what the server's check answers of a request, and what it leaves of it
 abbrev pub Requests : {K : Type 0} → (K → TsigKey) → Verdict → List ℕ → ℕ → Result (Option (ServerSequence K)) (ServerError K) → List ℕ → Type 0

@@ -1,6 +1,5 @@
 // The data of a TSIG record, and the record (RFC 8945, 4.2).
 ghost use Rattle.std.specs.Prelude.{◌≡◌, ◌≤◌, ◌<◌, ◌++◌, length, IfOk, IfSome, OnOk, OnErr, Some, None, take};
-ghost use Rattle.dns_name.specs.Octets.{u48_at};
 ghost use Rattle.dns_rdata.specs.Records.{record_wire};
 ghost use Rattle.tsig_port.specs.Tsig.{tsig_at, tsig_of, tsig_wire, tsig_record, within_fudge};
 
@@ -112,6 +111,19 @@ impl<O: AsSlice<u8> + Drop, N: Labelled + Drop> Tsig<O, N> {
         self.time_signed.eq_fudged(now, u64::from(self.fudge))
     }
 
+    /// The data at the end of `out`, the algorithm's name written out (RFC 8945, 4.2). Without memory `out` is as before.
+    pub fn compose_rdata(&self, out: &mut Vec<u8>) -> Result<(), AllocError>
+        ensures ok { OnOk result (out.new.items ≡ out.old.items ++ tsig_wire self.now) }
+        ensures err { OnErr result (out.new.items ≡ out.old.items) }
+    {
+        let start = out.len();
+        let composed = self.compose_parts(out);
+        if composed.is_err() {
+            out.truncate(start);
+        }
+        composed
+    }
+
     /// The data at the end of `out`; without memory `out` may have some of them.
     #[tactic(auto, using(dns_rdata::proofs::Writing::begins, std::proofs::lemmas::List::append_assoc))]
     fn compose_parts(&self, out: &mut Vec<u8>) -> Result<(), AllocError>
@@ -131,18 +143,6 @@ impl<O: AsSlice<u8> + Drop, N: Labelled + Drop> Tsig<O, N> {
     }
 }
 
-/// The moment at a place of a message, in six octets, and the place after it.
-fn parse_time(message: &[u8], pos: usize) -> Result<(Time48, usize), ParseError>
-    ensures found { IfOk result (λ r. u48_at message.now pos ≡ Some r) }
-    ensures none { OnErr result (u48_at message.now pos ≡ None) }
-{
-    let (octets, pos) = parse_octets(message, pos, 6)?;
-    match Time48::from_octets(octets) {
-        Some(time) => Ok((time, pos)),
-        None => Err(ParseError),
-    }
-}
-
 impl<'m> Tsig<&'m [u8], ParsedName<'m>> {
     /// The data at a place of a message, and the place after them. Refused also where they are more than 65,535 octets with the
     /// algorithm's name written out.
@@ -152,7 +152,7 @@ impl<'m> Tsig<&'m [u8], ParsedName<'m>> {
         ensures none { OnErr result (IfSome (tsig_at message.now pos) (λ r. 65536 ≤ length (tsig_wire r.0))) }
     {
         let (algorithm, pos) = ParsedName::parse(message, pos)?;
-        let (time_signed, pos) = parse_time(message, pos)?;
+        let (time_signed, pos) = Time48::parse(message, pos)?;
         let (fudge, pos) = parse_u16(message, pos)?;
         let (mac_len, pos) = parse_u16(message, pos)?;
         let (mac, pos) = parse_octets(message, pos, usize::from(mac_len))?;

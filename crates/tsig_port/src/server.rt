@@ -1,10 +1,10 @@
 // The server's half of a signed exchange (RFC 8945, 5.2 and 5.3).
-ghost use Rattle.std.specs.Prelude.{◌≡◌, ◌≤◌, ◌++◌, ◌∷◌, [], ℕ, List, None, length, option_map, OnOk, OnErr};
+ghost use Rattle.std.specs.Prelude.{◌≡◌, ◌≤◌, ◌++◌, ◌∷◌, [], ℕ, List, Some, None, length, option_map, OnOk, OnErr};
 ghost use Rattle.std.specs.List.{last_or};
 ghost use Rattle.dns_rdata.specs.Records.{record_wire};
 ghost use Rattle.dns_wire.specs.Builds.{Adds};
-ghost use Rattle.tsig_port.specs.ServerCheck.{key_for as key_for_of, verdict};
-ghost use Rattle.tsig_port.specs.States.{Requests, ServerStands, mac_fault as mac_fault_of};
+ghost use Rattle.tsig_port.specs.ServerCheck.{Verdict, key_for as key_for_of, verdict};
+ghost use Rattle.tsig_port.specs.States.{Requests, ServerStands, RefusalOf, error_of, error_found, mac_fault as mac_fault_of};
 ghost use Rattle.tsig_port.specs.Tsig.{algorithm_of, answer_tsig, digested_message, request_input, tsig_record};
 
 use crate::Algorithm;
@@ -39,7 +39,11 @@ pub enum ServerError<K: KeyRef> {
 
 impl<K: KeyRef> ServerError<K> {
     /// The TSIG error (RFC 8945, 3), 1 for FORMERR.
-    pub fn error(&self) -> TsigRcode {
+    pub fn error(&self) -> TsigRcode
+        ensures error { result ≡ error_of self.now }
+        // It is the error that the server found.
+        ensures found { (found : Verdict) (request : List ℕ) (now : ℕ) → RefusalOf K.the_key found request now self.now → error_found found ≡ Some result }
+    {
         match self {
             ServerError::Formerr => TsigRcode::from_int(1),
             ServerError::Unsigned(error) => *error,

@@ -1,2 +1,11 @@
-pub mod Walks
 pub mod Granted
+pub mod Headers
+pub mod Answers
+pub mod Adding
+pub mod Loops
+pub mod Choice
+pub mod Middle
+pub mod Room
+pub mod Puts
+pub mod Sends
+pub mod FullTransfer

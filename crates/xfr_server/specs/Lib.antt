@@ -1,4 +1,10 @@
-pub mod Remaining
-pub mod Walking
 pub mod Offers
 pub mod Items
+pub mod Replying
+pub mod Texts
+pub mod Transfers
+pub mod Choosing
+pub mod Signing
+pub mod Streams
+pub mod Serving
+pub mod FullTransfer

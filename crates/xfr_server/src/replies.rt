@@ -1,9 +1,12 @@
 // Replies, as they are built.
-ghost use Rattle.std.specs.Prelude.{◌≡◌, IfOk, Err, false};
-ghost use Rattle.dns_wire.specs.Wire.{message_wire, fits};
-ghost use Rattle.dns_wire.specs.Reply.{empty_answer};
+ghost use Rattle.std.specs.Prelude.{[]};
+ghost use Rattle.dns_wire.specs.Wire.{message_wire};
+ghost use Rattle.dns_wire.specs.Builds.{Builds};
+ghost use Rattle.xfr_server.specs.Items.{Makes};
+ghost use Rattle.xfr_server.specs.Replying.{error_reply, error_replies, truncated_reply};
+ghost use Rattle.xfr_server.specs.Texts.{transfer_message};
 
-use crate::services::ServiceError;
+use crate::services::{Replies, ServiceError};
 use dns_name::Rcode;
 use dns_wire::{AdditionalBuilder, AnswerBuilder, MessageBuf, MessageBuilder, PushError};
 use std::alloc::Global;
@@ -14,19 +17,29 @@ pub fn error_reply(
     request: &MessageBuf,
     rcode: Rcode,
 ) -> Result<AdditionalBuilder, ServiceError>
-    ensures ok { IfOk result (λ b. b ≡ record { octets = message_wire (empty_answer request.now rcode); limit = 65535 }) }
-    ensures too_long { (result ≡ Err ServiceError.InternalError) → fits 65535 (message_wire (empty_answer request.now rcode)) ≡ false }
+    ensures { Makes (error_reply request.now rcode) result }
 {
     let builder = MessageBuilder::new(alloc)?;
     let answer = builder.start_answer(&request.as_message(), rcode)?;
     Ok(answer.additional())
 }
 
-/// The same with NOERROR and TC, which says that the reply was cut (RFC 8945, 5.3).
+/// One such reply and nothing else.
+pub fn refuse(alloc: Global, request: &MessageBuf, rcode: Rcode) -> Result<Replies, ServiceError>
+    ensures { Makes (error_replies request.now rcode) result }
+{
+    let reply = error_reply(alloc, request, rcode)?;
+    Ok(Replies::single(alloc, reply)?)
+}
+
+/// A reply without records with NOERROR and TC, which says that the reply was cut (RFC 8945, 5.3).
+#[tactic(auto, using(crate::proofs::Headers::as_truncated))]
 pub fn truncated_reply(
     alloc: Global,
     request: &MessageBuf,
-) -> Result<AdditionalBuilder, ServiceError> {
+) -> Result<AdditionalBuilder, ServiceError>
+    ensures { Makes (truncated_reply request.now) result }
+{
     let builder = MessageBuilder::new(alloc)?;
     let mut answer = builder.start_answer(&request.as_message(), Rcode::NOERROR)?;
     let mut header = request.header().answer(Rcode::NOERROR);
@@ -36,12 +49,17 @@ pub fn truncated_reply(
 }
 
 /// An authoritative answer without records yet, of up to so many octets (RFC 5936, 2.2).
+#[tactic(auto, using(crate::proofs::Headers::as_transfer))]
 pub fn start_transfer(
     alloc: Global,
     request: &MessageBuf,
     limit: usize,
-) -> Result<AnswerBuilder, PushError> {
-    let mut builder = MessageBuilder::new(alloc).map_err(|_| PushError::Memory)?;
+) -> Result<AnswerBuilder, PushError>
+    ensures { Builds (message_wire (transfer_message request.now [])) limit result }
+{
+    let Ok(mut builder) = MessageBuilder::new(alloc) else {
+        return Err(PushError::Memory);
+    };
     builder.set_push_limit(limit);
     let mut answer = builder.start_answer(&request.as_message(), Rcode::NOERROR)?;
     let mut header = request.header().answer(Rcode::NOERROR);

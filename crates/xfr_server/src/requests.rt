@@ -1,5 +1,6 @@
 // Requests as a service is asked them.
 ghost use Rattle.std.specs.Prelude.{◌≡◌, ◌+◌, min};
+ghost use Rattle.xfr_server.specs.Transfers.{is_udp};
 
 use dns_wire::MessageBuf;
 use tsig_port::Time48;
@@ -15,7 +16,9 @@ pub enum TransportSpecificContext {
 
 impl TransportSpecificContext {
     /// Whether the request came by UDP.
-    pub fn is_udp(self) -> bool {
+    pub fn is_udp(self) -> bool
+        ensures { result ≡ is_udp self }
+    {
         matches!(self, TransportSpecificContext::Udp(_))
     }
 }

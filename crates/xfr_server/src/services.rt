@@ -1,5 +1,6 @@
 // Services, and the streams of their replies.
-ghost use Rattle.std.specs.Prelude.{◌≡◌, ◌<◌, ◌++◌, ◌∷◌, [], ℕ, Some, None, Err, IfOk, OnOk, OnErr, OnSome, false, length, option_copied};
+ghost use Rattle.std.specs.Prelude.{◌≡◌, ◌<◌, ◌++◌, ◌∷◌, [], ℕ, List, Some, None, IfOk, OnOk, OnErr, OnSome, length, option_copied};
+ghost use Rattle.xfr_server.specs.Items.{one_reply};
 
 use crate::replies;
 use crate::requests::Request;
@@ -109,23 +110,36 @@ impl CallResult {
 
 /// The replies to one request, pulled one by one. Each takes from what is left, so a loop that pulls them ends.
 pub trait ReplyStream: Drop {
-    ghost use Rattle.std.specs.Prelude.{ℕ};
+    ghost use Rattle.std.specs.Prelude.{ℕ, List};
+    ghost use Rattle.xfr_server.specs.Items.{Sending, NextOf};
 
     /// At most so many items are left.
     ghost remaining: { Self → ℕ };
 
+    /// These items are left.
+    ghost LeftOf: { Self → List Sending → Type 0 };
+
     /// The next item; None once there is no more.
     fn next_item(&mut self) -> Option<Result<CallResult, ServiceError>>
-        ensures { OnSome result (remaining self.new < remaining self.old) };
+        ensures progress { OnSome result (remaining self.new < remaining self.old) }
+        ensures item { (items : List Sending) → LeftOf self.old items → NextOf (LeftOf self.new) items result };
 }
 
 /// What answers requests.
 pub trait Service<M> {
+    ghost use Rattle.std.specs.Prelude.{Option, List};
+    ghost use Rattle.xfr_server.specs.Items.{Sending, Calls};
+    ghost use Rattle.xfr_server.specs.declared.requests.Request.{Request as RequestOf};
+
     /// The replies.
     type Stream: ReplyStream;
 
+    /// What is sent in answer to a request: these items, or None where no reply can be made.
+    ghost Sends: { Self → RequestOf M → Option (List Sending) → Type 0 };
+
     /// The replies to a request.
-    fn call(&self, alloc: Global, request: Request<M>) -> Result<Self::Stream, ServiceError>;
+    fn call(&self, alloc: Global, request: Request<M>) -> Result<Self::Stream, ServiceError>
+        ensures { Calls (Sends self.now request) Self.Stream.LeftOf result };
 }
 
 /// Replies that were made beforehand. Contracts see the items that are left.
@@ -155,7 +169,7 @@ impl Replies {
 
     /// One reply and nothing else.
     pub fn single(alloc: Global, response: AdditionalBuilder) -> Result<Replies, AllocError>
-        ensures { IfOk result (λ s. s ≡ record { response = Some response; feedback = None } ∷ []) }
+        ensures { IfOk result (λ s. s ≡ one_reply response) }
     {
         let mut replies = Replies::new(alloc);
         replies.push(CallResult::new(response))?;
@@ -173,14 +187,17 @@ impl Replies {
 }
 
 impl ReplyStream for Replies {
-    ghost use Rattle.std.specs.Prelude.{◌<◌, OnSome, length};
-    ghost use Rattle.xfr_server.specs.Items.{NextItem};
+    ghost use Rattle.std.specs.Prelude.{◌≡◌, ◌<◌, List, OnSome, length};
+    ghost use Rattle.xfr_server.specs.Items.{Sending, NextItem, NextOf, all_given};
 
     ghost remaining = { length };
 
+    ghost LeftOf = { λ s items. items ≡ all_given s };
+
     fn next_item(&mut self) -> Option<Result<CallResult, ServiceError>>
         ensures progress { OnSome result (length self.new < length self.old) }
-        ensures item { NextItem self.old result self.new }
+        ensures item { (items : List Sending) → items ≡ all_given self.old → NextOf (λ rest. rest ≡ all_given self.new) items result }
+        ensures first { NextItem self.old result self.new }
     {
         match self.items.pop_front() {
             Some(item) => Some(Ok(item)),
@@ -194,17 +211,18 @@ impl ReplyStream for Replies {
 pub struct RefuseSvc;
 
 impl<M: Drop> Service<M> for RefuseSvc {
-    ghost use Rattle.dns_wire.specs.Wire.{message_wire, fits};
-    ghost use Rattle.dns_wire.specs.Reply.{empty_answer};
+    ghost use Rattle.std.specs.Prelude.{◌≡◌};
+    ghost use Rattle.xfr_server.specs.Items.{Calls, all_given};
+    ghost use Rattle.xfr_server.specs.Replying.{refused};
+    ghost use Rattle.xfr_server.specs.Serving.{error_sends};
 
     type Stream = Replies;
 
+    ghost Sends = { λ s request sent. sent ≡ error_sends request.message refused };
+
     fn call(&self, alloc: Global, request: Request<M>) -> Result<Replies, ServiceError>
-        ensures ok { IfOk result (λ s. s
-            ≡ record { response = Some (record { octets = message_wire (empty_answer request.message 5); limit = 65535 }); feedback = None } ∷ []) }
-        ensures too_long { (result ≡ Err ServiceError.InternalError) → fits 65535 (message_wire (empty_answer request.message 5)) ≡ false }
+        ensures { Calls (λ sent. sent ≡ error_sends request.message refused) (λ s items. items ≡ all_given s) result }
     {
-        let reply = replies::error_reply(alloc, &request.message, Rcode::REFUSED)?;
-        Ok(Replies::single(alloc, reply)?)
+        replies::refuse(alloc, &request.message, Rcode::REFUSED)
     }
 }

@@ -1,99 +1,148 @@
 // The text of a transfer, written into one message (RFC 5936, 2.2).
+ghost use Rattle.std.specs.Prelude.{◌≡◌, ◌++◌, ◌↔◌, map, flat_map, not, filter, IfSome, IsSome, IsTrue};
+ghost use Rattle.dns_rdata.specs.Soa.{serial_of};
+ghost use Rattle.dns_rdata.specs.ZoneData.{data_fields};
+ghost use Rattle.zone_types.specs.Version.{has_one_apex_soa};
+ghost use Rattle.zone_types.specs.Answer.{apex_soa_record, records_of};
+ghost use Rattle.zone_types.specs.Difference.{zone_serial as serial_of_version};
+ghost use Rattle.zone_types.specs.Offer.{whole_text};
+ghost use Rattle.zone_types.specs.Walk.{walk};
+ghost use Rattle.xfr_server.specs.Texts.{transfer_message, Writes, AddsAnswers, is_soa_stop, stop_records};
+
 use crate::replies::start_transfer;
 use crate::set_records::SetRecord;
-use dns_name::{Class, Rtype, Serial, ToName};
-use dns_rdata::ZoneRecordData;
+use dns_name::{Class, KeyName, Labelled, Rtype, Serial, ToName, Ttl};
+use dns_rdata::{StoredRecordData, ZoneRecordData};
 use dns_wire::{AdditionalBuilder, AnswerBuilder, MessageBuf, PushError};
 use std::alloc::Global;
 use zone_store::{ReadZone, WalkItem};
 
-/// The type before SOA, behind which the walk finds the apex SOA.
-const BEFORE_SOA: u16 = 5;
-
-/// The set of the apex SOA, where it has exactly one record.
-fn apex_soa(zone: &ReadZone) -> Option<WalkItem<'_>> {
-    let found = zone.next_rrset(zone.apex_name(), Rtype::from_int(BEFORE_SOA))?;
-    if is_apex_soa(zone, &found) && found.items().len() == 1 {
-        Some(found)
-    } else {
-        None
-    }
-}
-
-/// Whether a set is the apex SOA's.
-fn is_apex_soa(zone: &ReadZone, item: &WalkItem<'_>) -> bool {
-    item.rtype() == Rtype::SOA && zone.apex_name().name_eq(item.owner())
-}
-
 /// The serial of a zone; None where it doesn't have exactly one apex SOA record.
-pub fn zone_serial(zone: &ReadZone) -> Option<Serial> {
-    let found = apex_soa(zone)?;
-    match found.items().first()? {
-        ZoneRecordData::Soa(soa) => Some(soa.serial()),
+pub fn zone_serial(zone: &ReadZone) -> Option<Serial>
+    ensures found { IfSome result (λ n. n ≡ serial_of_version zone.now.version) }
+    ensures one { IsSome result ↔ IsTrue (has_one_apex_soa zone.now.version) }
+{
+    let found = zone.rrset_at(zone.apex_name(), Rtype::SOA)?;
+    match found.items() {
+        [rdata] => Some(serial_in(rdata)),
         _ => None,
     }
 }
 
-/// An answer with the apex SOA alone (RFC 1995, 2), of up to so many octets.
-// owed: ensures ok { IfOk result (λ b. b.octets ≡ message_wire (the request's answer with AA and the records apex_soa_record zone.now.version)) }
-// owed: ensures too_long { result is ShortBuf or CountOverflow exactly where that message passes the limit, or has too many records }
+/// The serial of SOA data, 0 of others.
+fn serial_in(rdata: &StoredRecordData) -> Serial
+    ensures { result ≡ serial_of (data_fields rdata.now) }
+{
+    match rdata {
+        ZoneRecordData::Soa(soa) => soa.serial(),
+        _ => Serial::from(0),
+    }
+}
+
+/// An answer with the apex SOA alone (RFC 1995, 2), of up to so many octets. `ShortBuf` or `CountOverflow` where it can't be held.
 pub fn soa_message(
     alloc: Global,
     request: &MessageBuf,
     limit: usize,
     zone: &ReadZone,
-) -> Result<AdditionalBuilder, PushError> {
+) -> Result<AdditionalBuilder, PushError>
+    ensures { Writes (transfer_message request.now (apex_soa_record zone.now.version)) limit result }
+{
     let mut answer = start_transfer(alloc, request, limit)?;
     push_soa(&mut answer, zone)?;
     Ok(answer.additional())
 }
 
-/// An answer with the whole zone (RFC 5936, 2.2), of up to so many octets.
-// owed: ensures ok { IsValid zone.now.version → IfOk result (λ b. b.octets ≡ message_wire (the same with the records whole_text zone.now.version)) }
-// owed: ensures too_long { as of soa_message }
+/// An answer with the whole zone (RFC 5936, 2.2), of up to so many octets. `ShortBuf` or `CountOverflow` where it can't be held.
 pub fn whole_message(
     alloc: Global,
     request: &MessageBuf,
     limit: usize,
     zone: &ReadZone,
-) -> Result<AdditionalBuilder, PushError> {
+) -> Result<AdditionalBuilder, PushError>
+    ensures { Writes (transfer_message request.now (whole_text zone.now.version)) limit result }
+{
     let mut answer = start_transfer(alloc, request, limit)?;
-    push_soa(&mut answer, zone)?;
-    push_middle(&mut answer, zone)?;
-    push_soa(&mut answer, zone)?;
+    push_text(&mut answer, zone)?;
     Ok(answer.additional())
 }
 
-/// The apex SOA record.
-fn push_soa(answer: &mut AnswerBuilder, zone: &ReadZone) -> Result<(), PushError> {
-    match apex_soa(zone) {
-        Some(found) => push_set(answer, zone.class(), &found),
-        None => Ok(()),
-    }
+/// The SOA, all other records, and the SOA again (RFC 5936, 2.2).
+fn push_text(answer: &mut AnswerBuilder, zone: &ReadZone) -> Result<(), PushError>
+    ensures { AddsAnswers (whole_text zone.now.version) answer.old result answer.new }
+{
+    push_soa(answer, zone)?;
+    push_middle(answer, zone)?;
+    push_soa(answer, zone)
+}
+
+/// The first apex SOA record, if there is one.
+fn push_soa(answer: &mut AnswerBuilder, zone: &ReadZone) -> Result<(), PushError>
+    ensures { AddsAnswers (apex_soa_record zone.now.version) answer.old result answer.new }
+{
+    let Some(found) = zone.rrset_at(zone.apex_name(), Rtype::SOA) else {
+        return Ok(());
+    };
+    let Some(rdata) = found.items().first() else {
+        return Ok(());
+    };
+    let owner = zone.apex_name().to_key_name();
+    answer.push(&SetRecord::new(&owner, Rtype::SOA, zone.class(), found.ttl(), rdata))
 }
 
 /// All records but the apex SOA, owners in canonical order, types ascending.
-fn push_middle(answer: &mut AnswerBuilder, zone: &ReadZone) -> Result<(), PushError> {
-    let mut next = zone.first_rrset();
-    while let Some(item) = next {
-        if !is_apex_soa(zone, &item) {
-            push_set(answer, zone.class(), &item)?;
-        }
-        next = zone.next_rrset(item.owner(), item.rtype());
+fn push_middle(answer: &mut AnswerBuilder, zone: &ReadZone) -> Result<(), PushError>
+    ensures { AddsAnswers (flat_map (stop_records zone.now.version) (walk zone.now.version)) answer.old result answer.new }
+{
+    for stop in zone.iter_rrsets() {
+        push_stop(answer, zone, &stop)?;
     }
     Ok(())
 }
 
-/// The records of one set.
-// owed: ensures { OnOk result (the answer has these records behind those it had: records_of item.now.owner item.now.rtype class item.now.contents) }
+/// The records of a set, unless it is the apex SOA's.
+fn push_stop(
+    answer: &mut AnswerBuilder,
+    zone: &ReadZone,
+    stop: &WalkItem<'_>,
+) -> Result<(), PushError>
+    ensures { AddsAnswers (stop_records zone.now.version stop.now) answer.old result answer.new }
+{
+    if is_soa_stop(zone, stop) {
+        return Ok(());
+    }
+    push_set(
+        answer,
+        stop.owner(),
+        stop.rtype(),
+        zone.class(),
+        stop.ttl(),
+        stop.items(),
+    )
+}
+
+/// Whether a set is the apex SOA's.
+fn is_soa_stop(zone: &ReadZone, stop: &WalkItem<'_>) -> bool
+    ensures { result ≡ is_soa_stop zone.now.version stop.now }
+{
+    stop.rtype() == Rtype::SOA && stop.owner().name_eq(zone.apex_name())
+}
+
+/// The records of one owner, type, class and TTL with these data.
 fn push_set(
     answer: &mut AnswerBuilder,
+    owner: &KeyName,
+    rtype: Rtype,
     class: Class,
-    item: &WalkItem<'_>,
-) -> Result<(), PushError> {
-    for rdata in item.items() {
-        let next = SetRecord::new(item.owner(), item.rtype(), class, item.ttl(), rdata);
-        answer.push(&next)?;
+    ttl: Ttl,
+    items: &[StoredRecordData],
+) -> Result<(), PushError>
+    ensures { AddsAnswers (records_of owner.now rtype class (record { ttl = ttl; items = map data_fields items.now })) answer.old result answer.new }
+{
+    let mut rest = items;
+    'records: while let Some((rdata, behind)) = rest.split_first() {
+        answer.push(&SetRecord::new(owner, rtype, class, ttl, rdata))?;
+        rest = behind;
     }
     Ok(())
 }

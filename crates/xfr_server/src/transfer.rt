@@ -1,17 +1,26 @@
 // The service that answers transfer requests (RFC 5936; RFC 1995).
-ghost use Rattle.std.specs.Prelude.{◌≡◌, ◌<◌, ℕ};
-ghost use Rattle.xfr_server.specs.Remaining.{items_left};
+ghost use Rattle.std.specs.Prelude.{◌≡◌, ◌&&◌, not, is_some, IfOk, option_map};
+ghost use Rattle.dns_name.specs.Codes.{type_soa};
+ghost use Rattle.dns_name.specs.Serial.{serial_upto};
+ghost use Rattle.dns_rdata.specs.Heads.{readable};
+ghost use Rattle.dns_rdata.specs.Soa as soas;
+ghost use Rattle.dns_wire.specs.Parse.{sole_question_in};
+ghost use Rattle.xfr_server.specs.Items.{Makes, one_reply};
+ghost use Rattle.xfr_server.specs.Transfers as transfers;
+ghost use Rattle.xfr_server.specs.Choosing.{Chooses, choice_shown, is_no_news};
+ghost use Rattle.xfr_server.specs.Streams.{items_left, TransferLeft};
 
 use crate::providers::{XfrDataProvider, XfrDataProviderError};
 use crate::requests::{Request, TransportSpecificContext};
 use crate::services::{CallResult, Replies, ReplyStream, Service, ServiceError, ServiceFeedback};
 use crate::{replies, texts};
-use dns_name::{Opcode, ParsedName, Rcode, Rtype, Serial, ToName};
-use dns_rdata::ZoneRecordData;
-use dns_wire::{AdditionalBuilder, Message, MessageBuf, PushError, Question};
-use std::alloc::Global;
+use dns_name::{Opcode, Rcode, Rtype, Serial, ToName};
+use dns_rdata::{ParsedRecord, ZoneRecordData};
+use dns_wire::{AdditionalBuilder, Message, MessageBuf, PushError, RecordSection};
+use std::alloc::{AllocError, Global};
 use std::cmp::Ordering;
 use std::fmt;
+use std::marker::Model;
 use zone_store::ReadZone;
 
 /// The most octets of a message by UDP, where the requestor says nothing else (RFC 1035, 2.3.4).
@@ -29,6 +38,28 @@ pub enum XfrMode {
     Ixfr,
 }
 
+impl XfrMode {
+    /// The mode that a type of question asks for.
+    fn from_rtype(rtype: Rtype) -> Option<XfrMode>
+        ensures { result ≡ transfers.mode_of_type rtype }
+    {
+        if rtype == Rtype::AXFR {
+            Some(XfrMode::Axfr)
+        } else if rtype == Rtype::IXFR {
+            Some(XfrMode::Ixfr)
+        } else {
+            None
+        }
+    }
+
+    /// Whether it is an incremental transfer.
+    fn is_ixfr(self) -> bool
+        ensures { result ≡ transfers.is_ixfr self }
+    {
+        matches!(self, XfrMode::Ixfr)
+    }
+}
+
 impl fmt::Display for XfrMode {
     fn fmt<W: fmt::Write>(&self, f: &mut fmt::Formatter<W>) -> fmt::Result {
         match self {
@@ -38,21 +69,32 @@ impl fmt::Display for XfrMode {
     }
 }
 
-/// Answers transfer requests from a provider's zones, and hands others on.
+/// Answers transfer requests from a provider's zones, and hands others on. Contracts see the next service and the provider.
 #[derive(Drop)]
 pub struct XfrMiddlewareSvc<N: Drop, X: Drop> {
     next: N,
     provider: X,
 }
 
+impl<N: Drop, X: Drop> Model for XfrMiddlewareSvc<N, X> {
+    ghost Value = { N × X };
+
+    ghost view = { λ s. (s.next, s.provider) };
+}
+
 impl<N: Drop, X: Drop> XfrMiddlewareSvc<N, X> {
     /// The service that has other requests answered by the next one.
-    pub fn new(next: N, provider: X) -> XfrMiddlewareSvc<N, X> {
+    pub fn new(next: N, provider: X) -> XfrMiddlewareSvc<N, X>
+        ensures { result ≡ (next, provider) }
+    {
         XfrMiddlewareSvc { next, provider }
     }
 
     /// The next service and the provider.
-    pub fn into_parts(self) -> (N, X) {
+    pub fn into_parts(self) -> (N, X)
+        ensures next { result.0 ≡ self.0 }
+        ensures provider { result.1 ≡ self.1 }
+    {
         let XfrMiddlewareSvc { next, provider } = self;
         (next, provider)
     }
@@ -68,6 +110,8 @@ pub enum XfrMiddlewareStream<S: ReplyStream> {
 impl<S: ReplyStream> ReplyStream for XfrMiddlewareStream<S> {
     ghost remaining = { items_left S.remaining };
 
+    ghost LeftOf = { TransferLeft S.LeftOf };
+
     fn next_item(&mut self) -> Option<Result<CallResult, ServiceError>> {
         match self {
             XfrMiddlewareStream::Own(replies) => replies.next_item(),
@@ -78,13 +122,20 @@ impl<S: ReplyStream> ReplyStream for XfrMiddlewareStream<S> {
 
 impl<M: Default + Drop, N: Service<M> + Drop, X: XfrDataProvider<M> + Drop> Service<M>
     for XfrMiddlewareSvc<N, X> {
+    ghost use Rattle.xfr_server.specs.Items.{Calls};
+    ghost use Rattle.xfr_server.specs.Serving.{SendsTransfer};
+
     type Stream = XfrMiddlewareStream<N::Stream>;
+
+    ghost Sends = { λ s. SendsTransfer M.is_default (N.Sends s.0) (X.told s.1) };
 
     fn call(
         &self,
         alloc: Global,
         request: Request<M>,
-    ) -> Result<XfrMiddlewareStream<N::Stream>, ServiceError> {
+    ) -> Result<XfrMiddlewareStream<N::Stream>, ServiceError>
+        ensures { Calls (SendsTransfer M.is_default (N.Sends self.now.0) (X.told self.now.1) request) (TransferLeft N.Stream.LeftOf) result }
+    {
         match transfer_mode(&request.message.as_message()) {
             Some(mode) => {
                 let replies = answer_transfer(alloc, &self.provider, &request, mode)?;
@@ -99,18 +150,16 @@ impl<M: Default + Drop, N: Service<M> + Drop, X: XfrDataProvider<M> + Drop> Serv
 }
 
 /// The mode of a request that asks for a transfer: a query with one readable question of type AXFR or IXFR.
-fn transfer_mode(message: &Message<'_>) -> Option<XfrMode> {
+fn transfer_mode(message: &Message<'_>) -> Option<XfrMode>
+    ensures { result ≡ transfers.transfer_mode message.now }
+{
     let header = message.header();
     if header.qr || header.opcode != Opcode::QUERY {
         return None;
     }
-    let question = message.sole_question().ok()?;
-    if question.qtype() == Rtype::AXFR {
-        Some(XfrMode::Axfr)
-    } else if question.qtype() == Rtype::IXFR {
-        Some(XfrMode::Ixfr)
-    } else {
-        None
+    match message.sole_question() {
+        Ok(question) => XfrMode::from_rtype(question.qtype()),
+        Err(_) => None,
     }
 }
 
@@ -126,27 +175,35 @@ enum Reply {
 }
 
 /// The replies to a transfer request.
-// owed: ensures { the replies are those of the first rule that applies: FORMERR, the provider's refusal, SERVFAIL, NOTIMP, the SOA, the whole text }
 fn answer_transfer<M, X: XfrDataProvider<M>>(
     alloc: Global,
     provider: &X,
     request: &Request<M>,
     mode: XfrMode,
-) -> Result<Replies, ServiceError> {
-    match choose_reply(alloc, provider, request, mode)? {
-        Reply::Error(rcode) => refuse(alloc, &request.message, rcode),
-        Reply::SoaAlone(zone) => {
-            let reply = soa_alone(alloc, request, &zone)?;
-            Ok(Replies::single(alloc, reply)?)
-        }
-        Reply::Whole(zone) => whole_zone(alloc, request, &zone),
-    }
+) -> Result<Replies, ServiceError>
+    ensures { Makes (transfers.transfer_replies (X.told provider.now request.now.message request.now.metadata) mode request.now.transport request.now.reserved request.now.message) result }
+{
+    let limit = reply_limit(request.transport, request.reserved);
+    let is_udp = request.transport.is_udp();
+    let reply = choose_reply(alloc, provider, request, mode)?;
+    replies_with(alloc, &request.message, limit, is_udp, &reply)
 }
 
-/// One reply without records.
-fn refuse(alloc: Global, request: &MessageBuf, rcode: Rcode) -> Result<Replies, ServiceError> {
-    let reply = replies::error_reply(alloc, request, rcode)?;
-    Ok(Replies::single(alloc, reply)?)
+/// The replies to a request of which it is known what is sent in answer.
+fn replies_with(
+    alloc: Global,
+    request: &MessageBuf,
+    limit: usize,
+    is_udp: bool,
+    reply: &Reply,
+) -> Result<Replies, ServiceError>
+    ensures { Makes (transfers.replies_of request.now limit is_udp (choice_shown reply.now)) result }
+{
+    match reply {
+        Reply::Error(rcode) => replies::refuse(alloc, request, *rcode),
+        Reply::SoaAlone(zone) => soa_alone(alloc, request, limit, zone),
+        Reply::Whole(zone) => whole_zone(alloc, request, limit, is_udp, zone),
+    }
 }
 
 /// What is sent in answer, by the first test that applies.
@@ -155,35 +212,63 @@ fn choose_reply<M, X: XfrDataProvider<M>>(
     provider: &X,
     request: &Request<M>,
     mode: XfrMode,
-) -> Result<Reply, ServiceError> {
+) -> Result<Reply, ServiceError>
+    ensures { Chooses (transfers.chosen (X.told provider.now request.now.message request.now.metadata) mode (transfers.is_udp request.now.transport) request.now.message) result }
+{
     let message = request.message.as_message();
     let asked = asked_serial(&message);
-    if mode == XfrMode::Ixfr && asked.is_none() {
+    if lacks_serial(mode, &asked) {
         return Ok(Reply::Error(Rcode::FORMERR));
     }
-    let found = match provider.request(alloc, request, asked) {
-        Ok(found) => found,
-        Err(XfrDataProviderError::Memory) => return Err(ServiceError::Memory),
-        Err(error) => return Ok(Reply::Error(rcode_of(error))),
-    };
-    let zone = found.into_zone();
-    if !asks_for_apex(&message, &zone) {
-        return Ok(Reply::Error(Rcode::SERVFAIL));
+    match provider.request(alloc, request, asked) {
+        Ok(found) => Ok(reply_with(
+            &message,
+            mode,
+            request.transport.is_udp(),
+            asked,
+            found.into_zone(),
+        )),
+        Err(XfrDataProviderError::Memory) => Err(ServiceError::Memory),
+        Err(error) => Ok(Reply::Error(rcode_of(error))),
     }
-    if mode == XfrMode::Axfr && request.transport.is_udp() {
-        return Ok(Reply::Error(Rcode::NOTIMP));
+}
+
+/// Whether an incremental request names no serial (RFC 1995, 3).
+fn lacks_serial(mode: XfrMode, asked: &Option<Serial>) -> bool
+    ensures { result ≡ (transfers.is_ixfr mode && not (is_some asked.now)) }
+{
+    mode.is_ixfr() && asked.is_none()
+}
+
+/// What is sent of a zone that the provider gives.
+fn reply_with(
+    message: &Message<'_>,
+    mode: XfrMode,
+    is_udp: bool,
+    asked: Option<Serial>,
+    zone: ReadZone,
+) -> Reply
+    ensures { choice_shown result ≡ transfers.choice_of mode is_udp (sole_question_in message.now) asked zone.version }
+{
+    if !asks_for_apex(message, &zone) {
+        return Reply::Error(Rcode::SERVFAIL);
+    }
+    if !mode.is_ixfr() && is_udp {
+        return Reply::Error(Rcode::NOTIMP);
     }
     let Some(serial) = texts::zone_serial(&zone) else {
-        return Ok(Reply::Error(Rcode::SERVFAIL));
+        return Reply::Error(Rcode::SERVFAIL);
     };
-    if mode == XfrMode::Ixfr && is_caught_up(serial, asked) {
-        return Ok(Reply::SoaAlone(zone));
+    if mode.is_ixfr() && is_caught_up(serial, asked) {
+        return Reply::SoaAlone(zone);
     }
-    Ok(Reply::Whole(zone))
+    Reply::Whole(zone)
 }
 
 /// The rcode that tells why a provider gives nothing (RFC 5936, 2.2.1).
-fn rcode_of(error: XfrDataProviderError) -> Rcode {
+fn rcode_of(error: XfrDataProviderError) -> Rcode
+    ensures { result ≡ transfers.rcode_of error }
+{
     match error {
         XfrDataProviderError::ParseError => Rcode::FORMERR,
         XfrDataProviderError::UnknownZone => Rcode::NOTAUTH,
@@ -195,7 +280,9 @@ fn rcode_of(error: XfrDataProviderError) -> Rcode {
 }
 
 /// Whether the question's name is the zone's apex.
-fn asks_for_apex(message: &Message<'_>, zone: &ReadZone) -> bool {
+fn asks_for_apex(message: &Message<'_>, zone: &ReadZone) -> bool
+    ensures { result ≡ transfers.asks_for_apex (sole_question_in message.now) zone.now.version }
+{
     match message.sole_question() {
         Ok(question) => zone.apex_name().name_eq(question.qname()),
         Err(_) => false,
@@ -203,75 +290,119 @@ fn asks_for_apex(message: &Message<'_>, zone: &ReadZone) -> bool {
 }
 
 /// The serial of the first SOA record of the authority section; None where that is missing or unreadable (RFC 1995, 3).
-fn asked_serial(message: &Message<'_>) -> Option<Serial> {
-    let section = message.authority().ok()?;
-    for found in section {
-        let head = found.ok()?;
+fn asked_serial(message: &Message<'_>) -> Option<Serial>
+    ensures { result ≡ transfers.asked_serial message.now }
+{
+    match message.authority() {
+        Ok(section) => first_serial(section),
+        Err(_) => None,
+    }
+}
+
+/// The same of the records that are left of a section.
+fn first_serial(section: RecordSection<'_>) -> Option<Serial>
+    ensures { result ≡ transfers.first_serial section.entry.message section.entry.left }
+{
+    let mut records = section;
+    'records: while let Some(found) = records.next_record() {
+        let Ok(head) = found else {
+            return None;
+        };
         if head.rtype() == Rtype::SOA {
-            let soa = head.to_record().ok()?;
-            return match soa.data() {
-                ZoneRecordData::Soa(data) => Some(data.serial()),
-                _ => None,
-            };
+            return serial_of(&head);
         }
     }
     None
 }
 
+/// The serial of an SOA record, if it is readable.
+fn serial_of(head: &ParsedRecord<'_>) -> Option<Serial>
+    requires { head.now.raw.rtype ≡ type_soa }
+    ensures { result ≡ option_map (λ r. soas.serial_of r.fields) (readable head.now.message head.now.raw) }
+{
+    let Ok(found) = head.to_record() else {
+        return None;
+    };
+    match found.data() {
+        ZoneRecordData::Soa(data) => Some(data.serial()),
+        _ => None,
+    }
+}
+
 /// Whether the zone's serial is no news to one who has the other (RFC 1995, 2).
-fn is_caught_up(serial: Serial, asked: Option<Serial>) -> bool {
+fn is_caught_up(serial: Serial, asked: Option<Serial>) -> bool
+    ensures { result ≡ is_no_news serial asked }
+{
     match asked {
-        Some(asked) => matches!(
-            serial.partial_cmp(&asked),
-            Some(Ordering::Less | Ordering::Equal)
-        ),
+        Some(asked) => is_upto(serial, asked),
         None => false,
     }
 }
 
-/// The octets that a reply to this request may have before it is signed.
-fn reply_limit<M>(request: &Request<M>) -> usize {
-    let most = match request.transport {
+/// Whether a serial is the other, or before it (RFC 1982, 3.2).
+fn is_upto(serial: Serial, other: Serial) -> bool
+    ensures { result ≡ serial_upto serial other }
+{
+    match serial.partial_cmp(&other) {
+        Some(Ordering::Less | Ordering::Equal) => true,
+        Some(Ordering::Greater) => false,
+        None => false,
+    }
+}
+
+/// The octets that a reply may have before it is signed.
+fn reply_limit(transport: TransportSpecificContext, reserved: u16) -> usize
+    ensures { result ≡ transfers.reply_limit transport reserved }
+{
+    let most = match transport {
         TransportSpecificContext::Udp(hint) => hint.unwrap_or(MAX_UDP_LEN),
         TransportSpecificContext::NonUdp => MAX_STREAM_LEN,
     };
-    usize::from(most.saturating_sub(request.reserved))
+    usize::from(most.saturating_sub(reserved))
 }
 
-/// A reply with the apex SOA alone; SERVFAIL where that doesn't fit.
-fn soa_alone<M>(
+/// One reply, with the apex SOA alone; SERVFAIL where that can't be held.
+fn soa_alone(
     alloc: Global,
-    request: &Request<M>,
+    request: &MessageBuf,
+    limit: usize,
     zone: &ReadZone,
-) -> Result<AdditionalBuilder, ServiceError> {
-    match texts::soa_message(alloc, &request.message, reply_limit(request), zone) {
-        Ok(reply) => Ok(reply),
+) -> Result<Replies, ServiceError>
+    ensures { Makes (option_map one_reply (transfers.soa_reply request.now limit zone.now.version)) result }
+{
+    match texts::soa_message(alloc, request, limit, zone) {
+        Ok(reply) => Ok(Replies::single(alloc, reply)?),
         Err(PushError::Memory) => Err(ServiceError::Memory),
         Err(PushError::ShortBuf | PushError::CountOverflow) => {
-            replies::error_reply(alloc, &request.message, Rcode::SERVFAIL)
+            replies::refuse(alloc, request, Rcode::SERVFAIL)
         }
     }
 }
 
-/// The whole zone in one message. Where it doesn't fit, by UDP the SOA alone, which has the requestor ask again by a stream
+/// The whole zone in one message. Where it can't be held, by UDP the SOA alone, which has the requestor ask again by a stream
 /// (RFC 1995, 2), else SERVFAIL.
-fn whole_zone<M>(
+fn whole_zone(
     alloc: Global,
-    request: &Request<M>,
+    request: &MessageBuf,
+    limit: usize,
+    is_udp: bool,
     zone: &ReadZone,
-) -> Result<Replies, ServiceError> {
-    let is_udp = request.transport.is_udp();
-    match texts::whole_message(alloc, &request.message, reply_limit(request), zone) {
+) -> Result<Replies, ServiceError>
+    ensures { Makes (transfers.whole_replies request.now limit is_udp zone.now.version) result }
+{
+    match texts::whole_message(alloc, request, limit, zone) {
         Ok(reply) if is_udp => Ok(Replies::single(alloc, reply)?),
-        Ok(reply) => transaction(alloc, reply),
+        Ok(reply) => Ok(transaction(alloc, reply)?),
         Err(PushError::Memory) => Err(ServiceError::Memory),
-        Err(_) if is_udp => Ok(Replies::single(alloc, soa_alone(alloc, request, zone)?)?),
-        Err(_) => refuse(alloc, &request.message, Rcode::SERVFAIL),
+        Err(_) if is_udp => soa_alone(alloc, request, limit, zone),
+        Err(_) => replies::refuse(alloc, request, Rcode::SERVFAIL),
     }
 }
 
 /// A reply that is a whole transfer, with feedback before and after it.
-fn transaction(alloc: Global, reply: AdditionalBuilder) -> Result<Replies, ServiceError> {
+fn transaction(alloc: Global, reply: AdditionalBuilder) -> Result<Replies, AllocError>
+    ensures { IfOk result (λ replies. replies ≡ transfers.transaction reply) }
+{
     let mut replies = Replies::new(alloc);
     replies.push(CallResult::feedback_only(ServiceFeedback::BeginTransaction))?;
     replies.push(CallResult::new(reply))?;

@@ -1,10 +1,8 @@
 -- A list, cut at the first element of a kind.
-use Rattle.std.proofs.Common.{◌≡◌, ◌≢◌, ℕ, ◌+◌, ◌<◌, true, false, ◌==◌, List, [], ◌∷◌, length, get_or, refl, sym, ap, ◌∙◌, arith, take, drop, suc, zero, add-one}
+use Rattle.std.proofs.Common.{◌≡◌, ◌≢◌, ℕ, ◌+◌, ◌<◌, true, false, ◌==◌, List, [], ◌∷◌, length, get_or, refl, ap, ◌∙◌, arith, take, drop, suc, zero, add-one}
 use Rattle.std.proofs.lemmas.Bool.Decides.{nat_tests}
-use Rattle.std.proofs.lemmas.Grind.{common_steps}
 use Rattle.std.proofs.lemmas.List.Splits.{length-slice_split}
 use Rattle.std.specs.List.{slice_split}
-use Rattle.std.specs.Prelude.{if◌then◌else◌, Bool}
 use Rattle.zone_script.specs.Script.{script_lines, lines_of_parts}
 
 head_differs : (c x : ℕ) → x ≢ c → (x == c) ≡ false

@@ -1,6 +1,6 @@
 -- Numbers that are read digit by digit.
-use Rattle.std.specs.Prelude.{◌≡◌, ℕ, ◌+◌, ◌*◌, ◌<◌, ◌≤◌, List, [], ◌∷◌, Some, None, Option, option_map, option_and_then, nat_lt, nat_le, if◌then◌else◌, true, false, Bool, refl, length, drop}
-use Rattle.std.proofs.Common.{suc, ap, ◌∙◌, sym, arith, rules, get_or, add-one, drop-cons}
+use Rattle.std.specs.Prelude.{◌≡◌, ℕ, ◌+◌, ◌*◌, ◌<◌, ◌≤◌, List, [], ◌∷◌, Some, None, Option, option_map, if◌then◌else◌, true, false, Bool, refl, length, drop}
+use Rattle.std.proofs.Common.{suc, ap, ◌∙◌, arith, get_or, drop-cons}
 use Rattle.std.proofs.lemmas.Grind.{common_steps}
 use Rattle.zone_script.specs.Script.{digit_of, more_digits, number_below, leads_with_zero}
 use Rattle.zone_script.specs.Digits.{below, next_number}

@@ -48,3 +48,7 @@ pub mod ScriptReaders
 pub mod Digits
 pub mod Words
 pub mod Generated
+pub mod Lines
+pub mod Causes
+pub mod ZoneFiles
+pub mod Keeping

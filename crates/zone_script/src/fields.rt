@@ -1,11 +1,16 @@
 //! The fields of a line: names, numbers, records, keys.
-ghost use Rattle.std.specs.Prelude.{◌≡◌, ◌<◌, length};
+ghost use Rattle.std.specs.Prelude.{◌≡◌, ◌^◌, ◌∷◌, [], ◌&&◌, ℕ, List, IfOk, IfSome, IfNone, option_map, option_and_then, bytes_eq, codes};
+ghost use Rattle.dns_name.specs.Compression.{name_in};
+ghost use Rattle.zone_script.specs.Script as scripts;
+ghost use Rattle.zone_script.specs.ScriptReaders.{readers_so_far, record_so_far, key_so_far, is_read_type as is_type_so_far, or_none};
+ghost use Rattle.zone_script.specs.Lines.{line_of, is_whole};
 
 use crate::lines::cut;
 use crate::numbers::{number_below, octets_of_hex};
-use dns_name::{Class, KeyName, Labelled, NameOctets, StoredName};
+use dns_name::{Class, KeyName, Labelled, ParsedName, Rtype, StoredName};
 use dns_rdata::{StoredRecord, record_from_octets};
 use std::alloc::{AllocError, Global};
+use std::marker::Model;
 use tsig_port::{Algorithm, Key, Time48};
 
 /// A line as it is read.
@@ -25,7 +30,9 @@ pub(crate) enum Line {
 
 impl Line {
     /// The stage of a script at which such a line may stand.
-    pub(crate) fn stage(&self) -> u8 {
+    pub(crate) fn stage(&self) -> u8
+        ensures { result ≡ scripts.stage_of (line_of self.now) }
+    {
         match self {
             Line::Zone(_, _) => 1,
             Line::Key(_) => 2,
@@ -36,157 +43,268 @@ impl Line {
     }
 }
 
-/// The fields of a line, separated by one space each.
+/// The fields of a line that are left, separated by one space each.
 #[derive(Drop)]
 struct Fields<'l> {
     rest: Option<&'l [u8]>,
 }
 
+impl<'l> Model for Fields<'l> {
+    ghost use Rattle.std.specs.Prelude.{ℕ, List, option_copied};
+    ghost use Rattle.zone_script.specs.Lines.{fields_in};
+
+    ghost Value = { List (List ℕ) };
+
+    ghost view = { λ f. fields_in (option_copied f.rest) };
+}
+
 impl<'l> Fields<'l> {
     /// The next field.
-    fn next_field(&mut self) -> Option<&'l [u8]> {
+    fn next_field(&mut self) -> Option<&'l [u8]>
+        ensures some { IfSome result (λ field. self.old ≡ field.now ∷ self.new) }
+        ensures none { IfNone result (self.old ≡ []) }
+    {
         let rest = self.rest?;
         let (field, behind) = cut(rest, b' ');
         self.rest = behind;
         Some(field)
     }
+}
 
-    /// Whether no field is left.
-    fn is_done(&self) -> bool {
-        self.rest.is_none()
+/// The only field that is left.
+fn one_field<'l>(fields: &mut Fields<'l>) -> Option<&'l [u8]>
+    ensures some { IfSome result (λ x. fields.old ≡ x.now ∷ []) }
+    ensures none { IfNone result ((x : List ℕ) → fields.old ≡ x ∷ [] → ⊥) }
+{
+    let first = fields.next_field()?;
+    match fields.next_field() {
+        Some(_) => None,
+        None => Some(first),
     }
 }
 
+/// The only two fields that are left.
+fn two_fields<'l>(fields: &mut Fields<'l>) -> Option<(&'l [u8], &'l [u8])>
+    ensures some { IfSome result (λ r. fields.old ≡ r.0.now ∷ r.1.now ∷ []) }
+    ensures none { IfNone result ((x y : List ℕ) → fields.old ≡ x ∷ y ∷ [] → ⊥) }
+{
+    let first = fields.next_field()?;
+    let second = one_field(fields)?;
+    Some((first, second))
+}
+
 /// What a line says; None where it isn't read.
-pub(crate) fn read_line(alloc: Global, line: &[u8]) -> Result<Option<Line>, AllocError> {
-    let mut fields = Fields { rest: Some(line) };
-    let Some(word) = fields.next_field() else {
-        return Ok(None);
-    };
-    match word {
-        b"zone" => read_zone(alloc, fields),
-        b"key" => read_key(alloc, fields),
-        b"at" => Ok(read_at(fields)),
-        b"p" => match read_record(alloc, fields)? {
-            Some(found) => Ok(Some(Line::Primary(found))),
-            None => Ok(None),
-        },
-        b"s" => match read_record(alloc, fields)? {
-            Some(found) => Ok(Some(Line::Secondary(found))),
-            None => Ok(None),
-        },
-        _ => Ok(None),
+pub(crate) fn read_line(alloc: Global, line: &[u8]) -> Result<Option<Line>, AllocError>
+    ensures { IfOk result (λ l. option_map line_of l ≡ scripts.read_line readers_so_far line.now) }
+{
+    let (word, rest) = cut(line, b' ');
+    let mut fields = Fields { rest };
+    read_word(alloc, word, &mut fields)
+}
+
+/// What a word says with the fields behind it.
+#[tactic(auto, using(crate::proofs::ReadLines::zone_passes, crate::proofs::ReadLines::key_passes, crate::proofs::ReadLines::at_passes, crate::proofs::ReadLines::primary_passes, crate::proofs::ReadLines::secondary_passes, crate::proofs::ReadLines::late_none))]
+fn read_word(
+    alloc: Global,
+    word: &[u8],
+    fields: &mut Fields<'_>,
+) -> Result<Option<Line>, AllocError>
+    ensures { IfOk result (λ l. option_map line_of l ≡ option_and_then (scripts.of_stage readers_so_far) (scripts.read_word readers_so_far word.now fields.old)) }
+{
+    if word == b"zone".as_slice() {
+        read_zone(alloc, fields)
+    } else if word == b"key".as_slice() {
+        read_key_line(alloc, fields)
+    } else if word == b"at".as_slice() {
+        Ok(read_at(fields))
+    } else if word == b"p".as_slice() {
+        read_primary(alloc, fields)
+    } else if word == b"s".as_slice() {
+        read_secondary(alloc, fields)
+    } else {
+        Ok(None)
     }
 }
 
 /// `NAME CLASS`.
-fn read_zone(alloc: Global, fields: Fields<'_>) -> Result<Option<Line>, AllocError> {
-    let mut fields = fields;
-    let (Some(name), Some(class)) = (fields.next_field(), fields.next_field()) else {
+fn read_zone(alloc: Global, fields: &mut Fields<'_>) -> Result<Option<Line>, AllocError>
+    ensures { IfOk result (λ l. option_map line_of l ≡ scripts.two_fields (scripts.zone_line readers_so_far) fields.old) }
+{
+    let Some((name, class)) = two_fields(fields) else {
         return Ok(None);
     };
-    if !fields.is_done() {
+    let Some(name) = name_of_hex(alloc, name)? else {
         return Ok(None);
-    }
+    };
     let Some(class) = number_below(65_536, class) else {
         return Ok(None);
     };
-    match name_of_hex(alloc, name)? {
-        Some(apex) => Ok(Some(Line::Zone(apex.to_stored(alloc)?, Class::from_int(class as u16)))),
+    let apex = name.to_stored(alloc)?;
+    Ok(Some(Line::Zone(apex, Class::from_int(class as u16))))
+}
+
+/// `P S`, each below 2^48.
+fn read_at(fields: &mut Fields<'_>) -> Option<Line>
+    ensures { option_map line_of result ≡ scripts.two_fields scripts.at_line fields.old }
+{
+    let (primary, secondary) = two_fields(fields)?;
+    let at_primary = read_moment(primary)?;
+    let at_secondary = read_moment(secondary)?;
+    Some(Line::At(at_primary, at_secondary))
+}
+
+/// A moment, in seconds since 1970.
+fn read_moment(field: &[u8]) -> Option<Time48>
+    ensures { result ≡ scripts.number_below (2 ^ 48) field.now }
+{
+    let seconds = number_below(281_474_976_710_656, field)?;
+    Some(Time48::from_u64(seconds))
+}
+
+/// A record of the primary's zone.
+fn read_primary(alloc: Global, fields: &mut Fields<'_>) -> Result<Option<Line>, AllocError>
+    ensures { IfOk result (λ l. option_map line_of l ≡ scripts.one_field (scripts.record_line readers_so_far scripts.PrimaryLine) fields.old) }
+{
+    let Some(field) = one_field(fields) else {
+        return Ok(None);
+    };
+    match record_of_hex(alloc, field)? {
+        Some(found) => Ok(Some(Line::Primary(found))),
         None => Ok(None),
     }
 }
 
-/// `P S`, each below 2^48.
-fn read_at(fields: Fields<'_>) -> Option<Line> {
-    let mut fields = fields;
-    let at_primary = read_moment(fields.next_field()?)?;
-    let at_secondary = read_moment(fields.next_field()?)?;
-    if fields.is_done() {
-        Some(Line::At(at_primary, at_secondary))
+/// A record of the secondary's zone.
+fn read_secondary(alloc: Global, fields: &mut Fields<'_>) -> Result<Option<Line>, AllocError>
+    ensures { IfOk result (λ l. option_map line_of l ≡ scripts.one_field (scripts.record_line readers_so_far scripts.SecondaryLine) fields.old) }
+{
+    let Some(field) = one_field(fields) else {
+        return Ok(None);
+    };
+    match record_of_hex(alloc, field)? {
+        Some(found) => Ok(Some(Line::Secondary(found))),
+        None => Ok(None),
+    }
+}
+
+/// One record in wire form without pointers, as hexadecimal digits.
+fn record_of_hex(alloc: Global, field: &[u8]) -> Result<Option<StoredRecord>, AllocError>
+    ensures { IfOk result (λ r. r ≡ scripts.record_field readers_so_far field.now) }
+{
+    match octets_of_hex(alloc, field)? {
+        Some(octets) => record_of_octets(alloc, octets.as_slice()),
+        None => Ok(None),
+    }
+}
+
+/// The record of a type read so far that the octets spell.
+fn record_of_octets(alloc: Global, octets: &[u8]) -> Result<Option<StoredRecord>, AllocError>
+    ensures { IfOk result (λ r. r ≡ record_so_far octets.now) }
+{
+    let Ok(found) = record_from_octets(octets) else {
+        return Ok(None);
+    };
+    if !is_read_type(found.rtype()) {
+        return Ok(None);
+    }
+    Ok(Some(found.flatten(alloc)?))
+}
+
+/// Whether records of a type are read so far.
+fn is_read_type(rtype: Rtype) -> bool
+    ensures { result ≡ is_type_so_far rtype }
+{
+    rtype == Rtype::A || rtype == Rtype::NS || rtype == Rtype::SOA
+}
+
+/// A name in wire form without pointers, as hexadecimal digits.
+fn name_of_hex(alloc: Global, field: &[u8]) -> Result<Option<KeyName>, AllocError>
+    ensures { IfOk result (λ n. n ≡ scripts.name_field readers_so_far field.now) }
+{
+    match octets_of_hex(alloc, field)? {
+        Some(octets) => Ok(name_of_octets(octets.as_slice())),
+        None => Ok(None),
+    }
+}
+
+/// The name that the octets spell, all of them and without a pointer.
+fn name_of_octets(octets: &[u8]) -> Option<KeyName>
+    ensures { result ≡ name_in octets.now }
+{
+    let Ok((name, _)) = ParsedName::parse(octets, 0) else {
+        return None;
+    };
+    let name = name.to_key_name();
+    if name.as_slice() == octets {
+        Some(name)
     } else {
         None
     }
 }
 
-/// A moment, in seconds since 1970.
-fn read_moment(field: &[u8]) -> Option<Time48> {
-    let seconds = number_below(281_474_976_710_656, field)?;
-    Some(Time48::from_u64(seconds))
-}
-
-/// One record in wire form without pointers, as hexadecimal digits.
-fn read_record(alloc: Global, fields: Fields<'_>) -> Result<Option<StoredRecord>, AllocError> {
-    let mut fields = fields;
-    let Some(field) = fields.next_field() else {
-        return Ok(None);
-    };
-    if !fields.is_done() {
-        return Ok(None);
-    }
-    let Some(octets) = octets_of_hex(alloc, field)? else {
-        return Ok(None);
-    };
-    match record_from_octets(octets.as_slice()) {
-        Ok(found) => Ok(Some(found.flatten(alloc)?)),
-        Err(_) => Ok(None),
-    }
-}
-
-/// A name in wire form without pointers, as hexadecimal digits.
-fn name_of_hex(alloc: Global, field: &[u8]) -> Result<Option<KeyName>, AllocError> {
-    let Some(octets) = octets_of_hex(alloc, field)? else {
-        return Ok(None);
-    };
-    if octets.len() > 255 {
-        return Ok(None);
-    }
-    let octets = NameOctets::from_slice(octets.as_slice());
-    Ok(KeyName::from_octets(octets).ok())
-}
-
 /// `NAME ALGORITHM SECRET SIGN MIN`.
-fn read_key(alloc: Global, fields: Fields<'_>) -> Result<Option<Line>, AllocError> {
-    let mut fields = fields;
-    let Some(name) = fields.next_field() else {
+fn read_key_line(alloc: Global, fields: &mut Fields<'_>) -> Result<Option<Line>, AllocError>
+    ensures { IfOk result (λ l. option_map line_of l ≡ option_map scripts.KeyLine (key_so_far fields.old)) }
+{
+    match read_key(alloc, fields)? {
+        Some(key) => Ok(Some(Line::Key(key))),
+        None => Ok(None),
+    }
+}
+
+/// The key that the fields say, of the algorithm read so far and with whole MACs.
+fn read_key(alloc: Global, fields: &mut Fields<'_>) -> Result<Option<Key>, AllocError>
+    ensures { IfOk result (λ k. k ≡ key_so_far fields.old) }
+{
+    let Some((name, algorithm, secret, signing, least)) = five_fields(fields) else {
         return Ok(None);
     };
-    let Some(b"hmac-sha256") = fields.next_field() else {
-        return Ok(None);
-    };
-    let Some(secret) = fields.next_field() else {
-        return Ok(None);
-    };
-    if !is_native_len(fields.next_field())
-        || !is_native_len(fields.next_field())
-        || !fields.is_done()
-    {
+    if !is_plain(algorithm, signing, least) {
         return Ok(None);
     }
     let Some(name) = name_of_hex(alloc, name)? else {
         return Ok(None);
     };
-    let Some(secret) = read_secret(alloc, secret)? else {
-        return Ok(None);
-    };
-    match Key::new(Algorithm::Sha256, secret.as_slice(), name, None, None) {
-        Ok(key) => Ok(Some(Line::Key(key))),
-        Err(_) => Ok(None),
+    match read_secret(alloc, secret)? {
+        Some(secret) => Ok(Key::new(Algorithm::Sha256, secret.as_slice(), name, None, None).ok()),
+        None => Ok(None),
     }
 }
 
-/// Whether a field stands for the whole length of a MAC, 32 octets.
-fn is_native_len(field: Option<&[u8]>) -> bool {
-    match field {
-        Some(b"-") | Some(b"32") => true,
-        _ => false,
-    }
+/// The only five fields that are left.
+fn five_fields<'l>(
+    fields: &mut Fields<'l>,
+) -> Option<(&'l [u8], &'l [u8], &'l [u8], &'l [u8], &'l [u8])>
+    ensures some { IfSome result (λ r. fields.old ≡ r.0.now ∷ r.1.now ∷ r.2.now ∷ r.3.now ∷ r.4.now ∷ []) }
+    ensures none { IfNone result ((a b c d e : List ℕ) → fields.old ≡ a ∷ b ∷ c ∷ d ∷ e ∷ [] → ⊥) }
+{
+    let first = fields.next_field()?;
+    let second = fields.next_field()?;
+    let third = fields.next_field()?;
+    let (fourth, fifth) = two_fields(fields)?;
+    Some((first, second, third, fourth, fifth))
+}
+
+/// Whether a key is one of those read so far: HMAC-SHA256, with whole MACs.
+fn is_plain(algorithm: &[u8], signing: &[u8], least: &[u8]) -> bool
+    ensures { result ≡ (bytes_eq algorithm.now (codes "hmac-sha256") && is_whole signing.now && is_whole least.now) }
+{
+    algorithm == b"hmac-sha256".as_slice() && is_whole_len(signing) && is_whole_len(least)
+}
+
+/// Whether a field stands for the length of a whole MAC, 32 octets.
+fn is_whole_len(field: &[u8]) -> bool
+    ensures { result ≡ is_whole field.now }
+{
+    field == b"-".as_slice() || number_below(33, field) == Some(32)
 }
 
 /// A secret as hexadecimal digits, or a hyphen for none.
-fn read_secret(alloc: Global, field: &[u8]) -> Result<Option<Vec<u8>>, AllocError> {
-    match field {
-        b"-" => Ok(Some(Vec::new(alloc))),
-        digits => octets_of_hex(alloc, digits),
+fn read_secret(alloc: Global, field: &[u8]) -> Result<Option<Vec<u8>>, AllocError>
+    ensures { IfOk result (λ o. option_map (λ v. v.items) o ≡ or_none [] scripts.hex_of field.now) }
+{
+    if field == b"-".as_slice() {
+        return Ok(Some(Vec::new(alloc)));
     }
+    octets_of_hex(alloc, field)
 }

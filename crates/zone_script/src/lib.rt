@@ -4,5 +4,7 @@
 mod fields;
 mod lines;
 pub mod numbers;
+mod opening;
+mod reading;
 pub mod script;
 pub mod words;

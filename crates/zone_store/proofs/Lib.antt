@@ -6,3 +6,4 @@ mod Removing
 mod Closing
 mod Stops
 mod Distinct
+mod Sound

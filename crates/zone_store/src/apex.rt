@@ -34,6 +34,13 @@ impl ZoneApex {
         })
     }
 
+    /// A zone with this current version.
+    pub(crate) fn of(current: ReadZone) -> ZoneApex
+        ensures { result ≡ current }
+    {
+        ZoneApex { current }
+    }
+
     /// A read handle of the current version.
     pub fn read(&self) -> Result<ReadZone, AllocError>
         ensures { IfOk result (λ z. z ≡ self.now) }

@@ -30,6 +30,27 @@ impl From<AllocError> for EditError {
     }
 }
 
+/// Why a record isn't put into a zone that opens. The zone is then as before.
+#[derive(Clone, Copy, Debug, PartialEq, Eq, Drop, Error)]
+pub enum InsertError {
+    /// The owner is neither the apex nor below it.
+    #[error("the owner isn't in the zone")]
+    OutOfZone,
+    #[error("out of memory")]
+    Memory,
+}
+
+impl From<AllocError> for InsertError {
+    ghost use Rattle.std.specs.Prelude.{◌≡◌};
+    ghost use Rattle.zone_store.specs.declared.errors.InsertError.{InsertError};
+
+    ghost from_gives = { λ e f. f ≡ InsertError.Memory };
+
+    fn from(_error: AllocError) -> InsertError {
+        InsertError::Memory
+    }
+}
+
 /// Why a commit is refused. Nothing is published then, and the session stays as it was.
 #[derive(Clone, Copy, Debug, PartialEq, Eq, Drop, Error)]
 pub enum CommitError {

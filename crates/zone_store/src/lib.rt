@@ -2,8 +2,8 @@
 #![tactic(auto)]
 
 mod apex;
+mod builder;
 mod errors;
-mod laws;
 mod read;
 mod sets;
 #[cfg(test)]
@@ -13,7 +13,8 @@ mod walk;
 mod write;
 
 pub use apex::ZoneApex;
-pub use errors::{CommitError, EditError};
+pub use builder::ZoneBuilder;
+pub use errors::{CommitError, EditError, InsertError};
 pub use read::ReadZone;
 pub use sets::RecordSet;
 pub use version::WalkItem;

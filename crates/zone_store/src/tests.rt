@@ -1,6 +1,6 @@
 // A zone of four records, from its session to its walk.
 
-use crate::{EditError, ReadZone, ZoneApex};
+use crate::{EditError, InsertError, ReadZone, ZoneApex, ZoneBuilder};
 use dns_name::{Class, NameRef, Rtype, Serial, StoredName, Ttl};
 use dns_rdata::{A, Ns, Record, Soa, StoredRecord, ZoneRecordData};
 use std::alloc::Global;
@@ -166,7 +166,37 @@ fn refuses_what_does_not_fit(rt: HostRuntime) -> Result<(), Fail> {
     assert_eq!(rt; outside, Err(EditError::OutOfZone));
     let again = session.add_record(address(rt.alloc(), b"\x02NS\x07example\x00", 2)?);
     assert_eq!(rt; again, Err(EditError::Incompatible));
-    session.insert_opening(address(rt.alloc(), b"\x02NS\x07example\x00", 2)?)?;
     assert_eq!(rt; session.commit(), Ok(()));
+    Ok(())
+}
+
+#[test]
+fn opens_with_what_was_inserted(rt: HostRuntime) -> Result<(), Fail> {
+    let apex = name(rt.alloc(), b"\x07Example\x00")?;
+    let mut builder = ZoneBuilder::new(rt.alloc(), apex, Class::IN);
+    builder.insert(address(rt.alloc(), b"\x01a\x07example\x00", 1)?)?;
+    builder.insert(address(rt.alloc(), b"\x01A\x07example\x00", 1)?)?;
+    let outside = builder.insert(address(rt.alloc(), b"\x03com\x00", 1)?);
+    assert_eq!(rt; outside, Err(InsertError::OutOfZone));
+    let zone = builder.build()?.read()?;
+    assert_eq!(rt; zone.version(), 0);
+    let first = zone.first_rrset().ok_or("no set")?;
+    assert_eq!(rt; first.items().len(), 1);
+    Ok(())
+}
+
+#[test]
+fn deletes_the_last_data_of_a_set(rt: HostRuntime) -> Result<(), Fail> {
+    let mut zone = filled(rt.alloc())?;
+    let mut session = zone.write(rt.alloc());
+    let lacking = address(rt.alloc(), b"\x01a\x07example\x00", 9)?;
+    assert_eq!(rt;
+        session.delete_record(&lacking),
+        Err(EditError::Incompatible)
+    );
+    session.delete_record(&address(rt.alloc(), b"\x01A\x07example\x00", 1)?)?;
+    session.commit()?;
+    let owner = NameRef::from_octets(b"\x01a\x07example\x00".as_slice())?;
+    assert!(rt; session.handle()?.rrset_at(&owner, Rtype::A).is_none());
     Ok(())
 }

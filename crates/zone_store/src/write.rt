@@ -1,11 +1,11 @@
 // A session that writes a zone's next versions.
 ghost use Rattle.std.specs.Prelude.{◌≡◌, ◌↔◌, ◌-◌, ◌^◌, [], Ok, Err, IfOk, IfErr, IfSome, OnOk, OnErr, IsOk, IsTrue, false};
-ghost use Rattle.dns_name.specs.Names.{under};
 ghost use Rattle.zone_types.specs.Edits.{add, delete, with_sets};
 ghost use Rattle.zone_types.specs.Edits as edits;
+ghost use Rattle.zone_types.specs.Version.{IsValid};
 ghost use Rattle.zone_types.specs.Session.{opened_session, with_pending, committed, rolled_back};
 ghost use Rattle.zone_store.specs.Causes.{refusal_of};
-ghost use Rattle.zone_store.specs.Puts.{appended, without, opened_by, with_soa};
+ghost use Rattle.zone_store.specs.Puts.{appended, without, with_soa};
 ghost use Rattle.dns_rdata.specs.DataFields.{soa_fields};
 ghost use Rattle.dns_rdata.specs.ZoneData.{data_fields};
 ghost use Rattle.std.specs.Arc.{arc_value};
@@ -128,24 +128,6 @@ impl<'z> WriteZone<'z> {
         Ok(removed?)
     }
 
-    /// Puts a record that the zone opens with: equal data are passed over, and the set's TTL is the lowest of its records'. `OutOfZone` and
-    /// `Memory` alone refuse it.
-    pub fn insert_opening(&mut self, added: StoredRecord) -> Result<(), EditError>
-        ensures ok { OnOk result (self.new ≡ with_pending self.old (opened_by self.old.pending added)) }
-        ensures inside { OnOk result (IsTrue (under added.owner self.old.pending.apex)) }
-        ensures refused { IfErr result (λ e. IfSome (refusal_of e) (λ why. (why ≡ edits.OutOfZone) × (under added.owner self.old.pending.apex ≡ false))) }
-        ensures err { OnErr result (self.new ≡ self.old) }
-    {
-        if self.shown().is_outside(&added) {
-            return Err(EditError::OutOfZone);
-        }
-        let alloc = self.alloc;
-        let mut pending = self.take_pending()?;
-        let put = open_with(&mut pending, alloc, added);
-        self.pending = Some(pending);
-        Ok(put?)
-    }
-
     /// Makes the apex SOA set this one record.
     pub fn set_soa(&mut self, ttl: Ttl, soa: Soa<StoredName>) -> Result<(), AllocError>
         ensures ok { OnOk result (self.new ≡ with_pending self.old (with_soa self.old.pending ttl (soa_fields (λ n. n) soa))) }
@@ -189,7 +171,8 @@ impl<'z> WriteZone<'z> {
 
     /// What a commit publishes.
     fn closed(&self) -> Result<Arc<ZoneVersion>, AllocError>
-        ensures { IfOk result (λ v. v.value ≡ edits.close self.now.pending) }
+        ensures is { IfOk result (λ v. v.value ≡ edits.close self.now.pending) }
+        ensures valid { IfOk result (λ v. IsValid v.value) }
     {
         if self.shown().has_stray() {
             return Ok(Arc::new(self.alloc, self.shown().closed()?)?);
@@ -234,6 +217,7 @@ fn append(
     alloc: Global,
     added: StoredRecord,
 ) -> Result<(), AllocError>
+    requires { add (arc_value pending.old) added ≡ Ok (appended (arc_value pending.old) added) }
     ensures ok { OnOk result (arc_value pending.new ≡ appended (arc_value pending.old) added) }
     ensures err { OnErr result (arc_value pending.new ≡ arc_value pending.old) }
 {
@@ -243,25 +227,13 @@ fn append(
 
 /// Takes a record's data out of its set.
 fn remove(pending: &mut Arc<ZoneVersion>, deleted: &StoredRecord) -> Result<(), AllocError>
+    requires { delete (arc_value pending.old) deleted.now ≡ Ok (without (arc_value pending.old) deleted.now) }
     ensures ok { OnOk result (arc_value pending.new ≡ without (arc_value pending.old) deleted.now) }
     ensures err { OnErr result (arc_value pending.new ≡ arc_value pending.old) }
 {
     let version = Arc::make_mut(pending)?;
     version.remove(deleted);
     Ok(())
-}
-
-/// Puts a record that the zone opens with.
-fn open_with(
-    pending: &mut Arc<ZoneVersion>,
-    alloc: Global,
-    added: StoredRecord,
-) -> Result<(), AllocError>
-    ensures ok { OnOk result (arc_value pending.new ≡ opened_by (arc_value pending.old) added) }
-    ensures err { OnErr result (arc_value pending.new ≡ arc_value pending.old) }
-{
-    let version = Arc::make_mut(pending)?;
-    version.open_with(alloc, added)
 }
 
 /// Makes the apex SOA set one record.

@@ -1,12 +1,26 @@
-use Rattle.std.proofs.Common.{◌≡◌, ◌<◌}
-use Rattle.zone_types.specs.Walk.{next_stop}
-use Rattle.xfr_server.proofs.Walks.{fewer_from}
+use Rattle.std.proofs.lemmas.Result.{err_from_is_err_and}
+use Rattle.std.specs.Prelude.{flat_map}
+use Rattle.zone_types.specs.Walk.{walk}
+use Rattle.xfr_server.specs.Texts.{stop_records}
+use Rattle.xfr_server.proofs.Loops.{stop_refused, stop_added, stops_done}
 use Rattle.xfr_server.proofs.texts.push_middle.Goals as goal
 
-pub loop-next-smaller : goal.loop-next-smaller
-loop-next-smaller c =
-    let step = c.next_rrset-next.ensures in
-    let owner = c.owner.ensures in
-    let rtype = c.rtype.ensures in
-    let next : c.next_rrset-next.result ≡ next_stop c.args.zone.now.version c.in-Some.item.owner c.in-Some.item.rtype = cc in
-    rw c.in-Some.is (fewer_from c.args.zone.now.version c.in-Some.item c.next_rrset-next.result next)
+pub loop-stop-preserved : goal.loop-stop-preserved
+loop-stop-preserved c =
+    let v = c.args.zone.now.version in
+    let kept = stop_added v c.loop-stop.stop-iterator c.next.new.self c.in-Some.stop (flat_map (stop_records v) (walk v)) c.loop-stop.answer c.args.answer.now c.push_stop.new.answer _
+    c.in-Some.ensures.steps c.loop-stop.invariant.limit c.loop-stop.invariant.room c.loop-stop.invariant.octets c.in_ok-push_stop.ensures in
+    record { limit = kept.limit; room = kept.room; octets = kept.octets }
+
+pub returns-in_err-push_stop : goal.returns-in_err-push_stop
+returns-in_err-push_stop c =
+    let from = err_from_is_err_and c.from_residual.result c.from_residual.ensures.1 in
+    let v = c.args.zone.now.version in
+    rw (from.1, from.2) (stop_refused v c.loop-stop.stop-iterator c.next.new.self c.in-Some.stop (flat_map (stop_records v) (walk v)) c.loop-stop.answer c.args.answer.now c.push_stop.new.answer _ _
+    c.in-Some.ensures.steps c.loop-stop.invariant.limit c.loop-stop.invariant.room c.in_err-push_stop.ensures)
+
+pub returns : goal.returns
+returns c =
+    let v = c.args.zone.now.version in
+    stops_done v c.loop-stop.stop-iterator (flat_map (stop_records v) (walk v)) c.loop-stop.answer c.args.answer.now _
+    c.in-None.ensures.steps.0 c.loop-stop.invariant.limit c.loop-stop.invariant.room c.loop-stop.invariant.octets

@@ -1,5 +1,14 @@
-use Rattle.xfr_server.specs.Walking.{stops_from}
+use Rattle.std.proofs.Common.{◌≡◌}
+use Rattle.std.specs.Prelude.{flat_map}
+use Rattle.zone_types.specs.Walk.{walk}
+use Rattle.xfr_server.specs.Texts.{with_answers, have_room, stop_records}
 use Rattle.xfr_server.proofs.texts.push_middle.Given as goal
 
-abbrev pub decreases-loop-next : goal.decreases-loop-next
-decreases-loop-next l = stops_from l.zone.version l.next
+abbrev pub invariant-loop-stop : goal.invariant-loop-stop
+invariant-loop-stop l = record {
+  limit : l.answer.limit ≡ l.initial.answer.limit;
+  room : have_room l.answer.limit l.answer.octets (flat_map (stop_records l.zone.version) l.stop-iterator)
+      ≡ have_room l.initial.answer.limit l.initial.answer.octets (flat_map (stop_records l.zone.version) (walk l.zone.version));
+  octets : with_answers l.answer.octets (flat_map (stop_records l.zone.version) l.stop-iterator)
+      ≡ with_answers l.initial.answer.octets (flat_map (stop_records l.zone.version) (walk l.zone.version));
+}

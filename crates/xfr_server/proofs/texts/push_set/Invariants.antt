@@ -1,0 +1,17 @@
+use Rattle.std.proofs.Common.{◌≡◌, length, map}
+use Rattle.dns_rdata.specs.ZoneData.{data_fields}
+use Rattle.zone_types.specs.Answer.{records_of}
+use Rattle.xfr_server.specs.Texts.{with_answers, have_room}
+use Rattle.xfr_server.proofs.texts.push_set.Given as goal
+
+abbrev pub invariant-records : goal.invariant-records
+invariant-records l = record {
+  limit : l.answer.limit ≡ l.initial.answer.limit;
+  room : have_room l.answer.limit l.answer.octets (records_of l.owner l.rtype l.class (record { ttl = l.ttl; items = map data_fields l.rest }))
+      ≡ have_room l.initial.answer.limit l.initial.answer.octets (records_of l.owner l.rtype l.class (record { ttl = l.ttl; items = map data_fields l.items }));
+  octets : with_answers l.answer.octets (records_of l.owner l.rtype l.class (record { ttl = l.ttl; items = map data_fields l.rest }))
+      ≡ with_answers l.initial.answer.octets (records_of l.owner l.rtype l.class (record { ttl = l.ttl; items = map data_fields l.items }));
+}
+
+abbrev pub decreases-records : goal.decreases-records
+decreases-records l = length l.rest

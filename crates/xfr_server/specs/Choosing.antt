@@ -1,0 +1,25 @@
+-- What is chosen to be sent, as it is kept.
+use Rattle.std.specs.Prelude.{◌≡◌, ℕ, Bool, false, Option, Some, None, Result, Ok, Err}
+use Rattle.dns_name.specs.Serial.{serial_upto}
+use Rattle.xfr_server.specs.Transfers.{Choice}
+use Rattle.xfr_server.specs.Transfers.Choice.{Refuse, SoaAlone as TheSoa, Whole as TheText}
+use Rattle.xfr_server.specs.declared.services.ServiceError.{ServiceError}
+use Rattle.xfr_server.specs.declared.services.ServiceError.TheVariants.{InternalError, Memory}
+use Rattle.xfr_server.specs.declared.transfer.Reply.{Reply}
+use Rattle.xfr_server.specs.declared.transfer.Reply.TheVariants.{Error, SoaAlone, Whole}
+
+abbrev pub choice_shown : Reply → Choice
+choice_shown (Error rcode) = Refuse rcode
+choice_shown (SoaAlone zone) = TheSoa zone.version
+choice_shown (Whole zone) = TheText zone.version
+
+-- One case for each answer: this choice, or want of memory.
+abbrev pub Chooses : Choice → Result Reply ServiceError → Type 0
+Chooses choice (Ok reply) = choice_shown reply ≡ choice
+Chooses choice (Err InternalError) = ⊥
+Chooses choice (Err Memory) = Unit {0}
+
+-- whether a serial is no news to one who has the other
+abbrev pub is_no_news : ℕ → Option ℕ → Bool
+is_no_news serial None = false
+is_no_news serial (Some asked) = serial_upto serial asked

@@ -1,0 +1,48 @@
+-- An honest full transfer, as a primary sends it (RFC 5936, 2.2; RFC 8945, 5.3).
+use Rattle.std.specs.Prelude.{◌≡◌, ℕ, ◌+◌, ◌≤◌, ◌<◌, true, false, List, [], ◌∷◌, length, Option, Some, None, IsTrue, Result, Ok}
+use Rattle.dns_name.specs.Names.{fold}
+use Rattle.dns_wire.specs.Wire.{Message, message_wire}
+use Rattle.dns_wire.specs.Parse.{sole_question_in}
+use Rattle.tsig_port.specs.Tsig.{TsigKey, mac_in, is_mac_len, compose_len, signed_answers}
+use Rattle.tsig_port.specs.Checked.{taken_message}
+use Rattle.tsig_port.specs.ServerCheck.{Keys, verdict}
+use Rattle.tsig_port.specs.ServerCheck.Verdict.{Accepted}
+use Rattle.zone_types.specs.Version.{Version, has_one_apex_soa}
+use Rattle.zone_types.specs.Offer.{Offer, whole_text}
+use Rattle.xfr_server.specs.Items.{Sending, Sent, sent_by}
+use Rattle.xfr_server.specs.Texts.{transfer_message}
+use Rattle.xfr_server.specs.Transfers.{transfer_mode, asked_serial, asks_for_apex}
+use Rattle.xfr_server.specs.Serving.{SendsTransfer, SendsChecked}
+use Rattle.xfr_server.specs.declared.providers.XfrDataProviderError.{XfrDataProviderError}
+use Rattle.xfr_server.specs.declared.requests.Request.{Request}
+use Rattle.xfr_server.specs.declared.requests.TransportSpecificContext.TheVariants.{NonUdp}
+use Rattle.xfr_server.specs.declared.transfer.XfrMode.TheVariants.{Axfr}
+
+-- the message that answers a request with the whole text of a version
+abbrev pub whole_answer : {M : Type 0} → Request M → Version → Message
+whole_answer r v = transfer_message (taken_message r.message) (whole_text v)
+
+-- a signed request for a full transfer by a stream that the server accepts and the provider grants, and whose answer has room
+pub record IsGrantedAxfr {M K : Type 0} (the_key : K → TsigKey) (keys : Keys) (told : List ℕ → Option K → Option ℕ → Result Offer XfrDataProviderError) (r : Request M) (key : TsigKey) (offer : Offer) : Type 0 where
+  pub accepted : verdict keys r.at r.message ≡ Accepted key
+  pub known : keys (fold key.name) key.algorithm ≡ Some key
+  pub macs : IsTrue (is_mac_len key.algorithm key.signing_len)
+  pub asks : transfer_mode (taken_message r.message) ≡ Some Axfr
+  pub stream : r.transport ≡ NonUdp
+  pub fresh : r.reserved ≡ 0
+  pub granted : (k : K) → the_key k ≡ key → told (taken_message r.message) (Some k) (asked_serial (taken_message r.message)) ≡ Ok offer
+  pub apex : asks_for_apex (sole_question_in (taken_message r.message)) offer.version ≡ true
+  pub one_soa : has_one_apex_soa offer.version ≡ true
+  pub few : length (whole_text offer.version) < 65536
+  pub room : length (message_wire (whole_answer r offer.version)) + compose_len key ≤ 65535
+
+-- what is sent is that message alone, signed as the first answer to the request
+pub record IsSentWhole {M : Type 0} (r : Request M) (key : TsigKey) (v : Version) (sent : Option (List Sending)) : Type 0 where
+  pub items : List Sending
+  pub some : sent ≡ Some items
+  pub messages : sent_by items ≡ record { messages = signed_answers key (mac_in r.message) r.at 300 (message_wire (whole_answer r v) ∷ []); fails = false }
+
+-- the law of full transfers: a primary of these services sends that
+abbrev pub SendsWhole : {M K : Type 0} → (K → TsigKey) → Keys → (Request (Option K) → Option (List Sending) → Type 0) → (List ℕ → Option K → Option ℕ → Result Offer XfrDataProviderError) → Request M → TsigKey → Offer → Option (List Sending) → Type 0
+SendsWhole the_key keys Next told r key offer sent =
+    IsGrantedAxfr the_key keys told r key offer → SendsChecked the_key keys (SendsTransfer (λ o. o ≡ None) Next told) r sent → IsSentWhole r key offer.version sent

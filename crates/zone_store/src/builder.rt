@@ -1,0 +1,94 @@
+// How a zone opens.
+ghost use Rattle.std.specs.Prelude.{◌≡◌, ◌↔◌, [], false, Err, OnOk, OnErr, IfOk, is_some};
+ghost use Rattle.zone_types.specs.Version.{set_at};
+ghost use Rattle.dns_name.specs.Names.{under};
+ghost use Rattle.zone_types.specs.Classify.{opened_with};
+ghost use Rattle.zone_types.specs.Edits as edits;
+
+use crate::apex::ZoneApex;
+use crate::errors::InsertError;
+use crate::read::ReadZone;
+use crate::version::ZoneVersion;
+use dns_name::{Class, Labelled, Rtype, StoredName};
+use dns_rdata::StoredRecord;
+use std::alloc::{AllocError, Global};
+use std::marker::Model;
+use std::sync::Arc;
+
+/// The records that a zone opens with, put one by one. It is seen as the version that they make.
+///
+/// A record's data are A, NS or SOA data so far, so that nothing stands beside a CNAME, and none beside another one.
+#[derive(Drop)]
+pub struct ZoneBuilder {
+    alloc: Global,
+    version: ZoneVersion,
+}
+
+impl Model for ZoneBuilder {
+    ghost use Rattle.zone_types.specs.Version.{Version};
+
+    ghost Value = { Version };
+
+    ghost view = { λ b. b.version };
+}
+
+impl ZoneBuilder {
+    /// A zone of this apex and class without records.
+    pub fn new(alloc: Global, apex: StoredName, class: Class) -> ZoneBuilder
+        ensures { result ≡ record { apex = apex; class = class; sets = [] } }
+    {
+        ZoneBuilder {
+            alloc,
+            version: ZoneVersion::empty(alloc, apex, class),
+        }
+    }
+
+    /// The name of the apex, as it was given.
+    pub fn apex(&self) -> &StoredName
+        ensures { result.now ≡ self.now.apex }
+    {
+        self.version.apex()
+    }
+
+    /// The class.
+    pub fn class(&self) -> Class
+        ensures { result ≡ self.now.class }
+    {
+        self.version.class()
+    }
+
+    /// Whether an owner has a set of a type.
+    pub fn has_set<N: Labelled>(&self, owner: &N, rtype: Rtype) -> bool
+        ensures { result ≡ is_some (set_at self.now (N.labels owner.now) rtype) }
+    {
+        self.version.set_at(owner, rtype).is_some()
+    }
+
+    /// Puts a record: equal data are passed over, and the set's TTL is the lowest of its records' (RFC 2181, 5). The class isn't looked at.
+    pub fn insert(&mut self, added: StoredRecord) -> Result<(), InsertError>
+        ensures ok { OnOk result (self.new ≡ opened_with self.old added) }
+        ensures outside { (result ≡ Err InsertError.OutOfZone) ↔ (under added.owner self.old.apex ≡ false) }
+        ensures err { OnErr result (self.new ≡ self.old) }
+    {
+        if self.version.is_outside(&added) {
+            return Err(InsertError::OutOfZone);
+        }
+        self.version.open_with(self.alloc, added)?;
+        Ok(())
+    }
+
+    /// Opens the zone, its version numbered 0: the records without DS sets below the apex that lack NS.
+    pub fn build(self) -> Result<ZoneApex, AllocError>
+        ensures { IfOk result (λ z. z ≡ record { number = 0; version = edits.close self }) }
+    {
+        self.open_at(0)
+    }
+
+    /// Opens the zone, as `build` does, with another number for its version.
+    pub fn open_at(self, number: u64) -> Result<ZoneApex, AllocError>
+        ensures { IfOk result (λ z. z ≡ record { number = number; version = edits.close self }) }
+    {
+        let version = Arc::new(self.alloc, self.version.into_closed()?)?;
+        Ok(ZoneApex::of(ReadZone::of(number, version)))
+    }
+}
