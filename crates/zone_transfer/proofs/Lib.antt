@@ -9,3 +9,4 @@ pub mod Messages
 pub mod Taking
 pub mod Checking
 pub mod Clients
+pub mod Requests

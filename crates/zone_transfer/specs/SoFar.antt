@@ -1,5 +1,5 @@
 -- A transfer as far as it is built: a client takes no unsigned answer behind the first (RFC 8945, 5.3.1), and reads records of the types A, NS and SOA alone.
-use Rattle.std.specs.Prelude.{ℕ, ◌%◌, ◌^◌, Bool, false, not, List, [], ◌∷◌, map, Option, unwrap_or}
+use Rattle.std.specs.Prelude.{ℕ, ◌<◌, length, ◌%◌, ◌^◌, Bool, false, not, List, [], ◌∷◌, map, Option, unwrap_or}
 use Rattle.dns_wire.specs.Wire.{header_in, header_of, Question, same_question, Message, message_wire}
 use Rattle.tsig_port.specs.Tsig.{TsigKey, request_tsig, signed_request, is_signed}
 use Rattle.tsig_port.specs.Checked.{answer_fault, taken_message, passing, first_fault}
@@ -8,6 +8,9 @@ use Rattle.zone_types.specs.Commits.{Commit}
 use Rattle.zone_types.specs.TransferText.{Mode}
 use Rattle.zone_types.specs.Messages.{ReadMessage, type_of}
 use Rattle.xfr_client.specs.Interpreting.{read_here}
+use Rattle.dns_wire.specs.declared.builder.PushError.TheVariants.{ShortBuf}
+use Rattle.zone_transfer.specs.declared.outcome.SyncError.{SyncError}
+use Rattle.zone_transfer.specs.declared.outcome.SyncError.TheVariants as why
 use Rattle.xfr_course.specs.Outcome.{Outcome, Ended, Checked, Course}
 use Rattle.xfr_course.specs.Courses.{replies_taken, stop_after}
 use Rattle.xfr_course.specs.Client.{Client, new_client, take_course}
@@ -42,6 +45,12 @@ asked_octets a = signed_request a.key (message_wire (request_message a)) a.at 30
 
 unfoldable pub asked_mac : Asking → List ℕ
 asked_mac a = (request_tsig a.key (message_wire (request_message a)) a.at 300).mac
+
+-- want of memory, or a request that is longer than it may be
+abbrev pub IsTooLong : ℕ → List ℕ → SyncError → Type 0
+IsTooLong most octets why.Memory = Unit {0}
+IsTooLong most octets (why.Request ShortBuf) = most < length octets
+IsTooLong most octets e = ⊥
 
 -- ---- replies
 

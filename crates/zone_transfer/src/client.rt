@@ -11,7 +11,7 @@ ghost use Rattle.zone_types.specs.Updates.{Progress};
 ghost use Rattle.xfr_client.specs.Interpreting.{read_here};
 ghost use Rattle.xfr_client.specs.Causes.{update_of};
 ghost use Rattle.zone_transfer.specs.Modes.{mode_of};
-ghost use Rattle.zone_transfer.specs.SoFar.{Asking, asked_octets, asked_mac, asked_id, asked_question, message_so_far, asking, asks_other};
+ghost use Rattle.zone_transfer.specs.SoFar.{Asking, asked_octets, asked_mac, asked_id, asked_question, message_so_far, asking, asks_other, IsTooLong};
 ghost use Rattle.zone_transfer.specs.Standing.{asking_of, Stands, TakesReply, ExchangeStands, IsUnderWay};
 ghost use Rattle.zone_transfer.specs.Replies.{AnswersReply, AnswersRequest, IsAnswerTo, TestsReply, TakesMessage};
 ghost use Rattle.zone_transfer.specs.Steps.{Ahead, TakesOne, TakesAll};
@@ -107,7 +107,7 @@ impl XfrClient {
         ensures ok { IfOk result (λ m. (m ≡ asked_octets (asking_of self.old session.old.current)) × (length m ≤ min max_len 65535)) }
         // The client stands for no reply yet.
         ensures begun { OnOk result ((handles : List Commit) → Stands self.new session.new (asking_of self.old session.old.current) [] handles handles) }
-        ensures refused { IfErr result (λ e. (e ≡ SyncError.Memory) ⊎ ((e ≡ SyncError.Request PushError.ShortBuf) × (min max_len 65535 < length (asked_octets (asking_of self.old session.old.current))))) }
+        ensures refused { IfErr result (λ e. IsTooLong (min max_len 65535) (asked_octets (asking_of self.old session.old.current)) e) }
         // Nothing is pending, and the current version stays.
         ensures session { session.new ≡ record (rolled_back session.old) { has_handle = session.new.has_handle } }
         ensures closed { OnErr result (self.new.exchange ≡ None) }
@@ -271,7 +271,7 @@ impl Exchange {
 /// The question of a request, unsigned yet.
 fn ask(alloc: Global, id: u16, question: &Question<KeyName>) -> Result<AdditionalBuilder, SyncError>
     ensures ok { IfOk result (λ b. b ≡ record { octets = message_wire (asking id question.now); limit = 65535 }) }
-    ensures refused { IfErr result (λ e. e ≡ SyncError.Memory) }
+    ensures refused { IfErr result (λ e. IsTooLong 65535 (message_wire (asking id question.now)) e) }
 {
     let mut builder = MessageBuilder::new(alloc)?;
     builder.set_header(Header::new(id));

@@ -35,4 +35,4 @@ returns-in-Err-clause-takes c base taken before st =
     let x = stands_by c.args.self.now c.args.session.now a taken before c.args.made.now.items c.in-Some.exchange st (sym (ap (λ s. s.exchange) v) ∙ sym c.in-Some.ensures.value) in
     let whole : a.mode ≡ Axfr = sym (ap (λ s. s.mode) v) ∙ mode_whole c.self.inside.mode in
     let k = c.in-Err.ensures a taken before (sym (ap (λ s. s.at) v)) whole x in
-    takes_refusal a c.rollback.new.self c.take-2.new.session before c.take-2.new.made.items taken c.args.octets.items c.in-Err.error c.rollback.ensures k
+    takes_refusal a c.rollback-in-Err.new.self c.take-2.new.session before c.take-2.new.made.items taken c.args.octets.items c.in-Err.error c.rollback-in-Err.ensures k
