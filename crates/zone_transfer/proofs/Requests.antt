@@ -1,14 +1,27 @@
 -- The request of a secondary.
-use Rattle.std.proofs.Common.{◌≡◌, ℕ, ◌+◌, ◌<◌, ◌≤◌, Bool, true, false, nat_le, List, [], ◌∷◌, ◌++◌, length, length-append, length-drop, append-nil, take, drop, replicate, min, refl, sym, ap, ◌∙◌, subst, arith, Option, Some, None, Result, Ok, Err}
+use Rattle.std.proofs.Common.{◌≡◌, ℕ, ◌+◌, ◌^◌, ◌<◌, ◌≤◌, Bool, true, false, nat_le, List, [], ◌∷◌, ◌++◌, length, length-append, length-drop, append-nil, take, drop, replicate, min, refl, sym, ap, ◌∙◌, subst, arith, Option, Some, None, Result, Ok, Err}
 use Rattle.std.proofs.lemmas.List.{length-take-le}
 use Rattle.dns_name.specs.Octets.{u16_octets}
 use Rattle.dns_rdata.specs.Records.{record_wire}
 use Rattle.tsig_port.specs.Tsig.{TsigKey, tsig_record, request_tsig}
 use Rattle.std.proofs.lemmas.Bool.{leb-false}
-use Rattle.dns_wire.specs.Wire.{Building, Question, Message, header_of, header_wire, question_wire, message_wire, with_item, fits, header_number}
+use Rattle.dns_wire.specs.Wire.{Building, Question, Message, header_of, header_wire, question_wire, message_wire, with_item, fits, header_number, in_answer, counts_wire, counts_of}
+use Rattle.std.specs.List.{flat_map}
+use Rattle.dns_wire.proofs.Pushing.{message_wire-more_questions}
 use Rattle.dns_wire.specs.Builds.{Adds, building}
 use Rattle.dns_wire.specs.declared.builder.PushError.{PushError}
 use Rattle.dns_wire.specs.declared.builder.PushError.TheVariants.{ShortBuf, CountOverflow, Memory}
+use Rattle.zone_types.specs.Commits.{Commit}
+use Rattle.zone_types.specs.TransferText.{Mode}
+use Rattle.zone_types.specs.Messages.{type_of}
+use Rattle.zone_types.specs.Session.{Session}
+use Rattle.xfr_client.specs.Updating.{progress_of}
+use Rattle.zone_types.specs.Machine.{AtStart}
+use Rattle.tsig_port.specs.States.{ClientStands}
+use Rattle.zone_transfer.specs.SoFar.{client_so_far, fault_so_far}
+use Rattle.zone_transfer.specs.Standing.{ExchangeStands}
+use Rattle.zone_transfer.specs.declared.client.Exchange.{Exchange}
+use Rattle.zone_transfer.proofs.Standings.{none_passed}
 use Rattle.zone_transfer.specs.Refusals.{of_push}
 use Rattle.zone_transfer.specs.declared.outcome.SyncError.{SyncError}
 use Rattle.zone_transfer.specs.declared.outcome.SyncError.TheVariants as why
@@ -23,7 +36,10 @@ no_fit m h = leb-false (length m) 65535 h
 
 -- .. and with it
 one_question : (id : ℕ) (q : Question) → with_item 4 (blank id).octets (question_wire q) ≡ message_wire (asking id q)
-one_question id q = simp append-nil
+one_question id q =
+    let h = header_of id 0 in
+    let is : (blank id).octets ≡ message_wire (in_answer h [] []) = refl in
+    ap (λ m. with_item 4 m (question_wire q)) is ∙ sym (message_wire-more_questions h [] q (omega (arith)))
 
 -- a question that isn't added
 pub ask_refused : (id : ℕ) (q : Question) (old new : Building) (e : PushError) → old ≡ blank id → Adds {A = Unit {0}} 4 (question_wire q) old (Err e) new → IsTooLong 65535 (message_wire (asking id q)) (of_push e)
@@ -54,7 +70,17 @@ longer_item m r h =
     omega (arith, first, second, third, front, behind, h)
 
 long_enough : (id : ℕ) (q : Question) → 12 ≤ length (message_wire (asking id q))
-long_enough id q = ?
+long_enough id q =
+    let h = header_of id 0 in
+    let rest : List ℕ = flat_map question_wire (q ∷ []) in
+    let first = length-append (header_wire h) (counts_wire (counts_of (asking id q))) in
+    let second = length-append (header_wire h ++ counts_wire (counts_of (asking id q))) rest in
+    let third = length-append (header_wire h ++ counts_wire (counts_of (asking id q)) ++ rest) [] in
+    let fourth = length-append (header_wire h ++ counts_wire (counts_of (asking id q)) ++ rest ++ []) [] in
+    let fifth = length-append (header_wire h ++ counts_wire (counts_of (asking id q)) ++ rest ++ [] ++ []) [] in
+    let head : length (header_wire h) ≡ 4 = refl in
+    let counts : length (counts_wire (counts_of (asking id q))) ≡ 8 = refl in
+    omega (arith, first, second, third, fourth, fifth, head, counts)
 
 pub too_long_signed : (a : Asking) (most : ℕ) (m : List ℕ) (e : SyncError) → m ≡ message_wire (request_message a) → IsTooLong 65535 m e → IsTooLong (min most 65535) (asked_octets a) e
 too_long_signed a most m why.Memory is h = tt
@@ -105,3 +131,33 @@ sign_refused a key old new at most Memory k is t x = tt
 pub sign_added : (a : Asking) (key : TsigKey) (old new : Building) (at : ℕ) → key ≡ a.key → old ≡ building (message_wire (request_message a)) 65535 → at ≡ a.at
     → Adds {A = Unit {0}} 10 (record_wire (tsig_record key.name (request_tsig key old.octets at 300))) old (Ok tt) new → new.octets ≡ asked_octets a
 sign_added a key old new at k is t x = ap (λ b. b.octets) x.2 ∙ same_signed a key old at k is t
+
+-- the question of a zone
+pub question_is : (a : Asking) (zone : Commit) (q : Question) (mode : Mode) → zone ≡ a.base → mode ≡ a.mode → q ≡ record { qname = zone.version.apex; qtype = type_of mode; qclass = zone.version.class } → q ≡ asked_question a
+question_is a zone q mode z m is = is ∙ ap (λ x. record { qname = x.version.apex; qtype = type_of mode; qclass = x.version.class }) z ∙ ap (λ x. record { qname = a.base.version.apex; qtype = type_of x; qclass = a.base.version.class }) m
+
+-- what was built for it
+pub built_is : (a : Asking) (id : ℕ) (q : Question) (b : Building) → id ≡ asked_id a → q ≡ asked_question a → b ≡ building (message_wire (asking id q)) 65535 → b ≡ building (message_wire (request_message a)) 65535
+built_is a id q b i q_is is = is ∙ ap (λ x. building (message_wire (asking x q)) 65535) i ∙ ap (λ x. building (message_wire (asking (asked_id a) x)) 65535) q_is
+
+-- ---- the exchange that begins
+
+pub begins : (a : Asking) (x : Exchange) (s : Session) (handles : List Commit) → x.sequence.key ≡ a.key → ClientStands (λ k. k) x.sequence (asked_mac a) [] → x.id ≡ asked_id a → x.question ≡ asked_question a
+    → x.interpreter ≡ record { begun = false; place = AtStart; signalled = false } → x.updater ≡ record { replacing = false; finished = false }
+    → s.current ≡ a.base → s.pending ≡ a.base.version → a.base.number < 2 ^ 64 → ExchangeStands x s a [] handles handles
+unfolding client_so_far
+begins a x s handles key sequence id question interpreter updater current pending number = record {
+  key = key;
+  sequence = sequence;
+  id = id;
+  question = question;
+  interpreter = interpreter;
+  under_way = tt;
+  unmet = refl;
+  ahead = record {
+    progress = ap (λ v. progress_of x.updater (record s { pending = v }) []) pending ∙ ap (λ u. progress_of u (record s { pending = a.base.version }) []) updater;
+    made = record { current = current; behind = sym (append-nil handles) };
+    few = omega (arith, number);
+  };
+  passed = none_passed (fault_so_far a);
+}

@@ -116,6 +116,8 @@ impl XfrClient {
         self.exchange = None;
         session.rollback();
         let zone = session.handle()?;
+        // For the proof: a version's number has 64 bits.
+        let _number = zone.version();
         let question = self.question_of(&zone);
         let id = (u64::from(self.at) % 65_536) as u16;
         let mut items = ask(self.alloc, id, &question)?;
