@@ -10,3 +10,4 @@ pub mod Taking
 pub mod Checking
 pub mod Clients
 pub mod Requests
+pub mod Replying

@@ -22,7 +22,7 @@ use Rattle.zone_transfer.proofs.Standings.{one_passed}
 -- ---- the client of a course
 
 -- what a course has checked, and what stops it, decides no step
-same_takes : (a : Asking) (ks ls : List Checked) (o p : Outcome) (cl : Client) (ms : List Checked) → take_course (asked_course a ks o) cl ms ≡ take_course (asked_course a ls p) cl ms
+pub same_takes : (a : Asking) (ks ls : List Checked) (o p : Outcome) (cl : Client) (ms : List Checked) → take_course (asked_course a ks o) cl ms ≡ take_course (asked_course a ls p) cl ms
 same_takes a ks ls o p cl [] = refl
 same_takes a ks ls o p cl (m ∷ more) = same_takes a ks ls o p (take_checked (asked_course a ks o) cl m) more
 

@@ -8,6 +8,7 @@ use Rattle.zone_transfer.proofs.Outcomes.{stop_many}
 use Rattle.zone_transfer.proofs.Taking.{text_goes_on}
 use Rattle.zone_transfer.proofs.Clients.{takes_refusal}
 use Rattle.zone_transfer.proofs.Requests.{sign_added}
+use Rattle.zone_transfer.proofs.Replying.{too_many}
 
 pub trial : (n : ℕ) → n ≡ n
 trial n = refl

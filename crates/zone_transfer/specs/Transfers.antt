@@ -52,9 +52,9 @@ pub record Transfers (a : Asking) (replies : List (List ℕ)) (before handles : 
 -- ---- what passed over the link
 
 -- what a way took and handed since it stood otherwise
-pub record WentOn (old new : Way) (taken handed : List (List ℕ)) : Type 0 where
-  pub taken : new.taken ≡ old.taken ++ taken
-  pub handed : new.handed ≡ old.handed ++ handed
+pub record WentOn (old new : Way) (more_taken more_handed : List (List ℕ)) : Type 0 where
+  pub taken : new.taken ≡ old.taken ++ more_taken
+  pub handed : new.handed ≡ old.handed ++ more_handed
 
 pub record BothWentOn (old new : LinkLists) (asked heard sent handed : List (List ℕ)) : Type 0 where
   pub requests : WentOn old.requests new.requests asked heard

@@ -161,6 +161,7 @@ impl XfrClient {
             → TakesReply (asking_of self.old base) self.new session.new before made.new.items taken octets.items result }
         ensures asks { (base : Commit) → asking_of self.new base ≡ asking_of self.old base }
         ensures closed { result ≢ Ok None → self.new.exchange ≡ None }
+        ensures open { result ≡ Ok None → IsSome self.new.exchange }
     {
         let Some(mut exchange) = self.exchange.take() else {
             unreachable!()

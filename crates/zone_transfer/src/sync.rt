@@ -131,7 +131,9 @@ fn take_replies<L: Link>(
     ensures steady { result ≢ Err SyncError.LinkFault → L.faults link.new ≡ L.faults link.old }
     ensures ended { result ≡ Err SyncError.Ended → IsEnded (L.lists link.new) }
 {
-    'taking: for _ in 0..MOST_REPLIES {
+    let mut count = 0u32;
+    'taking: while count < MOST_REPLIES {
+        count += 1;
         let Some(reply) = link.take_reply()? else {
             return Err(SyncError::Ended);
         };
