@@ -11,3 +11,5 @@ pub mod Checking
 pub mod Clients
 pub mod Requests
 pub mod Replying
+pub mod Passing
+pub mod Replies

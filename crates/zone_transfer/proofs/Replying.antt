@@ -1,17 +1,22 @@
 -- What replies come to, one after the other: the transfer that ends with one of them, or goes on.
-use Rattle.std.proofs.Common.{◌≡◌, ℕ, ◌<◌, ◌≤◌, Bool, true, false, ◌&&◌, List, [], ◌∷◌, ◌++◌, map, length, append_assoc, append-nil, refl, sym, ap, ◌∙◌, subst, arith, Option, Some, None, Result, Ok, Err}
+use Rattle.std.proofs.Common.{◌≡◌, ℕ, ◌<◌, ◌≤◌, Bool, true, false, ◌&&◌, ◌==◌, if◌then◌else◌, List, [], ◌∷◌, ◌++◌, map, length, append_assoc, append-nil, refl, sym, ap, ◌∙◌, subst, arith, Option, Some, None, Result, Ok, Err}
 use Rattle.std.specs.Prelude.{unwrap_or, option_map}
 use Rattle.std.specs.List.{list_all}
+use Rattle.std.specs.Option.{option_map_or}
 use Rattle.std.proofs.lemmas.List.{map-append}
 use Rattle.std.proofs.lemmas.List.Folds.{list_all-append}
 use Rattle.dns_wire.specs.declared.message.ShortMessage.{ShortMessage}
 use Rattle.zone_types.specs.Version.{Version}
 use Rattle.zone_types.specs.Commits.{Commit}
 use Rattle.zone_types.specs.Session.{Session}
-use Rattle.zone_types.specs.Applying.{apply_within}
-use Rattle.xfr_course.specs.Outcome.{Outcome, Ended, LinkFault, TooManyMessages, Short, Tsig, RequestTooLong, Primary, Checked, Course, outcome, made, room}
+use Rattle.zone_types.specs.Read.{Fault}
+use Rattle.zone_types.specs.Updates.{Edit, NotSoaRecord, AfterFinish}
+use Rattle.zone_types.specs.Machine.{is_at_end, Run, signal_of}
+use Rattle.zone_types.specs.Applying.{Halt, Denied, NoNumber, Held, apply_within}
+use Rattle.tsig_port.specs.Tsig.{is_signed}
+use Rattle.xfr_course.specs.Outcome.{Outcome, Ended, LinkFault, TooManyMessages, Short, Tsig, RequestTooLong, Primary, Checked, Course, outcome, made, room, base_serial, UpToDate, RetrySignal}
 use Rattle.xfr_course.specs.Courses.{has_header, most_replies, stop_after}
-use Rattle.xfr_course.specs.Client.{Client, new_client, take_course, run_message, IsPart}
+use Rattle.xfr_course.specs.Client.{Client, new_client, take_course, run_message, IsPart, halt_outcome, met_after}
 use Rattle.xfr_course.proofs.ClientParts.{part_is_made}
 use Rattle.zone_transfer.specs.SoFar.{Asking, asked_course, checked_so_far, fault_so_far, course_so_far, client_so_far}
 use Rattle.zone_transfer.specs.Steps.{HasMade, RanOut}
@@ -22,7 +27,7 @@ use Rattle.zone_transfer.specs.Transfers.{given_up, course_answered, AreSpelt, A
 use Rattle.zone_transfer.specs.declared.outcome.SyncOk.{SyncOk}
 use Rattle.zone_transfer.specs.declared.outcome.SyncError.{SyncError}
 use Rattle.zone_transfer.specs.declared.outcome.SyncError.TheVariants as why
-use Rattle.zone_transfer.proofs.Standings.{one_passed}
+use Rattle.zone_transfer.proofs.Standings.{one_passed, course, run_next, client_taken}
 use Rattle.zone_transfer.proofs.Outcomes.{same_takes, comes, passed_course, failed_course, short_course, stop_few, stop_many}
 
 -- what a course comes to
@@ -154,3 +159,44 @@ pub too_many : (a : Asking) (c : ClientState) (s : Session) (before handles : Li
 too_many a c s before handles taken st many =
     let k = amounts a taken Ended TooManyMessages TooManyMessages st.stands.passed (omega (arith, many)) (stop_many Ended taken st.stands.passed.headed many) (ap (λ o. unwrap_or o TooManyMessages) st.stands.unmet) in
     record { versions = (client_so_far a taken).progress.committed; spelt = sym k.made; made = st.stands.ahead.made; answers = ap Some (sym k.outcome) }
+
+-- ---- no outcome of a message is one of the link
+
+abbrev by_link : Option Outcome → Bool
+by_link (Some LinkFault) = true
+by_link (Some Ended) = true
+by_link _ = false
+
+halts_elsewhere : (h : Halt) → by_link (Some (halt_outcome h)) ≡ false
+halts_elsewhere NoNumber = refl
+halts_elsewhere (Denied (Edit e)) = refl
+halts_elsewhere (Denied NotSoaRecord) = refl
+halts_elsewhere (Denied AfterFinish) = refl
+
+chosen_elsewhere : (b : Bool) (o p : Outcome) → by_link (Some o) ≡ false → by_link (Some p) ≡ false → by_link (Some (if b then o else p)) ≡ false
+chosen_elsewhere true o p x y = x
+chosen_elsewhere false o p x y = y
+
+met_elsewhere : (c : Course) (h : Option Halt) (f : Option Fault) (n : Option ℕ) (ended signed : Bool) → by_link (met_after c h f n ended signed) ≡ false
+met_elsewhere c (Some h) f n ended signed = halts_elsewhere h
+met_elsewhere c None (Some f) n ended signed = refl
+met_elsewhere c None None (Some n) ended signed = chosen_elsewhere (option_map_or (λ k. k == n) (base_serial c) false) UpToDate RetrySignal refl refl
+met_elsewhere c None None None true true = refl
+met_elsewhere c None None None true false = refl
+met_elsewhere c None None None false signed = refl
+
+meets_elsewhere : (a : Asking) (taken : List (List ℕ)) (m : List ℕ) (o : Outcome) → (client_so_far a taken).met ≡ None → Meets a taken m o → by_link (Some o) ≡ false
+meets_elsewhere a taken m o unmet x =
+    let r : Run = run_next a taken m in
+    let h : Held = apply_within (room (course a)) (client_so_far a taken).progress r.updates in
+    ap by_link (sym x.met ∙ ap (λ y. y.met) (client_taken a taken m unmet)) ∙ met_elsewhere (course a) h.halt r.fault (signal_of (client_so_far a taken).begun r) (is_at_end r.place) (is_signed m)
+
+pub no_link_fault : (a : Asking) (s : Session) (before handles : List Commit) (taken : List (List ℕ)) (m : List ℕ) (e : SyncError) → (client_so_far a taken).met ≡ None → RefusesReply a s before handles taken m e → e ≡ why.LinkFault → ⊥
+no_link_fault a s before handles taken m e unmet r is =
+    let k = subst (λ (x : SyncError). RefusesReply a s before handles taken m x) is r in
+    cc (ap by_link k.0.1.0 ∙ meets_elsewhere a taken m k.0.0 unmet k.0.1.1)
+
+pub no_end : (a : Asking) (s : Session) (before handles : List Commit) (taken : List (List ℕ)) (m : List ℕ) (e : SyncError) → (client_so_far a taken).met ≡ None → RefusesReply a s before handles taken m e → e ≡ why.Ended → ⊥
+no_end a s before handles taken m e unmet r is =
+    let k = subst (λ (x : SyncError). RefusesReply a s before handles taken m x) is r in
+    cc (ap by_link k.0.1.0 ∙ meets_elsewhere a taken m k.0.0 unmet k.0.1.1)

@@ -9,6 +9,7 @@ use Rattle.zone_transfer.proofs.Taking.{text_goes_on}
 use Rattle.zone_transfer.proofs.Clients.{takes_refusal}
 use Rattle.zone_transfer.proofs.Requests.{sign_added}
 use Rattle.zone_transfer.proofs.Replying.{too_many}
+use Rattle.zone_transfer.proofs.Replies.{starts}
 
 pub trial : (n : ℕ) → n ≡ n
 trial n = refl

@@ -127,9 +127,9 @@ fn take_replies<L: Link>(
 ) -> Result<SyncOk, SyncError>
     requires { IsSome client.old.exchange }
     ensures ends { (a : Asking) (before : List Commit) → Stands client.old session.old a [] before made.old.items → EndsSo a (L.lists link.old) (L.lists link.new) before made.new.items session.new result }
-    ensures failed { result ≡ Err SyncError.LinkFault → Rose (L.faults link.old) (L.faults link.new) }
+    ensures failed { (a : Asking) (before : List Commit) → Stands client.old session.old a [] before made.old.items → result ≡ Err SyncError.LinkFault → Rose (L.faults link.old) (L.faults link.new) }
     ensures steady { result ≢ Err SyncError.LinkFault → L.faults link.new ≡ L.faults link.old }
-    ensures ended { result ≡ Err SyncError.Ended → IsEnded (L.lists link.new) }
+    ensures ended { (a : Asking) (before : List Commit) → Stands client.old session.old a [] before made.old.items → result ≡ Err SyncError.Ended → IsEnded (L.lists link.new) }
 {
     let mut count = 0u32;
     'taking: while count < MOST_REPLIES {
