@@ -13,3 +13,4 @@ pub mod Requests
 pub mod Replying
 pub mod Passing
 pub mod Replies
+pub mod Exchanges

@@ -6,6 +6,7 @@ use Rattle.std.specs.Option.{option_map_or}
 use Rattle.std.proofs.lemmas.List.{map-append}
 use Rattle.std.proofs.lemmas.List.Folds.{list_all-append}
 use Rattle.dns_wire.specs.declared.message.ShortMessage.{ShortMessage}
+use Rattle.dns_wire.specs.declared.builder.PushError.{PushError}
 use Rattle.zone_types.specs.Version.{Version}
 use Rattle.zone_types.specs.Commits.{Commit}
 use Rattle.zone_types.specs.Session.{Session}
@@ -31,12 +32,12 @@ use Rattle.zone_transfer.proofs.Standings.{one_passed, course, run_next, client_
 use Rattle.zone_transfer.proofs.Outcomes.{same_takes, comes, passed_course, failed_course, short_course, stop_few, stop_many}
 
 -- what a course comes to
-record Amounts (c : Course) (o : Outcome) (versions : List Version) : Type 0 where
+pub record Amounts (c : Course) (o : Outcome) (versions : List Version) : Type 0 where
   pub outcome : outcome c ≡ o
   pub made : made c ≡ versions
 
 -- replies that all passed, none of which meets an outcome, or the last one
-amounts : (a : Asking) (ks : List (List ℕ)) (gave : Outcome) (stop o : Outcome) → Passed (fault_so_far a) ks → length ks ≤ most_replies → stop_after gave ks None ≡ stop → unwrap_or (client_so_far a ks).met stop ≡ o
+pub amounts : (a : Asking) (ks : List (List ℕ)) (gave : Outcome) (stop o : Outcome) → Passed (fault_so_far a) ks → length ks ≤ most_replies → stop_after gave ks None ≡ stop → unwrap_or (client_so_far a ks).met stop ≡ o
     → Amounts (course_so_far a ks gave) o (client_so_far a ks).progress.committed
 amounts a ks gave stop o p few s h =
     let c = passed_course a ks gave p few in
@@ -160,11 +161,12 @@ too_many a c s before handles taken st many =
     let k = amounts a taken Ended TooManyMessages TooManyMessages st.stands.passed (omega (arith, many)) (stop_many Ended taken st.stands.passed.headed many) (ap (λ o. unwrap_or o TooManyMessages) st.stands.unmet) in
     record { versions = (client_so_far a taken).progress.committed; spelt = sym k.made; made = st.stands.ahead.made; answers = ap Some (sym k.outcome) }
 
--- ---- no outcome of a message is one of the link
+-- ---- no outcome of a message is one of the link, or of the request
 
 abbrev by_link : Option Outcome → Bool
 by_link (Some LinkFault) = true
 by_link (Some Ended) = true
+by_link (Some RequestTooLong) = true
 by_link _ = false
 
 halts_elsewhere : (h : Halt) → by_link (Some (halt_outcome h)) ≡ false
@@ -199,4 +201,9 @@ no_link_fault a s before handles taken m e unmet r is =
 pub no_end : (a : Asking) (s : Session) (before handles : List Commit) (taken : List (List ℕ)) (m : List ℕ) (e : SyncError) → (client_so_far a taken).met ≡ None → RefusesReply a s before handles taken m e → e ≡ why.Ended → ⊥
 no_end a s before handles taken m e unmet r is =
     let k = subst (λ (x : SyncError). RefusesReply a s before handles taken m x) is r in
+    cc (ap by_link k.0.1.0 ∙ meets_elsewhere a taken m k.0.0 unmet k.0.1.1)
+
+pub no_request : (a : Asking) (s : Session) (before handles : List Commit) (taken : List (List ℕ)) (m : List ℕ) (e : SyncError) (x : PushError) → (client_so_far a taken).met ≡ None → RefusesReply a s before handles taken m e → e ≡ why.Request x → ⊥
+no_request a s before handles taken m e x unmet r is =
+    let k = subst (λ (y : SyncError). RefusesReply a s before handles taken m y) is r in
     cc (ap by_link k.0.1.0 ∙ meets_elsewhere a taken m k.0.0 unmet k.0.1.1)

@@ -10,6 +10,7 @@ use Rattle.zone_transfer.proofs.Clients.{takes_refusal}
 use Rattle.zone_transfer.proofs.Requests.{sign_added}
 use Rattle.zone_transfer.proofs.Replying.{too_many}
 use Rattle.zone_transfer.proofs.Replies.{starts}
+use Rattle.zone_transfer.proofs.Exchanges.{under_way}
 
 pub trial : (n : ℕ) → n ≡ n
 trial n = refl

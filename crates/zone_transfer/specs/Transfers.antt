@@ -83,6 +83,7 @@ pub record EndsSo (a : Asking) (old new : Option LinkLists) (before handles : Li
   pub link : LinkWentOn old new [] [] [] taken
   pub transfers : Transfers a taken before handles s answer
   pub short : (e : ShortMessage) → answer ≡ Err (why.Short e) → HasShort taken
+  pub asked : (e : PushError) → answer ≡ Err (why.Request e) → ⊥
 
 -- .. and so far
 pub record TakenSoFar (a : Asking) (old new : Option LinkLists) (c : ClientState) (s : Session) (before handles : List Commit) (n : ℕ) : Type 0 where

@@ -13,7 +13,7 @@ use crate::outcome::{SyncError, SyncOk};
 use dns_wire::MessageBuf;
 use std::alloc::Global;
 use tsig_port::{Key, Time48};
-use xfr_server::{ReplyStream, Request, Service, TransportSpecificContext};
+use xfr_server::{ReplyStream, Request, Service, ServiceError, TransportSpecificContext};
 use zone_store::{ReadZone, WriteZone};
 
 /// How many replies a secondary takes in one transfer.
