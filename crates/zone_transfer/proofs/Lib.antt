@@ -4,7 +4,6 @@ pub mod Places
 pub mod Standings
 pub mod Answering
 pub mod Outcomes
-pub mod Trial
 pub mod Messages
 pub mod Taking
 pub mod Checking

@@ -3,7 +3,6 @@
 
 pub mod client;
 pub mod failures;
-mod laws;
 pub mod links;
 pub mod loop_link;
 pub mod memory_link;

@@ -1,5 +1,0 @@
-use Rattle.zone_transfer.proofs.Trial.{trial}
-use Rattle.zone_transfer.proofs.laws.trial.Goals as goal
-
-pub returns : goal.returns
-returns c = trial
