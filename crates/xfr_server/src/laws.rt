@@ -3,7 +3,7 @@ ghost use Rattle.std.specs.Prelude.{List, Option};
 ghost use Rattle.tsig_port.specs.Tsig.{TsigKey};
 ghost use Rattle.zone_types.specs.Offer.{Offer};
 ghost use Rattle.xfr_server.specs.Items.{Sending};
-ghost use Rattle.xfr_server.specs.FullTransfer.{SendsWhole, WholeIsTaken, TransferIsMessage};
+ghost use Rattle.xfr_server.specs.FullTransfer.{SendsWhole, WholeIsTaken, TransferIsMessage, HistoryGrants};
 ghost use Rattle.xfr_server.specs.declared.requests.Request.{Request as RequestOf};
 
 use crate::PrimaryStack;
@@ -26,4 +26,9 @@ pub fn full_transfers_are_sent<
 pub fn full_transfers_are_taken()
     ensures taken { WholeIsTaken }
     ensures wire { TransferIsMessage }
+{}
+
+/// A provider with a history offers what it keeps to one who signed with a key that it grants.
+pub fn granted_keys_are_offered()
+    ensures { HistoryGrants }
 {}
