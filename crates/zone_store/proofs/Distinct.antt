@@ -1,22 +1,18 @@
 -- Lists of data without equal ones, and a datum put last.
-use Rattle.std.proofs.Common.{◌≡◌, ◌==◌, Bool, true, false, cond, ◌&&◌, ◌||◌, not, if◌then◌else◌, List, [], ◌∷◌, ◌++◌, length, refl, sym, ap, ◌∙◌, true≢false, Option, Some, Ordering, Less, Equal, Greater, IsTrue}
+use Rattle.std.proofs.Common.{◌≡◌, Bool, true, false, cond, ◌&&◌, ◌||◌, not, if◌then◌else◌, List, [], ◌∷◌, ◌++◌, refl, sym, ap, ◌∙◌, true≢false, Option, Some, IsTrue}
 use Rattle.std.specs.List.{list_any, list_all, filter}
 use Rattle.std.specs.Option.{option_map_or}
-use Rattle.std.specs.Ordering.{match_ordering}
-use Rattle.std.specs.BTreeMap.{insert_entry}
-use Rattle.std.specs.Map.{remove_entry}
 use Rattle.std.specs.Cmp.{first_so, second_so}
 use Rattle.std.proofs.lemmas.List.{append-nil}
 use Rattle.std.proofs.lemmas.List.Elements.{filter-append}
 use Rattle.std.proofs.lemmas.List.Folds.{list_any-append}
 use Rattle.dns_name.specs.Names.{fold}
 use Rattle.dns_rdata.specs.Records.{Field, Record, same_data}
-use Rattle.zone_types.specs.Version.{RecordSet, Key, Sets, Version, key_cmp, has_key, set_in, all_differ}
-use Rattle.zone_types.specs.Edits.{distinct, put_set, remove_set, with_sets}
+use Rattle.zone_types.specs.Version.{RecordSet, Key, Sets, Version, has_key, set_in, all_differ}
+use Rattle.zone_types.specs.Edits.{distinct, put_set}
 use Rattle.zone_types.specs.Classify.{opened_with, lowest_ttl}
 use Rattle.zone_types.proofs.Folded.{same_data_equiv}
 use Rattle.zone_store.specs.Puts.{opened_by}
-use Rattle.zone_store.specs.Opening.{has_distinct_data}
 use Rattle.zone_store.proofs.Closing.{filter_none}
 
 not_true : (b : Bool) → not b ≡ true → b ≡ false
@@ -82,6 +78,10 @@ differ_pushed xs d h = by (list_any (same_data d) xs) refl
 abbrev differs : Key × RecordSet → Bool
 differs e = all_differ e.1.items
 
+-- no set has equal data twice
+abbrev pub has_distinct_data : Version → Bool
+has_distinct_data v = list_all (λ (e : Key × RecordSet). all_differ e.1.items) v.sets
+
 abbrev items_in : Option RecordSet → List (List Field)
 items_in o = option_map_or (λ (s : RecordSet). s.items) o []
 
@@ -94,37 +94,8 @@ data_differ (e ∷ es) k h = by (has_key k e.0) (data_differ es k (second_so (di
     by true later = first_so (differs e) (list_all differs es) h
     by false later = later
 
--- what is put, and what is removed
-all_insert : (es : Sets) (k : Key) (s : RecordSet) → all_differ s.items ≡ true → list_all differs es ≡ true → list_all differs (insert_entry key_cmp es k s) ≡ true
-all_insert [] k s g h = both (all_differ s.items) true g refl
-all_insert (e ∷ es) k s g h = by (key_cmp k e.0) (all_insert es k s g (second_so (differs e) (list_all differs es) h))
-  where
-    by : (o : Ordering) → list_all differs (insert_entry key_cmp es k s) ≡ true → list_all differs (match_ordering o ((k, s) ∷ e ∷ es) ((e.0, s) ∷ es) (e ∷ insert_entry key_cmp es k s)) ≡ true
-    by Less later = both (all_differ s.items) (list_all differs (e ∷ es)) g h
-    by Equal later = both (all_differ s.items) (list_all differs es) g (second_so (differs e) (list_all differs es) h)
-    by Greater later = both (differs e) (list_all differs (insert_entry key_cmp es k s)) (first_so (differs e) (list_all differs es) h) later
-
-all_remove : (es : Sets) (k : Key) → list_all differs es ≡ true → list_all differs (remove_entry (has_key k) es) ≡ true
-all_remove [] k h = refl
-all_remove (e ∷ es) k h = by (has_key k e.0) (all_remove es k (second_so (differs e) (list_all differs es) h))
-  where
-    by : (b : Bool) → list_all differs (remove_entry (has_key k) es) ≡ true → list_all differs (cond b es (e ∷ remove_entry (has_key k) es)) ≡ true
-    by true later = second_so (differs e) (list_all differs es) h
-    by false later = both (differs e) (list_all differs (remove_entry (has_key k) es)) (first_so (differs e) (list_all differs es) h) later
-
 -- where no set has equal data twice, an opening record is put as a zone file puts it
 pub opens_as_file : (v : Version) (r : Record) → IsTrue (has_distinct_data v) → opened_by v r ≡ opened_with v r
 opens_as_file v r h =
     ap (λ (l : List (List Field)). put_set v r.owner r.rtype (record { ttl = lowest_ttl r (set_in v.sets (fold r.owner, r.rtype)); items = l }))
     (sym (distinct-pushed (items_in (set_in v.sets (fold r.owner, r.rtype))) r.fields (data_differ v.sets (fold r.owner, r.rtype) h)))
-
--- .. and no set gets equal data twice
-pub keeps_distinct : (v : Version) (r : Record) → IsTrue (has_distinct_data v) → IsTrue (has_distinct_data (opened_by v r))
-keeps_distinct v r h = by (length put.items == 0)
-  where
-    put : RecordSet
-    put = record { ttl = lowest_ttl r (set_in v.sets (fold r.owner, r.rtype)); items = pushed_new (items_in (set_in v.sets (fold r.owner, r.rtype))) r.fields }
-
-    by : (b : Bool) → has_distinct_data (if b then remove_set v r.owner r.rtype else with_sets v (insert_entry key_cmp v.sets (fold r.owner, r.rtype) put)) ≡ true
-    by true = all_remove v.sets (fold r.owner, r.rtype) h
-    by false = all_insert v.sets (fold r.owner, r.rtype) put (differ_pushed (items_in (set_in v.sets (fold r.owner, r.rtype))) r.fields (data_differ v.sets (fold r.owner, r.rtype) h)) h

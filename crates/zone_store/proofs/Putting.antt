@@ -1,5 +1,5 @@
 -- What a write behind a borrow, and an insertion, make of a version.
-use Rattle.std.proofs.Common.{◌≡◌, ℕ, ◌==◌, Bool, true, false, cond, if◌then◌else◌, List, [], ◌∷◌, ◌++◌, length, refl, sym, ap, ◌∙◌, true≢false, Ordering, Less, Equal, Greater, Option, Some, None, Result, Ok, Err, OnOk, OnErr, IfOk, is_some, is_eq, min, suc, eqb-true, arith}
+use Rattle.std.proofs.Common.{◌≡◌, ℕ, ◌==◌, Bool, true, false, cond, if◌then◌else◌, List, [], ◌∷◌, ◌++◌, length, refl, sym, ap, ◌∙◌, subst, true≢false, Ordering, Less, Equal, Greater, Option, Some, None, Result, Ok, Err, OnOk, OnErr, IfOk, is_some, is_eq, min, suc, eqb-true, arith}
 use Rattle.std.specs.Option.{option_map_or}
 use Rattle.std.specs.List.{list_any}
 use Rattle.std.specs.Ordering.{match_ordering}
@@ -101,3 +101,8 @@ opened_is v r = by (set_in v.sets (fold r.owner, r.rtype))
 pub if_ok_same : {T E V : Type 0} (r : Result T E) (f : T → V) (a b : V) → IfOk r (λ x. f x ≡ a) → a ≡ b → IfOk r (λ x. f x ≡ b)
 if_ok_same (Ok x) f a b h e = h ∙ e
 if_ok_same (Err e') f a b h e = tt
+
+-- .. and has what that has
+pub if_ok_holds : {T E V : Type 0} (P : V → Type 0) (r : Result T E) (f : T → V) (a : V) → IfOk r (λ x. f x ≡ a) → P a → IfOk r (λ x. P (f x))
+if_ok_holds P (Ok x) f a h p = subst P (sym h) p
+if_ok_holds P (Err e) f a h p = tt

@@ -22,10 +22,13 @@ use Rattle.zone_types.proofs.Steps.{below_alike}
 use Rattle.zone_store.specs.Sound.{is_sound_at, IsSound}
 use Rattle.zone_store.specs.Strays.{is_stray_at}
 use Rattle.zone_store.specs.Puts.{with_soa, opened_by}
-use Rattle.zone_store.specs.Opening.{has_distinct_data}
 use Rattle.zone_types.specs.Classify.{lowest_ttl}
+use Rattle.dns_rdata.specs.ZoneData.{rtype_of}
+use Rattle.dns_rdata.specs.declared.zone_data.ZoneRecordData.{ZoneRecordData}
+use Rattle.dns_rdata.specs.declared.zone_data.ZoneRecordData.TheVariants.{A, Ns, Soa}
 use Rattle.zone_store.proofs.Equality.{filter_map}
-use Rattle.zone_store.proofs.Distinct.{differ_push, differ_pushed, pushed_new}
+use Rattle.zone_store.proofs.Closing.{closed_is}
+use Rattle.zone_store.proofs.Distinct.{differ_push, differ_pushed, pushed_new, has_distinct_data}
 
 -- ---- one entry
 
@@ -264,6 +267,9 @@ cleared_sound v = record { ordered = sorted_none key_cmp; kept = refl }
 pub empty_sound : (apex : Name) (class : ℕ) → IsSound (record { apex = apex; class = class; sets = [] })
 empty_sound apex class = record { ordered = sorted_none key_cmp; kept = refl }
 
+pub empty_valid : (apex : Name) (class : ℕ) → IsValid (record { apex = apex; class = class; sets = [] })
+empty_valid apex class = record { ordered = sorted_none key_cmp; kept = refl }
+
 -- a record of a zone file that is no CNAME
 pub opened_sound : (v : Version) (r : Record) → IsSound v → under r.owner v.apex ≡ true → (r.rtype == type_cname) ≡ false → IsSound (opened_by v r)
 opened_sound v r h zone plain =
@@ -316,3 +322,13 @@ close_sound v h = record {
         by : (b : Bool) → is_stray v e ≡ b → list_all (is_kept (close v)) (filter (λ x. not (is_stray v x)) es) ≡ true → list_all (is_kept (close v)) (cond (not b) (e ∷ filter (λ x. not (is_stray v x)) es) (filter (λ x. not (is_stray v x)) es)) ≡ true
         by true p later = later
         by false p later = both_true (both_true (first_so (is_sound_at v e) _ g) (signed e (below_apex v e.0.0 && (e.0.1 == type_ds)) refl p)) later
+
+-- .. or that loses nothing
+pub closed_sound : (v : Version) → IsSound v → list_any (is_stray_at v) (keys_of v.sets) ≡ false → IsValid v
+closed_sound v h none = subst (λ w. IsValid w) (sym (closed_is v none)) (close_sound v h)
+
+-- no data that are read are CNAME data
+pub no_alias : (d : ZoneRecordData Name) (t : ℕ) → rtype_of d ≡ t → (t == type_cname) ≡ false
+no_alias (A a) t e = ap (λ n. n == type_cname) (sym e)
+no_alias (Ns ns) t e = ap (λ n. n == type_cname) (sym e)
+no_alias (Soa soa) t e = ap (λ n. n == type_cname) (sym e)

@@ -3,5 +3,4 @@ pub mod Puts
 pub mod Pending
 pub mod Stops
 pub mod Strays
-pub mod Opening
 pub mod Sound

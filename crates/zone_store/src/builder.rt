@@ -25,15 +25,11 @@ pub struct ZoneBuilder {
 }
 
 impl Model for ZoneBuilder {
-    ghost use Rattle.std.specs.Prelude.{IsTrue};
     ghost use Rattle.zone_types.specs.Version.{Version};
-    ghost use Rattle.zone_store.specs.Opening.{has_distinct_data};
 
     ghost Value = { Version };
 
     ghost view = { λ b. b.version };
-
-    ghost invariant = { λ b. IsTrue (has_distinct_data b.version) };
 }
 
 impl ZoneBuilder {

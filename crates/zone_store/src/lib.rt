@@ -4,7 +4,6 @@
 mod apex;
 mod builder;
 mod errors;
-mod laws;
 mod read;
 mod sets;
 #[cfg(test)]

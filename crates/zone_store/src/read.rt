@@ -1,6 +1,6 @@
 // Reading one version of a zone.
 ghost use Rattle.std.specs.Prelude.{◌≡◌, IfOk, option_copied};
-ghost use Rattle.zone_types.specs.Version.{set_at};
+ghost use Rattle.zone_types.specs.Version.{IsValid, set_at};
 ghost use Rattle.zone_types.specs.Walk.{next_stop, walk};
 ghost use Rattle.zone_store.specs.Stops.{first_stop};
 
@@ -21,10 +21,13 @@ pub struct ReadZone {
 
 impl Model for ReadZone {
     ghost use Rattle.zone_types.specs.Commits.{Commit};
+    ghost use Rattle.zone_types.specs.Version.{IsValid};
 
     ghost Value = { Commit };
 
     ghost view = { λ z. record { number = z.number; version = z.version.value } };
+
+    ghost invariant = { λ z. IsValid z.version.value };
 }
 
 impl Clone for ReadZone {
@@ -41,6 +44,7 @@ impl Clone for ReadZone {
 impl ReadZone {
     /// The handle of a version with this number.
     pub(crate) fn of(number: u64, version: Arc<ZoneVersion>) -> ReadZone
+        requires { IsValid version.value }
         ensures { result ≡ record { number = number; version = version.value } }
     {
         ReadZone { number, version }
@@ -51,6 +55,14 @@ impl ReadZone {
         ensures { result ≡ self.now.number }
     {
         self.number
+    }
+
+    /// That the version may be published: no set is empty or holds equal data twice, a name below the apex has one CNAME at most, and DS stands
+    /// only beside NS (RFC 2181, 5 and 10.1; RFC 4035, 2.4). It does nothing.
+    pub fn validity(&self)
+        ensures { IsValid self.now.version }
+    {
+        let _number = self.number;
     }
 
     /// The class of the zone.

@@ -1,8 +1,9 @@
 // One version of a zone: look-ups, the walk, and edits.
-ghost use Rattle.std.specs.Prelude.{◌≡◌, not, IsSome, ◌++◌, ◌∷◌, [], Some, None, Ok, Err, IfOk, IfErr, IfSome, OnOk, OnErr, IfNone, IsSomeAnd, is_some, option_copied, option_map, map, find, filter};
+ghost use Rattle.std.specs.Prelude.{◌≡◌, true, false, not, IsSome, ◌++◌, ◌∷◌, [], Some, None, Ok, Err, IfOk, IfErr, IfSome, OnOk, OnErr, IfNone, IsSomeAnd, is_some, option_copied, option_map, map, find, filter};
 ghost use Rattle.std.specs.List.{list_any};
 ghost use Rattle.dns_name.specs.Names.{fold, under};
-ghost use Rattle.zone_types.specs.Version.{key_cmp, set_in, set_at, below_apex, is_cut};
+ghost use Rattle.zone_types.specs.Version.{IsValid, key_cmp, set_in, set_at, below_apex, is_cut};
+ghost use Rattle.zone_types.specs.Classify.{opened_with};
 ghost use Rattle.zone_types.specs.Answer.{highest_cut};
 ghost use Rattle.zone_types.specs.Walk.{next_stop};
 ghost use Rattle.zone_store.specs.Stops.{stop_of, first_stop};
@@ -10,7 +11,7 @@ ghost use Rattle.zone_types.specs.Edits.{add, delete, with_sets};
 ghost use Rattle.zone_types.specs.Edits as edits;
 ghost use Rattle.zone_store.specs.Causes.{refusal_of};
 ghost use Rattle.zone_store.specs.Strays.{is_stray_at};
-ghost use Rattle.zone_store.specs.Puts.{appended, without, opened_by, with_soa, items_at, put_with, last_set, opening_set, thinned, taken_out};
+ghost use Rattle.zone_store.specs.Puts.{appended, without, with_soa, items_at, put_with, last_set, opening_set, thinned, taken_out};
 ghost use Rattle.std.specs.BTreeMap.{insert_entry};
 ghost use Rattle.std.specs.Map.{keys_of};
 ghost use Rattle.std.specs.Map.Iter.{deref_pair};
@@ -38,10 +39,13 @@ pub(crate) struct ZoneVersion {
 
 impl Model for ZoneVersion {
     ghost use Rattle.zone_types.specs.Version.{Version};
+    ghost use Rattle.zone_store.specs.Sound.{IsSound};
 
     ghost Value = { Version };
 
     ghost view = { λ v. record { apex = v.apex; class = v.class; sets = v.sets.entries } };
+
+    ghost invariant = { λ v. IsSound (record { apex = v.apex; class = v.class; sets = v.sets.entries }) };
 }
 
 impl Clone for ZoneVersion {
@@ -58,8 +62,10 @@ impl Clone for ZoneVersion {
 
 impl ZoneVersion {
     /// A version without records.
+    #[tactic(auto, using(crate::proofs::Sound::empty_sound, crate::proofs::Sound::empty_valid))]
     pub(crate) fn empty(alloc: Global, apex: StoredName, class: Class) -> ZoneVersion
-        ensures { result ≡ record { apex = apex; class = class; sets = [] } }
+        ensures is { result ≡ record { apex = apex; class = class; sets = [] } }
+        ensures valid { IsValid result }
     {
         ZoneVersion {
             apex,
@@ -265,34 +271,38 @@ impl ZoneVersion {
         }
     }
 
-    /// Puts a record's data last in its set, whose TTL is then the record's.
+    /// Puts the data of a record that isn't refused last in its set, whose TTL is then the record's.
     pub(crate) fn append(&mut self, alloc: Global, added: StoredRecord) -> Result<(), AllocError>
+        requires { add self.old added ≡ Ok (appended self.old added) }
         ensures ok { OnOk result (self.new ≡ appended self.old added) }
         ensures err { OnErr result (self.new ≡ self.old) }
     {
         let key = SetKey::new(added.owner(), added.rtype());
         let ttl = added.ttl();
-        put_last(&mut self.sets, alloc, key, ttl, added.into_data())
+        put_last(&mut self.sets, alloc, key, ttl, added.into_data())?;
+        Ok(())
     }
 
-    /// Takes a record's data out of its set, whose TTL is then the record's; an emptied set goes.
-    #[tactic(auto, using(crate::proofs::Removing::without_is))]
+    /// Takes the data of a record that isn't refused out of its set, whose TTL is then the record's; an emptied set goes.
     pub(crate) fn remove(&mut self, deleted: &StoredRecord)
+        requires { delete self.old deleted.now ≡ Ok (without self.old deleted.now) }
         ensures { self.new ≡ without self.old deleted.now }
     {
         let key = SetKey::new(deleted.owner(), deleted.rtype());
         take_out(&mut self.sets, &key, deleted.ttl(), deleted.data());
     }
 
-    /// Puts a record that the zone opens with: equal data are passed over, and the set's TTL is the lowest of its records'.
+    /// Puts a record that the zone opens with: equal data are passed over, and the set's TTL is the lowest of its records'. No data are CNAME data so far.
     pub(crate) fn open_with(&mut self, alloc: Global, added: StoredRecord) -> Result<(), AllocError>
-        ensures ok { OnOk result (self.new ≡ opened_by self.old added) }
+        requires { under added.owner self.old.apex ≡ true }
+        ensures ok { OnOk result (self.new ≡ opened_with self.old added) }
         ensures err { OnErr result (self.new ≡ self.old) }
     {
         let had = self.has_data(&added);
         let key = SetKey::new(added.owner(), added.rtype());
         let ttl = added.ttl();
-        put_opening(&mut self.sets, alloc, key, ttl, added.into_data(), had)
+        put_opening(&mut self.sets, alloc, key, ttl, added.into_data(), had)?;
+        Ok(())
     }
 
     /// Makes the apex SOA set this one record.
@@ -325,14 +335,16 @@ impl ZoneVersion {
 
     /// Whether a commit leaves a set out.
     pub(crate) fn has_stray(&self) -> bool
-        ensures { result ≡ list_any (is_stray_at self.now) (keys_of self.now.sets) }
+        ensures is { result ≡ list_any (is_stray_at self.now) (keys_of self.now.sets) }
+        ensures none { result ≡ false → IsValid self.now }
     {
         any_stray(self, &self.sets)
     }
 
     /// What a commit publishes: the version without DS sets below the apex that lack NS.
     pub(crate) fn closed(&self) -> Result<ZoneVersion, AllocError>
-        ensures { IfOk result (λ v. v ≡ edits.close self.now) }
+        ensures is { IfOk result (λ v. v ≡ edits.close self.now) }
+        ensures valid { IfOk result (λ v. IsValid v) }
     {
         let mut copy = self.clone()?;
         drop_strays(self, &mut copy.sets);
@@ -342,7 +354,8 @@ impl ZoneVersion {
     /// The same of a version that isn't needed otherwise, which is copied only where a set goes.
     #[tactic(auto, using(crate::proofs::Closing::closed_is))]
     pub(crate) fn into_closed(self) -> Result<ZoneVersion, AllocError>
-        ensures { IfOk result (λ v. v ≡ edits.close self) }
+        ensures is { IfOk result (λ v. v ≡ edits.close self) }
+        ensures valid { IfOk result (λ v. IsValid v) }
     {
         if self.has_stray() {
             return self.closed();

@@ -2,6 +2,7 @@
 ghost use Rattle.std.specs.Prelude.{◌≡◌, ◌↔◌, ◌-◌, ◌^◌, [], Ok, Err, IfOk, IfErr, IfSome, OnOk, OnErr, IsOk, IsTrue, false};
 ghost use Rattle.zone_types.specs.Edits.{add, delete, with_sets};
 ghost use Rattle.zone_types.specs.Edits as edits;
+ghost use Rattle.zone_types.specs.Version.{IsValid};
 ghost use Rattle.zone_types.specs.Session.{opened_session, with_pending, committed, rolled_back};
 ghost use Rattle.zone_store.specs.Causes.{refusal_of};
 ghost use Rattle.zone_store.specs.Puts.{appended, without, with_soa};
@@ -170,7 +171,8 @@ impl<'z> WriteZone<'z> {
 
     /// What a commit publishes.
     fn closed(&self) -> Result<Arc<ZoneVersion>, AllocError>
-        ensures { IfOk result (λ v. v.value ≡ edits.close self.now.pending) }
+        ensures is { IfOk result (λ v. v.value ≡ edits.close self.now.pending) }
+        ensures valid { IfOk result (λ v. IsValid v.value) }
     {
         if self.shown().has_stray() {
             return Ok(Arc::new(self.alloc, self.shown().closed()?)?);
@@ -215,6 +217,7 @@ fn append(
     alloc: Global,
     added: StoredRecord,
 ) -> Result<(), AllocError>
+    requires { add (arc_value pending.old) added ≡ Ok (appended (arc_value pending.old) added) }
     ensures ok { OnOk result (arc_value pending.new ≡ appended (arc_value pending.old) added) }
     ensures err { OnErr result (arc_value pending.new ≡ arc_value pending.old) }
 {
@@ -224,6 +227,7 @@ fn append(
 
 /// Takes a record's data out of its set.
 fn remove(pending: &mut Arc<ZoneVersion>, deleted: &StoredRecord) -> Result<(), AllocError>
+    requires { delete (arc_value pending.old) deleted.now ≡ Ok (without (arc_value pending.old) deleted.now) }
     ensures ok { OnOk result (arc_value pending.new ≡ without (arc_value pending.old) deleted.now) }
     ensures err { OnErr result (arc_value pending.new ≡ arc_value pending.old) }
 {
