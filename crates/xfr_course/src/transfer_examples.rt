@@ -7,7 +7,7 @@ ghost use Rattle.zone_types.specs.TransferText.{Axfr, Ixfr};
 ghost use Rattle.zone_types.specs.Spells.{spelling};
 ghost use Rattle.zone_types.specs.Read.{spelt};
 ghost use Rattle.zone_types.specs.ZoneRows as rows;
-ghost use Rattle.zone_sync.specs.CourseRows as examples;
+ghost use Rattle.xfr_course.specs.CourseRows as examples;
 ghost use Rattle.zone_types.specs.Read as reads;
 ghost use Rattle.xfr_course.specs.Granting as granting;
 ghost use Rattle.xfr_course.specs.Outcome as outcomes;
