@@ -1,16 +1,16 @@
 -- The server's answers, taken by the client.
-use Rattle.std.proofs.Common.{◌≡◌, ℕ, true, List, [], ◌∷◌, ◌++◌, refl, sym, ap, ◌∙◌, subst, Option, Some, None}
+use Rattle.std.proofs.Common.{◌≡◌, ℕ, true, List, [], ◌∷◌, ◌++◌, refl, sym, ap, ◌∙◌, Option, Some, None}
 use Rattle.std.specs.Prelude.{map, IsTrue}
 use Rattle.std.specs.List.{AllByRecursion, last_or}
 use Rattle.std.specs.Option.{option_map_or}
 use Rattle.std.proofs.lemmas.List.{append_assoc, append-nil, map-append}
 use Rattle.dns_rdata.specs.Records.{record_wire}
-use Rattle.dns_wire.specs.Wire.{Message, message_wire}
+use Rattle.dns_wire.specs.Wire.{Message}
 use Rattle.dns_wire.specs.Parse.{parsed}
 use Rattle.dns_wire.proofs.ItemWriting.{parsed-message_wire}
 use Rattle.tsig_port.specs.Tsig.{TsigKey, tsig_record, is_signed, mac_in, tsig_by, signed_from}
 use Rattle.tsig_port.specs.Checked.{prior_mac, unsigned_since, passing, first_fault}
-use Rattle.tsig_port.specs.Signing.{IsKey, CanSign}
+use Rattle.tsig_port.specs.Signing.{CanSign}
 use Rattle.tsig_port.specs.Exchange.{IsInStep, IsExchange, next_answer, next_tsig, AnswerIsAccepted, AnswerIsKept, AnswerKeepsOctets, StaysInStep, AnswersAreStrictlyChecked, AnswersAreStrictlyFaultless}
 use Rattle.tsig_port.proofs.Sequences.{prior_after, unsigned_after}
 use Rattle.tsig_port.proofs.SignedAnswers.{signature, passes, is_signed_sent, taken_is, all_pass, none_faulty}

@@ -1,9 +1,9 @@
 -- A TSIG that was put on a built message is read again.
-use Rattle.std.proofs.Common.{◌≡◌, ℕ, ◌+◌, ◌/◌, ◌<◌, ◌^◌, true, false, List, [], ◌∷◌, ◌++◌, length, length-append, refl, sym, ap, ◌∙◌, arith, Some, lt-ltb, add-zero, eq-eqb, ne_eqb, lit<}
+use Rattle.std.proofs.Common.{◌≡◌, ℕ, ◌+◌, ◌<◌, true, false, List, [], ◌∷◌, ◌++◌, length, length-append, refl, sym, ap, ◌∙◌, arith, Some, lt-ltb, add-zero, eq-eqb, ne_eqb, lit<}
 use Rattle.std.specs.Prelude.{flat_map}
 use Rattle.std.specs.List.{AllByRecursion}
 use Rattle.std.proofs.lemmas.List.{append_assoc, append-nil}
-use Rattle.dns_name.specs.Octets.{u32_octets, u16_octets, u48_octets, u48_number, u48_at}
+use Rattle.dns_name.specs.Octets.{u32_octets, u16_octets, u48_octets}
 use Rattle.dns_name.specs.Names.{Name, name_wire, is_name}
 use Rattle.dns_rdata.specs.Records.{Record, record_wire, data_wire}
 use Rattle.dns_wire.specs.Wire.{Message, message_wire, header_wire, question_wire, counts_wire, counts_of, with_additional}

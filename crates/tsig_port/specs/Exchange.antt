@@ -1,5 +1,5 @@
 -- One exchange: what the server signs of a built message is taken by the client (RFC 8945, 5.3 and 5.4).
-use Rattle.std.specs.Prelude.{◌≡◌, ◌≤◌, ◌<◌, ◌^◌, ℕ, List, [], ◌∷◌, ◌++◌, length, map, Some, None, IsTrue}
+use Rattle.std.specs.Prelude.{◌≡◌, ◌≤◌, ◌<◌, ◌^◌, ℕ, List, [], ◌∷◌, ◌++◌, map, Some, None, IsTrue}
 use Rattle.std.specs.Int.{abs_diff}
 use Rattle.std.specs.List.{AllByRecursion, last_or}
 use Rattle.dns_rdata.specs.Records.{record_wire}

@@ -1,5 +1,5 @@
 -- Answers that are taken one by one, each judged behind those before it (RFC 8945, 5.3.1 and 5.4).
-use Rattle.std.specs.Prelude.{◌≡◌, ◌↔◌, ℕ, List, [], ◌∷◌, ◌++◌, Option, Some, None}
+use Rattle.std.specs.Prelude.{◌≡◌, ◌↔◌, ℕ, List, [], ◌∷◌, ◌++◌, Some, None}
 use Rattle.tsig_port.specs.Tsig.{TsigKey, mac_in}
 use Rattle.tsig_port.specs.Checked.{answer_fault, passing, first_fault, strictly_checked, strict_fault, checked, check_fault}
 use Rattle.tsig_port.specs.declared.errors.ValidationError.{ValidationError}

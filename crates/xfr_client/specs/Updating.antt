@@ -1,10 +1,11 @@
 -- What an updater keeps beside its session, and what both stand for.
-use Rattle.std.specs.Prelude.{ℕ, ◌+◌, ◌-◌, ◌^◌, ◌==◌, ◌&&◌, Bool, true, false, List, [], ◌∷◌}
+use Rattle.std.specs.Prelude.{◌≡◌, ◌⊎◌, ℕ, ◌+◌, ◌-◌, ◌^◌, ◌==◌, ◌&&◌, Bool, true, false, List, [], ◌∷◌}
 use Rattle.zone_types.specs.Version.{Version}
 use Rattle.zone_types.specs.Commits.{Commit}
-use Rattle.zone_types.specs.Session.{Session}
-use Rattle.zone_types.specs.Updates.{Update, Progress}
+use Rattle.zone_types.specs.Session.{Session, with_pending}
+use Rattle.zone_types.specs.Updates.{Update, Finished, Progress}
 use Rattle.zone_types.specs.Applying.{commits}
+use Rattle.zone_types.specs.Edits.{set_soa}
 
 -- whether equal data are passed over, and whether the end has come
 pub record Updating : Type 0 where
@@ -28,3 +29,8 @@ next_commit false last v = last
 -- whether an update commits, and the version before has the greatest number
 abbrev pub lacks_number : ℕ → Update → Bool
 lacks_number number u = commits u && (number == 2 ^ 64 - 1)
+
+-- how a session stands where an update isn't applied: as before, or with the SOA record of the end pending
+abbrev pub Leaves : Update → Session → Session → Type 0
+Leaves (Finished r) old new = (new ≡ old) ⊎ (new ≡ with_pending old (set_soa old.pending r))
+Leaves _ old new = new ≡ old

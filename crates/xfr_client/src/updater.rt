@@ -9,7 +9,7 @@ ghost use Rattle.zone_types.specs.Updates.{UpdateFault, apply_update, after_refu
 ghost use Rattle.zone_types.specs.Applying.{commits};
 ghost use Rattle.xfr_client.specs.declared.update.Error.TheVariants.{VersionsExhausted, Memory};
 ghost use Rattle.xfr_client.specs.Causes.{update_of, update_fault_of};
-ghost use Rattle.xfr_client.specs.Updating.{progress_of, new_version, next_commit, lacks_number};
+ghost use Rattle.xfr_client.specs.Updating.{Leaves, progress_of, new_version, next_commit, lacks_number};
 
 use crate::update::{Error, ZoneUpdate};
 use dns_rdata::{ReadRecord, StoredRecord, ZoneRecordData};
@@ -83,6 +83,7 @@ impl ZoneUpdater {
         ensures ready { IfOk result (λ told. told ≡ true → session.new.has_handle ≡ true) }
         ensures kept { IfOk result (λ told. told ≡ false → session.new ≡ with_pending session.old session.new.pending) }
         ensures err { OnErr result (session.new ≡ with_pending session.old session.new.pending) }
+        ensures left { OnErr result (Leaves (update_of update.entry) session.old session.new) }
         // No commit goes past the greatest number.
         ensures numbered { IfOk result (λ told. lacks_number session.old.current.number (update_of update.entry) ≡ false) }
         ensures exhausted { (before : List Version) → result ≡ Err VersionsExhausted → (lacks_number session.old.current.number (update_of update.entry) ≡ true) × IsOk (apply_update (progress_of self.old session.old before) (update_of update.entry)) }
@@ -138,6 +139,7 @@ impl ZoneUpdater {
         ensures told { IfOk result (λ told. told ≡ false) }
         ensures numbered { result ≡ Err VersionsExhausted → ⊥ }
         ensures else_same { session.new ≡ with_pending session.old session.new.pending }
+        ensures err { OnErr result (session.new ≡ session.old) }
         ensures unchanged { IfErr result (λ e. update_fault_of e ≡ None → self.new ≡ self.old) }
     {
         let stored = stored(self.alloc, deleted)?;
@@ -161,6 +163,7 @@ impl ZoneUpdater {
         ensures told { IfOk result (λ told. told ≡ false) }
         ensures numbered { result ≡ Err VersionsExhausted → ⊥ }
         ensures else_same { session.new ≡ with_pending session.old session.new.pending }
+        ensures err { OnErr result (session.new ≡ session.old) }
         ensures unchanged { IfErr result (λ e. update_fault_of e ≡ None → self.new ≡ self.old) }
     {
         let stored = stored(self.alloc, added)?;

@@ -1,9 +1,9 @@
 -- Calls that add records to a message.
-use Rattle.std.proofs.Common.{◌≡◌, ◌≢◌, ℕ, true, false, List, [], ◌∷◌, ◌++◌, Option, Some, None, refl, sym, ap, ◌∙◌, subst}
+use Rattle.std.proofs.Common.{◌≡◌, ℕ, true, List, [], ◌∷◌, ◌++◌, Some, None, refl, sym, ap, ◌∙◌, subst}
 use Rattle.std.specs.Prelude.{Result, Ok, Err, option_map, flat_map}
 use Rattle.dns_name.specs.Codes.{type_soa}
 use Rattle.dns_rdata.specs.Records.{Field, Record, record_wire}
-use Rattle.dns_wire.specs.Wire.{Building, fits, message_wire, with_answer, ancount_in}
+use Rattle.dns_wire.specs.Wire.{Building, fits, message_wire, with_answer}
 use Rattle.dns_wire.specs.Builds.{Adds, building}
 use Rattle.dns_wire.specs.declared.builder.PushError.{PushError}
 use Rattle.dns_wire.specs.declared.builder.PushError.TheVariants.{ShortBuf, CountOverflow, Memory}
@@ -11,7 +11,7 @@ use Rattle.zone_types.specs.Version.{RecordSet, Version, set_at}
 use Rattle.zone_types.specs.Answer.{apex_soa_record, first_only, records_of, records_of_option}
 use Rattle.zone_types.specs.Offer.{whole_text}
 use Rattle.zone_types.specs.Walk.{Stop, walk}
-use Rattle.xfr_server.specs.Texts.{transfer_message, with_answers, have_room, AddsAnswers, Writes, can_hold, is_soa_stop, stop_records}
+use Rattle.xfr_server.specs.Texts.{transfer_message, with_answers, have_room, AddsAnswers, Writes, is_soa_stop, stop_records}
 use Rattle.xfr_server.proofs.Answers.{with_none, with_more, with_append, room_none, room_more, room_short, room_full, room_behind, room_refused, held_transfer, written_transfer}
 use Rattle.xfr_server.proofs.Middle.{middle_by_stops}
 

@@ -1,5 +1,5 @@
 -- What is chosen of an offer.
-use Rattle.std.proofs.Common.{◌≡◌, ℕ, Bool, true, false, ◌&&◌, not, List, Option, refl, sym, subst}
+use Rattle.std.proofs.Common.{◌≡◌, ℕ, Bool, false, ◌&&◌, not, List, Option, refl, sym, subst}
 use Rattle.std.specs.Prelude.{Result, Ok, is_some}
 use Rattle.dns_wire.specs.Parse.{sole_question_in}
 use Rattle.zone_types.specs.Offer.{Offer}

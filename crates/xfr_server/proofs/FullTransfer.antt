@@ -1,24 +1,22 @@
 -- What a primary sends in a full transfer.
-use Rattle.std.proofs.Common.{◌≡◌, ℕ, ◌+◌, ◌-◌, ◌≤◌, ◌<◌, ◌^◌, Bool, true, false, ◌&&◌, not, cond, List, [], ◌∷◌, ◌++◌, length, Option, Some, None, min, refl, sym, ap, ◌∙◌, arith, subst}
-use Rattle.std.specs.Prelude.{IsTrue, option_map, Result, Ok, nat_lt, nat_le, is_some, ◌==◌}
+use Rattle.std.proofs.Common.{◌≡◌, ℕ, ◌+◌, ◌≤◌, ◌<◌, true, false, List, [], ◌∷◌, length, Option, Some, None, min, refl, sym, ap, ◌∙◌, arith, subst}
+use Rattle.std.specs.Prelude.{IsTrue, option_map, Result, Ok}
 use Rattle.std.proofs.lemmas.Bool.Decides.{nat_tests}
-use Rattle.dns_name.specs.Names.{fold}
 use Rattle.dns_wire.specs.Wire.{Building, Message, message_wire, arcount_in, header_in, fits}
 use Rattle.dns_rdata.specs.Records.{Record}
 use Rattle.dns_wire.specs.Parse.{sole_question_in, questions_in}
-use Rattle.tsig_port.specs.Tsig.{TsigKey, Tsig, mac_in, is_mac_len, compose_len, signed_answer, signed_answers, signed_from}
+use Rattle.tsig_port.specs.Tsig.{TsigKey, mac_in, is_mac_len, compose_len, signed_answer, signed_answers, signed_from}
 use Rattle.tsig_port.specs.Checked.{taken_message}
-use Rattle.tsig_port.specs.ServerCheck.{Keys, Verdict, verdict}
-use Rattle.tsig_port.specs.ServerCheck.Verdict.{Accepted}
-use Rattle.zone_types.specs.Version.{Version, has_one_apex_soa}
+use Rattle.tsig_port.specs.ServerCheck.{Keys, Verdict}
+use Rattle.zone_types.specs.Version.{has_one_apex_soa}
 use Rattle.zone_types.specs.Offer.{Offer, whole_text}
 use Rattle.xfr_server.specs.Items.{Sending, sent_by, all_given}
 use Rattle.xfr_server.specs.Texts.{transfer_header, transfer_message, can_hold}
-use Rattle.xfr_server.specs.Transfers.{Choice, chosen, choice_by, choice_of, transfer_mode, transfer_replies, replies_of, whole_replies, reply_limit, transaction, asked_serial, asks_for_apex}
+use Rattle.xfr_server.specs.Transfers.{chosen, transfer_replies, reply_limit, transaction, asked_serial, asks_for_apex}
 use Rattle.xfr_server.specs.Transfers.Choice.{Whole}
-use Rattle.xfr_server.specs.Signing.{Signer, can_be_signed, to_sign, signed_reply, signed_items}
-use Rattle.xfr_server.specs.Serving.{SendsIn, SendsTransfer, SendsBy, SendsSigned, accepted_request, signer_for}
-use Rattle.xfr_server.specs.FullTransfer.{whole_answer, IsGrantedAxfr, IsSentWhole, SendsWhole}
+use Rattle.xfr_server.specs.Signing.{Signer, can_be_signed, signed_reply, signed_items}
+use Rattle.xfr_server.specs.Serving.{SendsIn, SendsTransfer, SendsBy, SendsSigned, accepted_request, signer_for, SendsChecked}
+use Rattle.xfr_server.specs.FullTransfer.{SendsWhole}
 use Rattle.xfr_server.specs.declared.providers.XfrDataProviderError.{XfrDataProviderError}
 use Rattle.xfr_server.specs.declared.requests.Request.{Request}
 use Rattle.xfr_server.specs.declared.services.CallResult.{CallResult}
@@ -95,17 +93,17 @@ given_is told message known k transport reserved n given replies own is stream f
 
 -- ---- the law
 
-pub whole_sent : {M K : Type 0} (the_key : K → TsigKey) (keys : Keys) (Next : Request (Option K) → Option (List Sending) → Type 0)
+pub whole_sent : {M K : Type 0} (IsDefault : Option K → Type 0) (the_key : K → TsigKey) (keys : Keys) (Next : Request (Option K) → Option (List Sending) → Type 0)
     (told : List ℕ → Option K → Option ℕ → Result Offer XfrDataProviderError) (r : Request M) (key : TsigKey) (offer : Offer) (sent : Option (List Sending))
-    → SendsWhole the_key keys Next told r key offer sent
-whole_sent the_key keys Next told r key offer sent g sends =
+    → SendsWhole (SendsChecked the_key keys (SendsTransfer IsDefault Next told)) the_key keys told r key offer sent
+whole_sent IsDefault the_key keys Next told r key offer sent g sends =
     let message = taken_message r.message in
     let m = transfer_message message (whole_text offer.version) in
     let s = signer_for r key in
-    let P : Verdict → Type 0 = λ v. SendsBy the_key keys (SendsTransfer (λ o. o ≡ None) Next told) r sent v in
-    let by_key : SendsSigned the_key keys (SendsTransfer (λ o. o ≡ None) Next told) r key sent = subst P g.accepted sends in
+    let P : Verdict → Type 0 = λ v. SendsBy the_key keys (SendsTransfer IsDefault Next told) r sent v in
+    let by_key : SendsSigned the_key keys (SendsTransfer IsDefault Next told) r key sent = subst P g.accepted sends in
     let found = found_key the_key by_key.known key (by_key.is_known ∙ g.known) in
-    let Q : Option XfrMode → Type 0 = λ mode. SendsIn (λ o. o ≡ None) Next told (accepted_request r key by_key.known) by_key.given mode in
+    let Q : Option XfrMode → Type 0 = λ mode. SendsIn IsDefault Next told (accepted_request r key by_key.known) by_key.given mode in
     let own : by_key.given ≡ option_map all_given (transfer_replies (told message by_key.known) Axfr r.transport (min (r.reserved + compose_len key) 65535) message) = subst Q g.asks by_key.next in
     let reserved = min (0 + compose_len key) 65535 in
     let reply : Building = record { octets = message_wire m; limit = reply_limit NonUdp reserved } in

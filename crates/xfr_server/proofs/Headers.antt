@@ -1,6 +1,6 @@
 -- A message with another header.
-use Rattle.std.proofs.Common.{◌≡◌, ℕ, true, false, List, [], ◌++◌, length, drop, refl, sym, ap, ◌∙◌}
-use Rattle.dns_wire.specs.Wire.{Header, Message, header_in, header_wire, message_wire, fits}
+use Rattle.std.proofs.Common.{◌≡◌, ℕ, true, List, [], ◌++◌, length, drop, refl}
+use Rattle.dns_wire.specs.Wire.{Header, Message, header_in, header_wire, message_wire}
 use Rattle.dns_wire.specs.Reply.{answer_header, empty_answer}
 use Rattle.xfr_server.specs.Texts.{transfer_header, transfer_message}
 use Rattle.xfr_server.specs.Replying.{truncated_answer}

@@ -9,3 +9,4 @@ pub mod Room
 pub mod Puts
 pub mod Sends
 pub mod FullTransfer
+pub mod Accepted

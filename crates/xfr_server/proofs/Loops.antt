@@ -1,10 +1,10 @@
 -- Records that a loop adds one after another, by what is left.
-use Rattle.std.proofs.Common.{◌≡◌, ℕ, true, List, [], ◌∷◌, ◌++◌, length, map, Option, Some, None, refl, sym, ap, ◌∙◌, subst}
+use Rattle.std.proofs.Common.{◌≡◌, ℕ, List, [], ◌∷◌, ◌++◌, length, map, Some, None, refl, sym, ap, ◌∙◌, subst}
 use Rattle.std.specs.Prelude.{Result, Ok, Err, flat_map, slice_get}
 use Rattle.dns_name.specs.Codes.{type_soa}
 use Rattle.dns_name.specs.Names.{Name}
 use Rattle.dns_rdata.specs.Records.{Field, Record, record_wire}
-use Rattle.dns_wire.specs.Wire.{Building, with_answer}
+use Rattle.dns_wire.specs.Wire.{Building}
 use Rattle.dns_wire.specs.Builds.{Adds}
 use Rattle.dns_wire.specs.declared.builder.PushError.{PushError}
 use Rattle.zone_types.specs.Version.{RecordSet, Version, set_at}

@@ -4,17 +4,17 @@ use Rattle.std.specs.Prelude.{Result, Ok, Err, OnOk, OnErr, ◌==◌}
 use Rattle.std.specs.List.{last_or}
 use Rattle.std.proofs.lemmas.Bool.Decides.{nat_tests}
 use Rattle.dns_rdata.specs.Records.{record_wire}
-use Rattle.dns_wire.specs.Wire.{Building, message_wire, fits, with_item, header_number}
+use Rattle.dns_wire.specs.Wire.{Building, message_wire, fits, header_number}
 use Rattle.dns_wire.specs.Builds.{Adds, building}
 use Rattle.dns_wire.specs.declared.builder.PushError.{PushError}
 use Rattle.dns_wire.specs.declared.builder.PushError.TheVariants.{ShortBuf, CountOverflow, Memory}
 use Rattle.tsig_port.specs.Tsig.{TsigKey, answer_tsig, tsig_record}
 use Rattle.tsig_port.specs.States.{ServerStands}
 use Rattle.tsig_port.specs.declared.server.ServerSequence.{ServerSequence}
-use Rattle.xfr_server.specs.Items.{Sending, Makes, service_error_of}
+use Rattle.xfr_server.specs.Items.{service_error_of}
 use Rattle.xfr_server.specs.Items.Sending.{Given}
 use Rattle.xfr_server.specs.Replying.{truncated_answer, truncated_reply}
-use Rattle.xfr_server.specs.Signing.{Signer, Signs, PutsTsig, SignedAs, SignsReply, SignsWhere, StepsTo, signed_step, step_reply, step_item, begun, is_due, as_it_is, can_be_signed, signed_reply, reply_tsig, short_reply, short_to_sign, to_sign, behind}
+use Rattle.xfr_server.specs.Signing.{Signer, Signs, PutsTsig, SignedAs, SignsReply, SignsWhere, StepsTo, signed_step, step_reply, step_item, begun, is_due, as_it_is, can_be_signed, signed_reply, short_reply, short_to_sign, to_sign, behind}
 use Rattle.xfr_server.specs.declared.services.CallResult.{CallResult}
 use Rattle.xfr_server.specs.declared.services.ServiceFeedback.{ServiceFeedback}
 use Rattle.xfr_server.specs.declared.services.ServiceError.{ServiceError}

@@ -1,13 +1,13 @@
 -- How many octets a signature takes.
-use Rattle.std.proofs.Common.{◌≡◌, ℕ, ◌+◌, ◌≤◌, List, [], ◌∷◌, ◌++◌, length, take, drop, refl, sym, ap, ◌∙◌, arith, length-append, length-drop}
+use Rattle.std.proofs.Common.{◌≡◌, ℕ, ◌+◌, ◌≤◌, List, [], ◌++◌, length, take, drop, arith, length-append, length-drop}
 use Rattle.std.specs.Prelude.{IsTrue, Option}
-use Rattle.std.proofs.lemmas.List.{append-nil, length-take-le}
+use Rattle.std.proofs.lemmas.List.{length-take-le}
 use Rattle.dns_name.specs.Octets.{u16_octets, u32_octets, u48_octets}
 use Rattle.dns_name.specs.Codes.{type_tsig, class_any}
 use Rattle.dns_name.specs.Names.{Name, name_wire}
 use Rattle.dns_rdata.specs.Records.{record_wire, data_wire}
 use Rattle.dns_wire.specs.Wire.{with_item, header_number, id_in}
-use Rattle.tsig_port.specs.Tsig.{TsigKey, Tsig, algorithm_name, is_mac_len, compose_len, tsig_rest, tsig_record, answer_tsig, answer_input, blank_tsig, signed_answer}
+use Rattle.tsig_port.specs.Tsig.{TsigKey, Tsig, is_mac_len, compose_len, tsig_rest, tsig_record, answer_tsig, answer_input, blank_tsig, signed_answer}
 use Rattle.tsig_port.proofs.SignedExchange.{length-mac}
 
 rest_length : (t : Tsig) → length (tsig_rest t) ≡ 16 + length t.mac + length t.other

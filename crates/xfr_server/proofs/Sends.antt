@@ -1,14 +1,12 @@
 -- What the service that signs sends, item by item.
-use Rattle.std.proofs.Common.{◌≡◌, ℕ, List, [], ◌∷◌, Option, Some, None, refl, sym, ap, ◌∙◌, subst}
-use Rattle.std.specs.Prelude.{Result, Ok, Err, option_map, ◌+◌, min}
-use Rattle.std.specs.List.{last_or}
+use Rattle.std.proofs.Common.{◌≡◌, ℕ, List, [], ◌∷◌, Option, Some, None, refl, ap, ◌∙◌}
+use Rattle.std.specs.Prelude.{Result, Ok, Err, option_map}
 use Rattle.dns_name.specs.Names.{fold}
-use Rattle.tsig_port.specs.Tsig.{TsigKey, mac_in, compose_len}
-use Rattle.tsig_port.specs.Checked.{taken_message}
+use Rattle.tsig_port.specs.Tsig.{TsigKey, mac_in}
 use Rattle.tsig_port.specs.ServerCheck.{Keys}
 use Rattle.tsig_port.specs.States.{ServerStands}
-use Rattle.xfr_server.specs.Items.{Sending, NextOf, Gives, Calls}
-use Rattle.xfr_server.specs.Items.Sending.{Given, Failed}
+use Rattle.xfr_server.specs.Items.{Sending, NextOf, Gives}
+use Rattle.xfr_server.specs.Items.Sending.{Given}
 use Rattle.xfr_server.specs.Signing.{Signer, Signs, StepsTo, step_item, signed_items}
 use Rattle.xfr_server.specs.Streams.{GivesSigned, SignedLeft}
 use Rattle.xfr_server.specs.Serving.{SendsSigned, accepted_request, signer_for}
@@ -19,7 +17,6 @@ use Rattle.xfr_server.specs.declared.services.ServiceError.{ServiceError}
 use Rattle.xfr_server.specs.declared.services.ServiceError.TheVariants.{InternalError, Memory}
 use Rattle.xfr_server.specs.declared.signing.PostprocessingState.{PostprocessingState}
 use Rattle.xfr_server.specs.declared.signing.Signing.TheVariants.{First}
-use Rattle.xfr_server.specs.declared.signing.TsigStream.{TsigStream}
 use Rattle.xfr_server.specs.declared.signing.TsigStream.TheVariants.{Signed}
 
 -- the next service's item, signed

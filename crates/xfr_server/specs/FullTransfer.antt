@@ -1,18 +1,23 @@
 -- An honest full transfer, as a primary sends it (RFC 5936, 2.2; RFC 8945, 5.3).
-use Rattle.std.specs.Prelude.{◌≡◌, ℕ, ◌+◌, ◌≤◌, ◌<◌, true, false, List, [], ◌∷◌, length, Option, Some, None, IsTrue, Result, Ok}
-use Rattle.dns_name.specs.Names.{fold}
-use Rattle.dns_wire.specs.Wire.{Message, message_wire}
-use Rattle.dns_wire.specs.Parse.{sole_question_in}
+use Rattle.std.specs.Prelude.{◌≡◌, ℕ, ◌+◌, ◌^◌, ◌≤◌, ◌<◌, ◌&&◌, ◌==◌, true, false, List, [], ◌∷◌, length, Option, Some, None, IsTrue, Result, Ok, unwrap_or}
+use Rattle.std.specs.List.{AllByRecursion}
+use Rattle.dns_name.specs.Names.{Name, fold, same_name}
+use Rattle.dns_rdata.specs.Records.{Record}
+use Rattle.dns_wire.specs.Wire.{Message, Question, message_wire, id_in}
+use Rattle.dns_wire.specs.Parse.{parsed, sole_question_in}
+use Rattle.dns_wire.specs.Written.{IsMessage, IsRecord, parsed_of}
 use Rattle.tsig_port.specs.Tsig.{TsigKey, mac_in, is_mac_len, compose_len, signed_answers}
 use Rattle.tsig_port.specs.Checked.{taken_message}
 use Rattle.tsig_port.specs.ServerCheck.{Keys, verdict}
 use Rattle.tsig_port.specs.ServerCheck.Verdict.{Accepted}
 use Rattle.zone_types.specs.Version.{Version, has_one_apex_soa}
-use Rattle.zone_types.specs.Offer.{Offer, whole_text}
-use Rattle.xfr_server.specs.Items.{Sending, Sent, sent_by}
+use Rattle.zone_types.specs.Messages.{read_of}
+use Rattle.zone_types.specs.Offer.{Offer, Provider, is_granted, offer_of, whole_text}
+use Rattle.zone_types.specs.Read.{request_fault}
+use Rattle.xfr_server.specs.Items.{Sending, sent_by}
+use Rattle.xfr_server.specs.Offers.{answer_to}
 use Rattle.xfr_server.specs.Texts.{transfer_message}
 use Rattle.xfr_server.specs.Transfers.{transfer_mode, asked_serial, asks_for_apex}
-use Rattle.xfr_server.specs.Serving.{SendsTransfer, SendsChecked}
 use Rattle.xfr_server.specs.declared.providers.XfrDataProviderError.{XfrDataProviderError}
 use Rattle.xfr_server.specs.declared.requests.Request.{Request}
 use Rattle.xfr_server.specs.declared.requests.TransportSpecificContext.TheVariants.{NonUdp}
@@ -43,6 +48,20 @@ pub record IsSentWhole {M : Type 0} (r : Request M) (key : TsigKey) (v : Version
   pub messages : sent_by items ≡ record { messages = signed_answers key (mac_in r.message) r.at 300 (message_wire (whole_answer r v) ∷ []); fails = false }
 
 -- the law of full transfers: a primary of these services sends that
-abbrev pub SendsWhole : {M K : Type 0} → (K → TsigKey) → Keys → (Request (Option K) → Option (List Sending) → Type 0) → (List ℕ → Option K → Option ℕ → Result Offer XfrDataProviderError) → Request M → TsigKey → Offer → Option (List Sending) → Type 0
-SendsWhole the_key keys Next told r key offer sent =
-    IsGrantedAxfr the_key keys told r key offer → SendsChecked the_key keys (SendsTransfer (λ o. o ≡ None) Next told) r sent → IsSentWhole r key offer.version sent
+abbrev pub SendsWhole : {M K : Type 0} → (Request M → Option (List Sending) → Type 0) → (K → TsigKey) → Keys → (List ℕ → Option K → Option ℕ → Result Offer XfrDataProviderError) → Request M → TsigKey → Offer → Option (List Sending) → Type 0
+SendsWhole Sends the_key keys told r key offer sent = IsGrantedAxfr the_key keys told r key offer → Sends r sent → IsSentWhole r key offer.version sent
+
+-- the law of what is taken: nothing refuses the message as the first answer to a request that asks so (RFC 5936, 2.2.1)
+abbrev pub WholeIsTaken : Type 0
+WholeIsTaken = (message : List ℕ) (q : Question) (v : Version) → transfer_mode message ≡ Some Axfr → sole_question_in message ≡ Some q → has_one_apex_soa v ≡ true
+    → request_fault (id_in message) q true (read_of (transfer_message message (whole_text v))) ≡ None
+
+-- the law of wire forms: an answer to a request that was built, with records that have a wire form, has one
+abbrev pub TransferIsMessage : Type 0
+TransferIsMessage = (message : List ℕ) (asked : Message) (rs : List Record) → 12 ≤ length message → IsMessage asked → parsed message ≡ Some (parsed_of asked)
+    → AllByRecursion IsRecord rs → length rs < 2 ^ 16 → IsMessage (transfer_message message rs)
+
+-- the law of grants: a provider with a history offers what it keeps to one whose key it grants (RFC 1995, 2)
+abbrev pub HistoryGrants : Type 0
+HistoryGrants = (p : Provider) (q : Question) (key : Name × ℕ) (asked : Option ℕ) → (same_name q.qname p.kept.apex && (q.qclass == p.kept.class)) ≡ true
+    → is_granted p.grants (Some key) ≡ true → answer_to p (Some q) (Some key) asked ≡ Ok (offer_of p.kept p.differences p.compatibility (unwrap_or asked 0))

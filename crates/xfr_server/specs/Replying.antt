@@ -1,8 +1,8 @@
 -- Replies without records.
-use Rattle.std.specs.Prelude.{ℕ, true, List, ◌∷◌, Option, Some, None, option_map, if◌then◌else◌}
+use Rattle.std.specs.Prelude.{ℕ, true, List, Option, Some, None, option_map, if◌then◌else◌}
 use Rattle.dns_wire.specs.Wire.{Building, Message, header_in, message_wire, fits}
 use Rattle.dns_wire.specs.Reply.{answer_header, empty_answer}
-use Rattle.xfr_server.specs.Items.{one_reply, reply_item}
+use Rattle.xfr_server.specs.Items.{one_reply}
 use Rattle.xfr_server.specs.declared.services.CallResult.{CallResult}
 
 -- not implemented, and refused (RFC 1035, 4.1.1)

@@ -8,7 +8,7 @@ use Rattle.tsig_port.specs.ServerCheck.{Keys, Verdict, verdict}
 use Rattle.tsig_port.specs.ServerCheck.Verdict.{NoTsig, Accepted, Refused, BadTime}
 use Rattle.zone_types.specs.Offer.{Offer}
 use Rattle.xfr_server.specs.Items.{Sending, all_given}
-use Rattle.xfr_server.specs.Replying.{refused, error_replies}
+use Rattle.xfr_server.specs.Replying.{error_replies}
 use Rattle.xfr_server.specs.Transfers.{transfer_mode, transfer_replies}
 use Rattle.xfr_server.specs.Signing.{Signer, signed_items}
 use Rattle.xfr_server.specs.declared.requests.Request.{Request}

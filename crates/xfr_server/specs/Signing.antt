@@ -11,7 +11,7 @@ use Rattle.xfr_server.specs.Items.Sending.{Given, Failed}
 use Rattle.xfr_server.specs.Replying.{truncated_answer}
 use Rattle.xfr_server.specs.declared.services.CallResult.{CallResult}
 use Rattle.xfr_server.specs.declared.services.ServiceFeedback.{ServiceFeedback}
-use Rattle.xfr_server.specs.declared.services.ServiceFeedback.TheVariants.{BeginTransaction, EndTransaction}
+use Rattle.xfr_server.specs.declared.services.ServiceFeedback.TheVariants.{BeginTransaction}
 use Rattle.xfr_server.specs.declared.services.ServiceError.{ServiceError}
 use Rattle.xfr_server.specs.declared.services.ServiceError.TheVariants.{InternalError, Memory}
 use Rattle.xfr_server.specs.declared.signing.Signing.{Signing}

@@ -1,8 +1,8 @@
 -- Which items the streams of replies still give.
-use Rattle.std.specs.Prelude.{◌≡◌, ℕ, ◌+◌, List, [], ◌∷◌, length, Option, Some, None}
+use Rattle.std.specs.Prelude.{◌≡◌, ℕ, List, [], ◌∷◌, length, Option, Some, None}
 use Rattle.tsig_port.specs.Tsig.{TsigKey}
 use Rattle.xfr_server.specs.Items.{Sending, all_given, reply_item}
-use Rattle.xfr_server.specs.Items.Sending.{Given, Failed}
+use Rattle.xfr_server.specs.Items.Sending.{Given}
 use Rattle.xfr_server.specs.Signing.{Signer, Signs, signed_items}
 use Rattle.xfr_server.specs.declared.transfer.XfrMiddlewareStream.{XfrMiddlewareStream}
 use Rattle.xfr_server.specs.declared.transfer.XfrMiddlewareStream.TheVariants.{Own, Next}

@@ -1,5 +1,5 @@
 -- What is sent in answer to a transfer request (RFC 5936, 2.2; RFC 1995, 2 and 4).
-use Rattle.std.specs.Prelude.{◌≡◌, ℕ, ◌-◌, Bool, true, false, ◌&&◌, ◌||◌, not, ◌==◌, List, [], ◌∷◌, Option, Some, None, is_some, option_map, option_and_then, unwrap_or, Result, Ok, Err, if◌then◌else◌}
+use Rattle.std.specs.Prelude.{ℕ, ◌-◌, Bool, true, false, ◌&&◌, ◌||◌, not, ◌==◌, List, [], ◌∷◌, Option, Some, None, is_some, option_map, option_and_then, unwrap_or, Result, Ok, Err, if◌then◌else◌}
 use Rattle.dns_name.specs.Names.{same_name}
 use Rattle.dns_name.specs.Serial.{serial_upto}
 use Rattle.dns_name.specs.Codes.{formerr, servfail, notauth, type_soa, type_axfr, type_ixfr}

@@ -3,9 +3,10 @@ ghost use Rattle.std.specs.Prelude.{List, Option};
 ghost use Rattle.tsig_port.specs.Tsig.{TsigKey};
 ghost use Rattle.zone_types.specs.Offer.{Offer};
 ghost use Rattle.xfr_server.specs.Items.{Sending};
-ghost use Rattle.xfr_server.specs.FullTransfer.{SendsWhole};
+ghost use Rattle.xfr_server.specs.FullTransfer.{SendsWhole, WholeIsTaken, TransferIsMessage, HistoryGrants};
 ghost use Rattle.xfr_server.specs.declared.requests.Request.{Request as RequestOf};
 
+use crate::PrimaryStack;
 use crate::providers::XfrDataProvider;
 use crate::services::Service;
 use tsig_port::KeyStore;
@@ -13,10 +14,21 @@ use tsig_port::KeyStore;
 /// A signed request for a full transfer that a primary accepts and its provider grants is answered with the whole text in one
 /// message, signed as the first answer.
 pub fn full_transfers_are_sent<
-    KS: KeyStore,
-    N: Service<Option<KS::Key>>,
-    X: XfrDataProvider<Option<KS::Key>>,
+    KS: KeyStore + Drop,
+    N: Service<Option<KS::Key>> + Drop,
+    X: XfrDataProvider<Option<KS::Key>> + Drop,
 >()
     ensures { (next : N) (provider : X) (keys : KS) (r : RequestOf (Unit {0})) (key : TsigKey) (offer : Offer) (sent : Option (List Sending))
-        → SendsWhole KS.Key.the_key (KS.key_of keys) (N.Sends next) (X.told provider) r key offer sent }
+        → SendsWhole (⟦<PrimaryStack<N, X, KS> as Service<()>>⟧.Sends ((next, provider), keys)) KS.Key.the_key (KS.key_of keys) (X.told provider) r key offer sent }
+{}
+
+/// Nothing refuses that message as the first answer to its request, and it has a wire form where its records have one.
+pub fn full_transfers_are_taken()
+    ensures taken { WholeIsTaken }
+    ensures wire { TransferIsMessage }
+{}
+
+/// A provider with a history offers what it keeps to one who signed with a key that it grants.
+pub fn granted_keys_are_offered()
+    ensures { HistoryGrants }
 {}

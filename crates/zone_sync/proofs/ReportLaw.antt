@@ -1,5 +1,5 @@
 -- A transfer that ended well has an outcome, and so a report.
-use Rattle.std.specs.Prelude.{◌≡◌, ℕ, List, [], Option, Some, Result, Ok, Err, IfSome, IsOk}
+use Rattle.std.specs.Prelude.{◌≡◌, ℕ, List, [], Result, Ok, Err, IfSome, IsOk}
 use Rattle.std.proofs.Common.{rules}
 use Rattle.dns_rdata.specs.Records.{record_wire}
 use Rattle.zone_types.specs.Version.{Version}

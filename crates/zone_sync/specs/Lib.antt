@@ -65,3 +65,4 @@ pub mod Report
 pub mod ProgramRows
 pub mod Lines
 pub mod Reported
+pub mod Notices

@@ -1,9 +1,12 @@
 //! The program over its streams and its link.
-ghost use Rattle.std.specs.Prelude.{◌≡◌, ◌≢◌, ◌⊎◌, ◌<◌, ◌↔◌, Some, map, length, string_bytes, IfOk, IfSome, IsOk};
+ghost use Rattle.std.specs.Prelude.{◌≡◌, ◌≢◌, ◌⊎◌, ◌<◌, ◌≤◌, ℕ, List, Some, Err, map, length, string_bytes, IfOk, IfSome, IsOk, IsTrue};
 ghost use Rattle.zone_types.specs.TransferText.{Axfr};
 ghost use Rattle.zone_transfer.specs.Links.{Rose};
 ghost use Rattle.zone_sync.specs.Streams.{with_more};
-ghost use Rattle.zone_sync.specs.Reported.{IsReport, TookReport};
+ghost use Rattle.zone_sync.specs.Reported.{IsReport, TookReport, NamedLine};
+ghost use Rattle.zone_sync.specs.Notices.{usage_line, fault_line, long_line, bad_line, is_fault};
+ghost use Rattle.zone_script.specs.Script.{script_of};
+ghost use Rattle.zone_script.specs.ScriptReaders.{readers_so_far};
 ghost use Rattle.zone_script.specs.Words.{form_of, Transfer};
 
 use crate::report::report_octets;
@@ -73,6 +76,7 @@ fn status_of(outcome: &Result<SyncOk, SyncError>) -> Status
     ensures source { result ≢ Status.SourceFault }
     ensures long { result ≢ Status.TooLong }
     ensures usage { result ≢ Status.Usage }
+    ensures script { result ≢ Status.Script }
 {
     match outcome {
         Ok(_) => Status::Done,
@@ -90,13 +94,23 @@ pub fn run<S: Source, K: Sink, L: Link>(
     out: &mut K,
     link: &mut L,
 ) -> Status
-    // Other words are answered by status 2 alone, or by 5.
+    // Other words are answered by status 2 alone, or by 5, and nothing is read.
     ensures usage { result ≡ Status.Usage → form_of (map string_bytes words.now) ≢ Some (Transfer Axfr 0) }
     ensures no_form { form_of (map string_bytes words.now) ≢ Some (Transfer Axfr 0) → (result ≡ Status.Usage) ⊎ (result ≡ Status.SinkFault) }
-    // The statuses of faults come where a count of faults rose.
+    ensures unread { form_of (map string_bytes words.now) ≢ Some (Transfer Axfr 0) → src.new ≡ src.old }
+    ensures usage_line { result ≡ Status.Usage → K.taken out.new ≡ with_more usage_line (K.taken out.old) }
+    // The statuses of faults come where a count of faults rose, and only want of memory and a later fault hide one.
     ensures source_fault { result ≡ Status.SourceFault → Rose (S.faults src.old) (S.faults src.new) }
     ensures sink_fault { result ≡ Status.SinkFault → Rose (K.faults out.old) (K.faults out.new) }
     ensures link_fault { result ≡ Status.LinkFault → Rose (L.faults link.old) (L.faults link.new) }
+    ensures source_fails { S.faults src.old < S.faults src.new → (result ≡ Status.SourceFault) ⊎ (result ≡ Status.SinkFault) }
+    ensures sink_fails { K.faults out.old < K.faults out.new → result ≡ Status.SinkFault }
+    ensures fault_line { result ≡ Status.SourceFault → K.taken out.new ≡ with_more fault_line (K.taken out.old) }
+    // A script is too long exactly where it has more octets, and else a line is named exactly where the definition names it.
+    ensures script { result ≡ Status.Script → IfSome (S.remaining src.old) (λ text. NamedLine text (K.taken out.old) (K.taken out.new)) }
+    ensures bad_script { (text : List ℕ) (n : ℕ) → form_of (map string_bytes words.now) ≡ Some (Transfer Axfr 0) → S.remaining src.old ≡ Some text → length text ≤ MOST_OCTETS → script_of readers_so_far text ≡ Err n → (result ≡ Status.Script) ⊎ IsTrue (is_fault result) }
+    ensures too_long { (text : List ℕ) → form_of (map string_bytes words.now) ≡ Some (Transfer Axfr 0) → S.remaining src.old ≡ Some text → MOST_OCTETS < length text → (result ≡ Status.TooLong) ⊎ IsTrue (is_fault result) }
+    ensures long_line { result ≡ Status.TooLong → K.taken out.new ≡ with_more long_line (K.taken out.old) }
     // On status 0 the sink took the report of an outcome and of a version, and nothing else.
     ensures report { result ≡ Status.Done → TookReport (K.taken out.old) (K.taken out.new) }
     ensures long { result ≡ Status.TooLong → IfSome (S.remaining src.old) (λ left. MOST_OCTETS < length left) }
@@ -118,6 +132,7 @@ fn write_last<K: Sink>(out: &mut K, octets: &[u8], status: Status) -> Status
     ensures done { result ≢ Status.SinkFault → result ≡ status }
     ensures written { result ≢ Status.SinkFault → K.taken out.new ≡ with_more octets.now (K.taken out.old) }
     ensures failed { result ≡ Status.SinkFault → Rose (K.faults out.old) (K.faults out.new) }
+    ensures steady { result ≢ Status.SinkFault → K.faults out.new ≡ K.faults out.old }
 {
     match write_all(out, octets) {
         Ok(()) => status,
@@ -130,6 +145,9 @@ fn run_script<K: Sink, L: Link>(alloc: Global, text: &[u8], out: &mut K, link: &
     ensures sink_fault { result ≡ Status.SinkFault → Rose (K.faults out.old) (K.faults out.new) }
     ensures link_fault { result ≡ Status.LinkFault → Rose (L.faults link.old) (L.faults link.new) }
     ensures report { result ≡ Status.Done → TookReport (K.taken out.old) (K.taken out.new) }
+    ensures steady { result ≢ Status.SinkFault → K.faults out.new ≡ K.faults out.old }
+    ensures script { result ≡ Status.Script → NamedLine text.now (K.taken out.old) (K.taken out.new) }
+    ensures bad_script { (n : ℕ) → script_of readers_so_far text.now ≡ Err n → (result ≡ Status.Script) ⊎ IsTrue (is_fault result) }
     ensures others { (result ≢ Status.Usage) × (result ≢ Status.SourceFault) × (result ≢ Status.TooLong) }
 {
     match parse(alloc, text) {
@@ -142,6 +160,8 @@ fn run_script<K: Sink, L: Link>(alloc: Global, text: &[u8], out: &mut K, link: &
 /// Writes the number of a bad line.
 fn write_bad_line<K: Sink>(alloc: Global, out: &mut K, number: u64) -> Status
     ensures sink_fault { result ≡ Status.SinkFault → Rose (K.faults out.old) (K.faults out.new) }
+    ensures steady { result ≢ Status.SinkFault → K.faults out.new ≡ K.faults out.old }
+    ensures written { result ≡ Status.Script → K.taken out.new ≡ with_more (bad_line number) (K.taken out.old) }
     ensures others { (result ≡ Status.Script) ⊎ ((result ≡ Status.SinkFault) ⊎ (result ≡ Status.Memory)) }
 {
     match format!(in alloc; "line {number}\n") {
@@ -160,7 +180,8 @@ fn run_transfer<K: Sink, L: Link>(
     ensures sink_fault { result ≡ Status.SinkFault → Rose (K.faults out.old) (K.faults out.new) }
     ensures link_fault { result ≡ Status.LinkFault → Rose (L.faults link.old) (L.faults link.new) }
     ensures report { result ≡ Status.Done → TookReport (K.taken out.old) (K.taken out.new) }
-    ensures others { (result ≢ Status.Usage) × (result ≢ Status.SourceFault) × (result ≢ Status.TooLong) }
+    ensures steady { result ≢ Status.SinkFault → K.faults out.new ≡ K.faults out.old }
+    ensures others { (result ≢ Status.Usage) × (result ≢ Status.SourceFault) × (result ≢ Status.TooLong) × (result ≢ Status.Script) }
 {
     match transfer(alloc, script, link) {
         Ok((report, status)) => write_last(out, report.as_slice(), status),
@@ -187,7 +208,7 @@ fn transfer<L: Link>(
 ) -> Result<(Vec<u8>, Status), AllocError>
     ensures report { IfOk result (λ r. r.1 ≡ Status.Done → IsReport r.0.items) }
     ensures link_fault { IfOk result (λ r. r.1 ≡ Status.LinkFault → Rose (L.faults link.old) (L.faults link.new)) }
-    ensures others { IfOk result (λ r. (r.1 ≢ Status.SinkFault) × (r.1 ≢ Status.Usage) × (r.1 ≢ Status.SourceFault) × (r.1 ≢ Status.TooLong)) }
+    ensures others { IfOk result (λ r. (r.1 ≢ Status.SinkFault) × (r.1 ≢ Status.Usage) × (r.1 ≢ Status.SourceFault) × (r.1 ≢ Status.TooLong) × (r.1 ≢ Status.Script)) }
 {
     let mut script = script;
     let primary = primary_of(alloc, &script.primary, &script.key)?;

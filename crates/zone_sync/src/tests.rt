@@ -48,7 +48,7 @@ fn script_at(alloc: Global, at: &[u8]) -> Result<Vec<u8>, AllocError> {
 }
 
 /// Runs words over a script and a link, and asserts status and output.
-fn expect<R: Abort, L: Link>(
+pub(crate) fn expect<R: Abort, L: Link>(
     rt: &R,
     alloc: Global,
     words: &str,

@@ -1,11 +1,10 @@
-use Rattle.std.proofs.Common.{◌≡◌, ◌+◌, Option, min, refl, ◌∙◌, subst}
+use Rattle.std.proofs.Common.{◌≡◌, ◌+◌, min, refl, ◌∙◌, subst}
 use Rattle.std.specs.Prelude.{option_map}
 use Rattle.dns_name.specs.Names.{fold}
 use Rattle.tsig_port.specs.Tsig.{compose_len}
 use Rattle.xfr_server.specs.Items.{Gives}
 use Rattle.xfr_server.specs.Serving.{as_received, accepted_request}
 use Rattle.xfr_server.specs.declared.requests.Request.{Request}
-use Rattle.xfr_server.specs.declared.signing.Signing.TheVariants.{First}
 use Rattle.xfr_server.proofs.Sends.{request_is, call_gives}
 use Rattle.xfr_server.proofs.signing.TsigMiddlewareSvc.call_signed.Goals as goal
 

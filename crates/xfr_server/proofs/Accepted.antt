@@ -1,0 +1,163 @@
+-- How a client that asked takes the message of a full transfer.
+use Rattle.std.proofs.Common.{◌≡◌, ℕ, ◌≤◌, ◌<◌, ◌^◌, suc, Bool, true, false, ◌||◌, not, cond, List, [], ◌∷◌, ◌++◌, length, map, filter, Option, Some, None, refl, sym, ap, ◌∙◌, arith, subst, eq-eqb, lit<}
+use Rattle.std.specs.Prelude.{◌==◌, option_map, option_and_then, filter_map}
+use Rattle.std.specs.Option.{option_map_or}
+use Rattle.std.specs.List.{AllByRecursion}
+use Rattle.std.proofs.lemmas.Bool.Decides.{nat_tests}
+use Rattle.dns_name.specs.Names.{same_name}
+use Rattle.dns_name.specs.Codes.{type_soa, type_axfr, type_ixfr}
+use Rattle.dns_rdata.specs.Records.{Field, Record}
+use Rattle.dns_wire.specs.Wire.{Header, Question, same_question, flags_word, header_of, header_in, qdcount_in}
+use Rattle.dns_wire.specs.Parse.{Parsed, parsed, readings, question_at, questions_in, sole_question_in, message_end}
+use Rattle.dns_wire.specs.Written.{IsQuestion, parsed_of}
+use Rattle.dns_wire.proofs.Headers.{header_of-flags_word, word_small}
+use Rattle.dns_wire.proofs.Parsing.{unread, reads}
+use Rattle.zone_types.specs.Version.{RecordSet, Version, set_at}
+use Rattle.zone_types.specs.Answer.{apex_soa_record, first_only, records_of, records_of_option}
+use Rattle.zone_types.specs.Offer.{is_apex_soa, whole_text}
+use Rattle.zone_types.specs.Walk.{records_of_version}
+use Rattle.zone_types.specs.Messages.{ReadMessage}
+use Rattle.zone_types.specs.Read.{request_fault}
+use Rattle.zone_types.specs.TransferText.{is_soa}
+use Rattle.zone_types.proofs.Folded.{same_name-Decides}
+use Rattle.xfr_server.specs.Texts.{transfer_header}
+use Rattle.xfr_server.specs.Transfers.{transfer_mode, mode_of_type}
+use Rattle.xfr_server.specs.FullTransfer.{WholeIsTaken, TransferIsMessage}
+use Rattle.xfr_server.specs.declared.transfer.XfrMode.{XfrMode}
+use Rattle.xfr_server.specs.declared.transfer.XfrMode.TheVariants.{Axfr, Ixfr}
+
+-- ---- the request
+
+mode_cases : (b : Bool) (o : Option XfrMode) → cond b None o ≡ Some Axfr → (b ≡ false) × (o ≡ Some Axfr)
+mode_cases true o e = cc
+mode_cases false o e = (refl, e)
+
+neither : (a b : Bool) → (a || not b) ≡ false → b ≡ true
+neither true b e = cc
+neither false true e = refl
+neither false false e = cc
+
+axfr_type : (n : ℕ) (a b : Bool) → (n == type_axfr) ≡ a → cond a (Some Axfr) (cond b (Some Ixfr) None) ≡ Some Axfr → (n == type_axfr) ≡ true
+axfr_type n true b is e = is
+axfr_type n false true is e = cc
+axfr_type n false false is e = cc
+
+-- it is a query for a full transfer
+asks_axfr : (message : List ℕ) (q : Question) → transfer_mode message ≡ Some Axfr → sole_question_in message ≡ Some q
+    → (((header_in message).opcode == 0) ≡ true) × ((q.qtype == type_axfr) ≡ true)
+asks_axfr message q mode sole =
+    let h = header_in message in
+    let parts = mode_cases (h.qr || not (h.opcode == 0)) (option_and_then (λ (p : Question). mode_of_type p.qtype) (sole_question_in message)) mode in
+    let by : mode_of_type q.qtype ≡ Some Axfr = sym (ap (option_and_then (λ (p : Question). mode_of_type p.qtype)) sole) ∙ parts.1 in
+    (neither h.qr (h.opcode == 0) parts.0, axfr_type q.qtype (q.qtype == type_axfr) (q.qtype == type_ixfr) refl by)
+
+-- its question is the only one
+one_reading : (item : ℕ → Option (Question × ℕ)) (r : Option (Question × ℕ)) (q : Question) → item 12 ≡ r → option_map (λ x. x.0) r ≡ Some q → filter_map (λ x. x) (readings item 1 12) ≡ q ∷ []
+unfolding readings
+one_reading item None q is e = cc
+one_reading item (Some x) q is e = let same : x.0 ≡ q = cc in rw is (ap (λ y. y ∷ []) same)
+
+one_question : (n : ℕ) (item : ℕ → Option (Question × ℕ)) (q : Question) (b : Bool) → (n == 1) ≡ b → cond b (option_map (λ x. x.0) (item 12)) None ≡ Some q
+    → filter_map (λ x. x) (readings item n 12) ≡ q ∷ []
+one_question n item q true is e =
+    let one : n ≡ 1 = grind (arith, nat_tests) in
+    ap (λ k. filter_map (λ x. x) (readings item k 12)) one ∙ one_reading item (item 12) q refl e
+one_question n item q false is e = cc
+
+asked_alone : (message : List ℕ) (q : Question) → sole_question_in message ≡ Some q → questions_in message ≡ q ∷ []
+asked_alone message q sole = one_question (qdcount_in message) (question_at message) q (qdcount_in message == 1) refl sole
+
+-- ---- the answer
+
+-- a version with one apex SOA has its record
+soa_of_items : (v : Version) (ttl : ℕ) (items : List (List Field)) → (length items == 1) ≡ true
+    → (r : Record) × ((records_of v.apex type_soa v.class (first_only (record { ttl = ttl; items = items })) ≡ r ∷ []) × (is_soa r ≡ true))
+soa_of_items v ttl [] e = cc
+soa_of_items v ttl (d ∷ more) e = (record { owner = v.apex; rtype = type_soa; class = v.class; ttl = ttl; fields = d }, (refl, refl))
+
+soa_of : (v : Version) (o : Option RecordSet) → (length (option_map_or (λ (s : RecordSet). s.items) o []) == 1) ≡ true
+    → (r : Record) × ((records_of_option v.apex type_soa v.class (option_map first_only o) ≡ r ∷ []) × (is_soa r ≡ true))
+soa_of v None e = cc
+soa_of v (Some s) e = soa_of_items v s.ttl s.items e
+
+same_alone : (q : Question) → same_question q q ≡ true
+same_alone q =
+    let name : same_name q.qname q.qname ≡ true = (same_name-Decides q.qname q.qname).1 refl in
+    let type : (q.qtype == q.qtype) ≡ true = eq-eqb q.qtype q.qtype refl in
+    let class : (q.qclass == q.qclass) ≡ true = eq-eqb q.qclass q.qclass refl in
+    rw (name, type, class) refl
+
+not_none : (n : ℕ) → (suc n == 0) ≡ false
+not_none n = grind (arith, nat_tests)
+
+-- the message as it is read
+abbrev read_with : Header → Question → List Record → ReadMessage
+read_with h q rs = record { header = transfer_header h; questions = q ∷ []; answers = map Some rs; authority = 0 }
+
+taken_at : (h : Header) (q : Question) (r : Record) (rest : List Record) → (h.opcode == 0) ≡ true → (q.qtype == type_axfr) ≡ true → is_soa r ≡ true
+    → request_fault h.id q true (read_with h q (r ∷ rest)) ≡ None
+taken_at h q r rest query axfr soa =
+    let id : (h.id == h.id) ≡ true = eq-eqb h.id h.id refl in
+    let some : (suc (length (map Some rest)) == 0) ≡ false = not_none (length (map Some rest)) in
+    rw (id, same_alone q, query, some, axfr, soa) refl
+
+opcode_small : (message : List ℕ) → (header_in message).opcode < 16
+opcode_small message = omega arith
+
+header_again : (h : Header) → h.opcode < 16 → header_of (transfer_header h).id (flags_word (transfer_header h)) ≡ transfer_header h
+header_again h small = header_of-flags_word (transfer_header h) small (lit< tt)
+
+zero_small : (n : ℕ) → (n == 0) ≡ true → n < 16
+zero_small n e = grind (arith, nat_tests)
+
+pub whole_is_taken : WholeIsTaken
+whole_is_taken message q v mode sole one =
+    let h = header_in message in
+    let asked = asks_axfr message q mode sole in
+    let soa = soa_of v (set_at v v.apex type_soa) one in
+    let middle = filter (λ r. not (is_apex_soa v r)) (records_of_version v) in
+    let rest = middle ++ apex_soa_record v in
+    let text : whole_text v ≡ soa.0 ∷ rest = ap (λ rs. (rs ++ middle) ++ apex_soa_record v) soa.1.0 in
+    ap (λ head. request_fault h.id q true (record { header = head; questions = questions_in message; answers = map Some (whole_text v); authority = 0 })) (header_again h (zero_small h.opcode asked.0))
+    ∙ ap (λ qs. request_fault h.id q true (record { header = transfer_header h; questions = qs; answers = map Some (whole_text v); authority = 0 })) (asked_alone message q sole)
+    ∙ ap (λ rs. request_fault h.id q true (read_with h q rs)) text
+    ∙ taken_at h q soa.0 rest asked.0 asked.1 soa.1.1
+
+-- ---- a message that has a wire form
+
+some_inj : {X : Type 0} (x y : X) → Some x ≡ Some y → x ≡ y
+some_inj x y e = cc
+
+all_some : {X : Type 0} (xs : List X) → filter_map (λ (x : Option X). x) (map (λ x. Some x) xs) ≡ xs
+all_some [] = refl
+all_some (x ∷ xs) = ap (λ ys. x ∷ ys) (all_some xs)
+
+-- what a message parses to, its header and questions
+parsed_parts : (message : List ℕ) (p : Parsed) (end : Option ℕ) → 12 ≤ length message → message_end message ≡ end → parsed message ≡ Some p
+    → (header_in message ≡ p.header) × (questions_in message ≡ p.questions)
+parsed_parts message p None header is whole = let not : parsed message ≡ None = unread message header is in absurd (cc)
+parsed_parts message p (Some end) header is whole =
+    let r = reads message end header is in
+    let same : r.0 ≡ p = some_inj r.0 p (sym r.1.whole ∙ whole) in
+    (sym r.1.head ∙ ap (λ (x : Parsed). x.header) same, ap (filter_map (λ x. x)) r.1.asked ∙ all_some r.0.questions ∙ ap (λ (x : Parsed). x.questions) same)
+
+pub transfer_is_message : TransferIsMessage
+transfer_is_message message asked rs header built whole records few =
+    let parts = parsed_parts message (parsed_of asked) (message_end message) header refl whole in
+    let h = header_in message in
+    let id : h.id ≡ asked.header.id = ap (λ (x : Header). x.id) parts.0 in
+    let id_small = built.id in
+    let P : List Question → Type 0 = λ qs. AllByRecursion IsQuestion qs in
+    let Q : List Question → Type 0 = λ qs. length qs < 2 ^ 16 in
+    record {
+      id = omega (arith, id, id_small);
+      flags = word_small (transfer_header h) (opcode_small message) (lit< tt);
+      questions = subst P (sym parts.1) built.questions;
+      answers = records;
+      authority = tt;
+      additional = tt;
+      qdcount = subst Q (sym parts.1) built.qdcount;
+      ancount = few;
+      nscount = lit< tt;
+      arcount = lit< tt;
+    }
