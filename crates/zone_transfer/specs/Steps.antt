@@ -16,7 +16,6 @@ use Rattle.zone_transfer.specs.Ending.{refusal_outcome, update_outcome}
 use Rattle.zone_transfer.specs.declared.outcome.SyncError.{SyncError}
 use Rattle.zone_transfer.specs.declared.outcome.SyncError.TheVariants.{Memory}
 
-
 -- the last of the commits that publish these versions after a commit
 abbrev pub commit_after : Commit → List Version → Commit
 commit_after last [] = last

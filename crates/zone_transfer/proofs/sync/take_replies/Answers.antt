@@ -46,16 +46,16 @@ returns-in-Some-2-clause-ends g c a before st =
     k c.taking-test.true (rw c.in-Some.is at c.in_ok-reply.ensures.ok) (rw c.in-Some-2.is at r)
 
 pub taking-preserved : goal.taking-preserved
-taking-preserved g c =
-    ( c.in_ok-reply.ensures.steady (λ h. absurd (cc h)) ∙ c.taking.invariant.0
-    , omega (arith, c.taking-test.true)
-    , c.in_ok-outcome.ensures.open (ap Ok c.in_default-2.is)
-    , λ a before st.
+taking-preserved g c = (
+  c.in_ok-reply.ensures.steady (λ h. absurd (cc h)) ∙ c.taking.invariant.0,
+  omega (arith, c.taking-test.true),
+  c.in_ok-outcome.ensures.open (ap Ok c.in_default-2.is),
+  λ a before st.
       let k = c.taking.invariant.3 a before st in
       let r = reply_takes a c.taking.client c.take.new.self c.taking.session c.take.new.session k.taken before c.taking.made.items c.take.new.made.items c.in-Some.reply.items (Ok c.in_ok-outcome.field-0) c.in_ok-outcome.ensures.takes k.stands in
       takes_on a (g.L.Link.lists c.args.link.now) (g.L.Link.lists c.taking.link) (g.L.Link.lists c.take_reply.new.self) c.taking.client c.take.new.self c.taking.session c.take.new.session before c.taking.made.items c.take.new.made.items c.taking.count c.in-Some.reply.items
-      k (rw c.in-Some.is at c.in_ok-reply.ensures.ok) (rw c.in_default-2.is at r)
-    )
+      k (rw c.in-Some.is at c.in_ok-reply.ensures.ok) (rw c.in_default-2.is at r),
+)
 
 pub returns-clause-ends : goal.returns-clause-ends
 returns-clause-ends g c a before st =
