@@ -5,7 +5,7 @@ ghost use Rattle.dns_name.specs.Octets.{octets_at, u16_at, u32_at, u48_at};
 use crate::name::NameError;
 use thiserror::Error;
 
-/// No item of the grammar stands at that place of the message.
+/// The octets at a place of the message spell no item there.
 #[derive(Clone, Copy, Debug, PartialEq, Eq, Drop, Error)]
 #[error("unexpected end or malformed item")]
 pub struct ParseError;

@@ -110,7 +110,7 @@ pub record SectionIn : Type 0 where
   pub message : List ℕ
   pub left : List (Option RawRecord)
 
--- the questions up to the first that doesn't parse (RFC 1035, 4.1.2)
+-- the questions in front of the first one that can't be read (RFC 1035, 4.1.2)
 abbrev pub questions_in : List ℕ → List Question
 questions_in message = filter_map (λ q. q) (readings (question_at message) (qdcount_in message) 12)
 

@@ -66,7 +66,7 @@ impl<K: KeyRef> ClientSequence<K> {
         })
     }
 
-    /// Takes the next answer, which loses its TSIG and gets its original id. The first test that it fails is the refusal, and
+    /// Takes the next answer: its TSIG is taken off, and its id is set to the original one. The first test that it fails is the refusal, and
     /// leaves state and message as before: `FormErr` where it doesn't parse or its TSIG isn't the last record; `ServerUnsigned`
     /// for a first answer without TSIG, `TooManyUnsigned` for a later one; `ServerBadKey` and `ServerBadSig` as the server says;
     /// `BadKey` where the TSIG is of another key; `BadTrunc` where its MAC is too short; `BadSig` where the MAC is another;

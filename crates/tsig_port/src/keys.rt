@@ -165,7 +165,7 @@ impl KeyRef for Key {
     }
 }
 
-/// The keys that a server knows, a partial function of folded name and algorithm (RFC 8945, 5.2.1).
+/// The keys that a server knows: at most one for a name, in any case, and an algorithm (RFC 8945, 5.2.1).
 pub trait KeyStore {
     ghost use Rattle.std.specs.Prelude.{◌≡◌, ℕ, List, Option, option_map};
     ghost use Rattle.dns_name.specs.Names.{fold};

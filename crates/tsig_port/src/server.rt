@@ -53,8 +53,8 @@ impl<K: KeyRef> ServerError<K> {
 }
 
 impl<K: KeyRef> ServerSequence<K> {
-    /// Checks a request at a moment. One without TSIG is `Ok(None)` and stays as it is; an accepted one loses its TSIG and gets its
-    /// original id. A refused one stays as it is: FORMERR where it doesn't parse or its TSIG isn't the last record, BADKEY where
+    /// Checks a request at a moment. `Ok(None)` says that it has no TSIG, and leaves it alone. Where it is accepted, the TSIG is taken off
+    /// and the id is set to the original one. A refusal leaves it alone too: FORMERR where it doesn't parse or its TSIG isn't the last record, BADKEY where
     /// the store has no key of its owner and algorithm, BADTRUNC where its MAC is too short, BADSIG where the MAC is another,
     /// BADTIME where the moment isn't within the fudge, in this order (RFC 8945, 5.2).
     pub fn request<S: KeyStore<Key = K>>(

@@ -289,7 +289,7 @@ fn asks_for_apex(message: &Message<'_>, zone: &ReadZone) -> bool
     }
 }
 
-/// The serial of the first SOA record of the authority section; None where that is missing or unreadable (RFC 1995, 3).
+/// The serial in the authority section's first SOA record; None without a readable one (RFC 1995, 3).
 fn asked_serial(message: &Message<'_>) -> Option<Serial>
     ensures { result ≡ transfers.asked_serial message.now }
 {

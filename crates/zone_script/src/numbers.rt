@@ -48,7 +48,7 @@ fn with_digits_below(bound: u64, so_far: u64, more: &[u8]) -> Option<u64>
     if number < bound { Some(number) } else { None }
 }
 
-/// The number that decimal digits say, without a sign and without a leading zero, where it is below a bound.
+/// The number that decimal digits say, where it is below a bound; `+1`, `-1` and `01` are none.
 #[tactic(auto, using(crate::proofs::NumberSteps::no_number))]
 pub fn number_below(bound: u64, digits: &[u8]) -> Option<u64>
     requires { bound < GREATEST_BOUND }

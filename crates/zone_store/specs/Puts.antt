@@ -17,7 +17,7 @@ appended v r = put_set v r.owner r.rtype (record { ttl = r.ttl; items = data_at 
 abbrev pub without : Version → Record → Version
 without v r = put_set v r.owner r.rtype (record { ttl = r.ttl; items = filter (λ d. not (same_data r.fields d)) (data_at v r.owner r.rtype) })
 
--- the version with a record that it opens with: equal data are passed over, and the set's TTL is the lowest of its records'
+-- the version with a record that it opens with: data that the set has already are not put again, and the lower TTL stays
 abbrev pub opened_by : Version → Record → Version
 opened_by v r = put_set v r.owner r.rtype (record { ttl = lowest_ttl r (set_at v r.owner r.rtype); items = if has_data v r then data_at v r.owner r.rtype else data_at v r.owner r.rtype ++ r.fields ∷ [] })
 

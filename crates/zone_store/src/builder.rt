@@ -64,7 +64,7 @@ impl ZoneBuilder {
         self.version.set_at(owner, rtype).is_some()
     }
 
-    /// Puts a record: equal data are passed over, and the set's TTL is the lowest of its records' (RFC 2181, 5). The class isn't looked at.
+    /// Puts a record: data that the set has already are not put again, and the lower TTL of set and record becomes the set's (RFC 2181, 5). The class isn't looked at.
     pub fn insert(&mut self, added: StoredRecord) -> Result<(), InsertError>
         ensures ok { OnOk result (self.new ≡ opened_with self.old added) }
         ensures outside { (result ≡ Err InsertError.OutOfZone) ↔ (under added.owner self.old.apex ≡ false) }

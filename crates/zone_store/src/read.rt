@@ -57,8 +57,8 @@ impl ReadZone {
         self.number
     }
 
-    /// That the version may be published: no set is empty or holds equal data twice, a name below the apex has one CNAME at most, and DS stands
-    /// only beside NS (RFC 2181, 5 and 10.1; RFC 4035, 2.4). It does nothing.
+    /// What may be published: every set has data, all of them different; below the apex an alias is its node's only CNAME; and where a node
+    /// has DS it has NS (RFC 2181, 5 and 10.1; RFC 4035, 2.4). It does nothing.
     pub fn validity(&self)
         ensures { IsValid self.now.version }
     {

@@ -292,7 +292,7 @@ impl ZoneVersion {
         take_out(&mut self.sets, &key, deleted.ttl(), deleted.data());
     }
 
-    /// Puts a record that the zone opens with: equal data are passed over, and the set's TTL is the lowest of its records'. No data are CNAME data so far.
+    /// Puts a record that the zone opens with: data that the set has already are not put again, and the lower TTL stays. No data are CNAME data so far.
     pub(crate) fn open_with(&mut self, alloc: Global, added: StoredRecord) -> Result<(), AllocError>
         requires { under added.owner self.old.apex ≡ true }
         ensures ok { OnOk result (self.new ≡ opened_with self.old added) }
@@ -498,7 +498,7 @@ impl<'v> WalkItem<'v> {
         contents.items()
     }
 
-    /// Whether the owner is at or below a zone cut (RFC 1034, 4.2.1).
+    /// Whether a zone cut stands at the owner or above it (RFC 1034, 4.2.1).
     pub fn below_cut(&self) -> bool
         ensures { result ≡ self.now.below_cut }
     {

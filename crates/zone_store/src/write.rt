@@ -111,7 +111,7 @@ impl<'z> WriteZone<'z> {
         Ok(appended?)
     }
 
-    /// Deletes a record: the data equal to its own, whatever the TTL. What is left of the set takes the record's TTL, and an emptied set goes.
+    /// Deletes a record: the data equal to its own, whatever the TTL. The data that stay get the TTL of the record, and a set without data is removed.
     /// The class isn't looked at. Refused are, tested in this order, an owner outside the zone and data that the set lacks (`Incompatible`).
     pub fn delete_record(&mut self, deleted: &StoredRecord) -> Result<(), EditError>
         ensures ok { OnOk result (delete self.old.pending deleted.now ≡ Ok self.new.pending) }

@@ -5,7 +5,7 @@ use crate::links::{Link, LinkError};
 use crate::queue::Queue;
 use std::alloc::Global;
 
-/// A link in memory that hands on what it took, unchanged and in order, and never fails.
+/// A link in memory: what it takes it hands on octet for octet, first in, first out. It never fails.
 ///
 /// It keeps every message, and takes requests of up to 65,535 octets.
 #[derive(Drop)]

@@ -6,7 +6,7 @@ use crate::links::{Link, LinkError};
 use crate::queue::Queue;
 use std::alloc::Global;
 
-/// A link in memory that hands on what it took, unchanged and in order, where it doesn't fail.
+/// A link in memory: what it takes it hands on octet for octet, first in, first out, where it doesn't fail.
 ///
 /// Its four calls are numbered together from 1, in the order in which they are made, and those of a list fail: such a
 /// call takes and hands nothing.

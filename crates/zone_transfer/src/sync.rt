@@ -29,8 +29,8 @@ pub struct Moments {
 }
 
 /// Brings a secondary's zone up to date with a primary's, over a link: what was pending is dropped, the request goes to the
-/// primary, and its replies come back, each checked and applied before the next. `made` grows by the handles of the versions
-/// that are committed, in order, whatever the answer is; nothing is pending afterwards.
+/// primary, and its replies come back, each checked and applied before the next. `made` gains a handle of each version
+/// that is committed, as they come, whatever the answer is; nothing is pending afterwards.
 pub fn sync_zone<P: Service<()>, L: Link>(
     alloc: Global,
     primary: &P,
