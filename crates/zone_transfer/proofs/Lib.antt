@@ -12,4 +12,6 @@ pub mod Requests
 pub mod Replying
 pub mod Passing
 pub mod Replies
+pub mod Serving
 pub mod Exchanges
+pub mod Delivery

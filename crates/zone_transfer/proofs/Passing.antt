@@ -1,8 +1,8 @@
 -- What passes over a link, call by call.
-use Rattle.std.proofs.Common.{◌≡◌, ℕ, true, List, [], ◌∷◌, ◌++◌, append_assoc, append-nil, refl, sym, ap, ◌∙◌, subst, ◌⊎◌, inl, inr, Option, Some, None}
+use Rattle.std.proofs.Common.{◌≡◌, ℕ, true, List, [], ◌∷◌, ◌++◌, append_assoc, append-nil, refl, sym, ap, ◌∙◌, subst, Option, Some, None}
 use Rattle.std.specs.Prelude.{option_map}
 use Rattle.zone_transfer.specs.Links.{Way, LinkLists, with_taken, after_take, on_requests, on_replies}
-use Rattle.zone_transfer.specs.Transfers.{WentOn, BothWentOn, LinkWentOn, IsEnded}
+use Rattle.zone_transfer.specs.Transfers.{WentOn, BothWentOn, LinkWentOn, RequestsEnded, RepliesEnded}
 
 pub nothing_yet : (o : Option LinkLists) → LinkWentOn o o [] [] [] []
 nothing_yet None = tt
@@ -92,16 +92,16 @@ link_on (Some o) (Some x) (Some n) asked heard sent handed asked_then heard_then
 
 -- ---- the end
 
-requests_end : (o : Option LinkLists) → IsEnded (option_map (on_requests (after_take None)) o)
+requests_end : (o : Option LinkLists) → RequestsEnded (option_map (on_requests (after_take None)) o)
 requests_end None = tt
-requests_end (Some l) = inl refl
+requests_end (Some l) = refl
 
-pub requests_ended : (old new : Option LinkLists) → new ≡ option_map (on_requests (after_take None)) old → IsEnded new
-requests_ended old new e = subst (λ (n : Option LinkLists). IsEnded n) (sym e) (requests_end old)
+pub requests_ended : (old new : Option LinkLists) → new ≡ option_map (on_requests (after_take None)) old → RequestsEnded new
+requests_ended old new e = subst (λ (n : Option LinkLists). RequestsEnded n) (sym e) (requests_end old)
 
-replies_end : (o : Option LinkLists) → IsEnded (option_map (on_replies (after_take None)) o)
+replies_end : (o : Option LinkLists) → RepliesEnded (option_map (on_replies (after_take None)) o)
 replies_end None = tt
-replies_end (Some l) = inr refl
+replies_end (Some l) = refl
 
-pub replies_ended : (old new : Option LinkLists) → new ≡ option_map (on_replies (after_take None)) old → IsEnded new
-replies_ended old new e = subst (λ (n : Option LinkLists). IsEnded n) (sym e) (replies_end old)
+pub replies_ended : (old new : Option LinkLists) → new ≡ option_map (on_replies (after_take None)) old → RepliesEnded new
+replies_ended old new e = subst (λ (n : Option LinkLists). RepliesEnded n) (sym e) (replies_end old)

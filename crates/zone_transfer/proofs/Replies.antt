@@ -17,8 +17,8 @@ use Rattle.zone_transfer.specs.declared.links.LinkError.TheVariants as links
 use Rattle.zone_transfer.specs.declared.outcome.SyncOk.{SyncOk}
 use Rattle.zone_transfer.specs.declared.outcome.SyncError.{SyncError}
 use Rattle.zone_transfer.specs.declared.outcome.SyncError.TheVariants as why
-use Rattle.zone_transfer.proofs.Replying.{no_request, refuses, finishes, link_fails, link_ends, memory_ends, too_many}
-use Rattle.zone_transfer.proofs.Passing.{nothing_yet, nothing_more, reply_handed, link_on}
+use Rattle.zone_transfer.proofs.Replying.{no_end, comes_later, refuses, finishes, link_fails, link_ends, memory_ends, too_many}
+use Rattle.zone_transfer.proofs.Passing.{nothing_yet, nothing_more, reply_handed, replies_ended, link_on}
 
 pub starts : (a : Asking) (o : Option LinkLists) (c : ClientState) (s : Session) (before handles : List Commit) → Stands c s a [] before handles → TakenSoFar a o o c s before handles 0
 starts a o c s before handles st = record { taken = []; count = refl; link = nothing_yet o; stands = st }
@@ -37,14 +37,16 @@ no_reply a old mid new c s before handles n links.Failed t few e = record {
   link = subst (λ (l : Option LinkLists). LinkWentOn old l [] [] [] t.taken) (sym e) t.link;
   transfers = link_fails a c s before handles t.taken t.stands (subst (λ k. k < most_replies) (sym t.count) few);
   short = λ x h. absurd (cc h);
-  asked = λ x h. absurd (cc h);
+  ended = λ h. absurd (cc h);
+  later = tt;
 }
 no_reply a old mid new c s before handles n links.Memory t few e = record {
   taken = t.taken;
   link = subst (λ (l : Option LinkLists). LinkWentOn old l [] [] [] t.taken) (sym e) t.link;
   transfers = memory_ends a c s before handles t.taken t.stands (subst (λ k. k < most_replies) (sym t.count) few);
   short = λ x h. absurd (cc h);
-  asked = λ x h. absurd (cc h);
+  ended = λ h. absurd (cc h);
+  later = tt;
 }
 
 pub no_more : (a : Asking) (old mid new : Option LinkLists) (c : ClientState) (s : Session) (before handles : List Commit) (n : ℕ) → TakenSoFar a old mid c s before handles n → n < most_replies → new ≡ option_map (on_replies (after_take None)) mid
@@ -54,7 +56,8 @@ no_more a old mid new c s before handles n t few e = record {
   link = link_on old mid new [] [] [] t.taken [] [] [] [] t.link (reply_handed mid new None e);
   transfers = link_ends a c s before handles (t.taken ++ []) (subst (λ (l : List (List ℕ)). Stands c s a l before handles) (sym (append-nil t.taken)) t.stands) (subst (λ (l : List (List ℕ)). length l < most_replies) (sym (append-nil t.taken)) (subst (λ k. k < most_replies) (sym t.count) few));
   short = λ x h. absurd (cc h);
-  asked = λ x h. absurd (cc h);
+  ended = λ h. replies_ended mid new e;
+  later = tt;
 }
 
 pub all_came : (a : Asking) (old new : Option LinkLists) (c : ClientState) (s : Session) (before handles : List Commit) (n : ℕ) → TakenSoFar a old new c s before handles n → n ≡ most_replies → EndsSo a old new before handles s (Err why.TooManyMessages)
@@ -63,7 +66,8 @@ all_came a old new c s before handles n t many = record {
   link = t.link;
   transfers = too_many a c s before handles t.taken t.stands (t.count ∙ many);
   short = λ x h. absurd (cc h);
-  asked = λ x h. absurd (cc h);
+  ended = λ h. absurd (cc h);
+  later = tt;
 }
 
 abbrev pub is_err : SyncError → Result SyncOk SyncError
@@ -89,7 +93,8 @@ ends_refused a old mid new c s t before handles later n m e k few is r = record 
   link = link_on old mid new [] [] [] k.taken [] [] [] (m ∷ []) k.link (reply_handed mid new (Some m) is);
   transfers = refuses a t before later k.taken m e k.stands.stands.passed k.stands.stands.unmet (one_more k.taken m n k.count few) r;
   short = λ x h. has_short k.taken m k.stands.stands.passed.headed (subst (λ (y : SyncError). RefusesReply a t before later k.taken m y) (err_same e (why.Short x) h) r).0;
-  asked = λ x h. no_request a t before later k.taken m e x k.stands.stands.unmet r (err_same e (why.Request x) h);
+  ended = λ h. absurd (no_end a t before later k.taken m e k.stands.stands.unmet r (err_same e why.Ended h));
+  later = comes_later a t before later k.taken m e k.stands.stands.unmet r;
 }
 
 pub ends_well : (a : Asking) (old mid new : Option LinkLists) (c d : ClientState) (s t : Session) (before handles later : List Commit) (n : ℕ) (m : List ℕ) (done : SyncOk) → (k : TakenSoFar a old mid c s before handles n) → n < most_replies
@@ -99,7 +104,8 @@ ends_well a old mid new c d s t before handles later n m done k few is r = recor
   link = link_on old mid new [] [] [] k.taken [] [] [] (m ∷ []) k.link (reply_handed mid new (Some m) is);
   transfers = finishes a d t before later k.taken m done k.stands.stands.passed (one_more k.taken m n k.count few) r;
   short = λ x h. absurd (cc h);
-  asked = λ x h. absurd (cc h);
+  ended = λ h. absurd (cc h);
+  later = tt;
 }
 
 pub takes_on : (a : Asking) (old mid new : Option LinkLists) (c d : ClientState) (s t : Session) (before handles later : List Commit) (n : ℕ) (m : List ℕ) → (k : TakenSoFar a old mid c s before handles n)

@@ -24,7 +24,7 @@ use Rattle.zone_transfer.specs.Steps.{HasMade, RanOut}
 use Rattle.zone_transfer.specs.Standing.{ClientState, Passed, Meets, Stands, RefusesReply, TakesReply}
 use Rattle.zone_transfer.specs.Ending.{outcome_of}
 use Rattle.zone_transfer.specs.Links.{Way, LinkLists, after_take, on_replies}
-use Rattle.zone_transfer.specs.Transfers.{given_up, course_answered, AreSpelt, AnswersCourse, Transfers, WentOn, BothWentOn, LinkWentOn, IsEnded, HasShort, EndsSo, TakenSoFar}
+use Rattle.zone_transfer.specs.Transfers.{given_up, course_answered, AreSpelt, AnswersCourse, Transfers, WentOn, BothWentOn, LinkWentOn, HasShort, EndsSo, TakenSoFar, ComesLater}
 use Rattle.zone_transfer.specs.declared.outcome.SyncOk.{SyncOk}
 use Rattle.zone_transfer.specs.declared.outcome.SyncError.{SyncError}
 use Rattle.zone_transfer.specs.declared.outcome.SyncError.TheVariants as why
@@ -167,6 +167,7 @@ abbrev by_link : Option Outcome → Bool
 by_link (Some LinkFault) = true
 by_link (Some Ended) = true
 by_link (Some RequestTooLong) = true
+by_link (Some Primary) = true
 by_link _ = false
 
 halts_elsewhere : (h : Halt) → by_link (Some (halt_outcome h)) ≡ false
@@ -203,7 +204,18 @@ no_end a s before handles taken m e unmet r is =
     let k = subst (λ (x : SyncError). RefusesReply a s before handles taken m x) is r in
     cc (ap by_link k.0.1.0 ∙ meets_elsewhere a taken m k.0.0 unmet k.0.1.1)
 
-pub no_request : (a : Asking) (s : Session) (before handles : List Commit) (taken : List (List ℕ)) (m : List ℕ) (e : SyncError) (x : PushError) → (client_so_far a taken).met ≡ None → RefusesReply a s before handles taken m e → e ≡ why.Request x → ⊥
-no_request a s before handles taken m e x unmet r is =
-    let k = subst (λ (y : SyncError). RefusesReply a s before handles taken m y) is r in
-    cc (ap by_link k.0.1.0 ∙ meets_elsewhere a taken m k.0.0 unmet k.0.1.1)
+pub comes_later : (a : Asking) (s : Session) (before handles : List Commit) (taken : List (List ℕ)) (m : List ℕ) (e : SyncError) → (client_so_far a taken).met ≡ None → RefusesReply a s before handles taken m e → ComesLater (Err e)
+comes_later a s before handles taken m (why.Request x) unmet r = absurd (cc (ap by_link r.0.1.0 ∙ meets_elsewhere a taken m r.0.0 unmet r.0.1.1))
+comes_later a s before handles taken m (why.Primary x) unmet r = absurd (cc (ap by_link r.0.1.0 ∙ meets_elsewhere a taken m r.0.0 unmet r.0.1.1))
+comes_later a s before handles taken m why.NoSoa unmet r = tt
+comes_later a s before handles taken m why.LinkFault unmet r = tt
+comes_later a s before handles taken m why.Ended unmet r = tt
+comes_later a s before handles taken m (why.Short x) unmet r = tt
+comes_later a s before handles taken m why.TooManyMessages unmet r = tt
+comes_later a s before handles taken m (why.Tsig x) unmet r = tt
+comes_later a s before handles taken m why.OtherAnswer unmet r = tt
+comes_later a s before handles taken m (why.Xfr x) unmet r = tt
+comes_later a s before handles taken m (why.Iteration x) unmet r = tt
+comes_later a s before handles taken m (why.Update x) unmet r = tt
+comes_later a s before handles taken m why.VersionsExhausted unmet r = tt
+comes_later a s before handles taken m why.Memory unmet r = tt

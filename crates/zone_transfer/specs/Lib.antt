@@ -60,4 +60,7 @@ pub mod SoFar
 pub mod Steps
 pub mod Standing
 pub mod Replies
+pub mod Serving
 pub mod Transfers
+pub mod Fitting
+pub mod Delivery

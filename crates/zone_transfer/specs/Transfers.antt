@@ -15,6 +15,8 @@ use Rattle.zone_transfer.specs.SoFar.{Asking, asked_octets, course_so_far}
 use Rattle.zone_transfer.specs.Steps.{HasMade}
 use Rattle.zone_transfer.specs.Ending.{outcome_of}
 use Rattle.zone_transfer.specs.Links.{Way, LinkLists}
+use Rattle.zone_transfer.specs.Serving.{ServedBy, SentOf, IsServed}
+use Rattle.xfr_server.specs.Items.{Sending, sent_by}
 use Rattle.zone_transfer.specs.declared.outcome.SyncOk.{SyncOk}
 use Rattle.zone_transfer.specs.declared.outcome.SyncError.{SyncError}
 use Rattle.zone_transfer.specs.declared.outcome.SyncError.TheVariants as why
@@ -66,10 +68,18 @@ LinkWentOn None None asked heard sent handed = Unit {0}
 LinkWentOn (Some old) (Some new) asked heard sent handed = BothWentOn old new asked heard sent handed
 LinkWentOn _ _ asked heard sent handed = ⊥
 
--- whether the last take of a way was told that no more come
-abbrev pub IsEnded : Option LinkLists → Type 0
-IsEnded None = Unit {0}
-IsEnded (Some l) = (l.requests.ended ≡ true) ⊎ (l.replies.ended ≡ true)
+-- the last take of a reply was told that no more come; or that of the request, where none was handed
+abbrev pub RepliesEnded : Option LinkLists → Type 0
+RepliesEnded None = Unit {0}
+RepliesEnded (Some l) = l.replies.ended ≡ true
+
+abbrev pub RequestsEnded : Option LinkLists → Type 0
+RequestsEnded None = Unit {0}
+RequestsEnded (Some l) = l.requests.ended ≡ true
+
+abbrev pub IsEnded : List (List ℕ) → Option LinkLists → Type 0
+IsEnded [] l = RequestsEnded l
+IsEnded (m ∷ more) l = RepliesEnded l
 
 -- whether one of these has fewer octets than a header
 abbrev pub HasShort : List (List ℕ) → Type 0
@@ -77,13 +87,40 @@ HasShort messages = list_all has_header messages ≡ false
 
 -- ---- parts of a transfer
 
+-- a primary's replies, given to the link
+pub record Serves (Sends : Option (List Sending) → Type 0) (old new : Option LinkLists) (answer : Result (Unit {0}) SyncError) : Type 0 where
+  pub sent : List (List ℕ)
+  pub link : LinkWentOn old new [] [] sent []
+  pub by : ServedBy Sends sent answer
+
+-- the same of a stream that gives these items
+pub record SendsItems (items : List Sending) (old new : Option LinkLists) (answer : Result (Unit {0}) SyncError) : Type 0 where
+  pub sent : List (List ℕ)
+  pub link : LinkWentOn old new [] [] sent []
+  pub by : SentOf items sent answer
+
+-- .. and so far: what is left goes on with what was sent
+pub record SentSoFar (items : List Sending) (Left : List Sending → Type 0) (old new : Option LinkLists) : Type 0 where
+  pub sent : List (List ℕ)
+  pub rest : List Sending
+  pub left : Left rest
+  pub link : LinkWentOn old new [] [] sent []
+  pub joined : sent_by items ≡ record { messages = sent ++ (sent_by rest).messages; fails = (sent_by rest).fails }
+
+-- no answer of a reply is one that comes before it
+abbrev pub ComesLater : Result SyncOk SyncError → Type 0
+ComesLater (Err (why.Request e)) = ⊥
+ComesLater (Err (why.Primary e)) = ⊥
+ComesLater answer = Unit {0}
+
 -- replies taken until the outcome is met
 pub record EndsSo (a : Asking) (old new : Option LinkLists) (before handles : List Commit) (s : Session) (answer : Result SyncOk SyncError) : Type 0 where
   pub taken : List (List ℕ)
   pub link : LinkWentOn old new [] [] [] taken
   pub transfers : Transfers a taken before handles s answer
   pub short : (e : ShortMessage) → answer ≡ Err (why.Short e) → HasShort taken
-  pub asked : (e : PushError) → answer ≡ Err (why.Request e) → ⊥
+  pub ended : answer ≡ Err why.Ended → RepliesEnded new
+  pub later : ComesLater answer
 
 -- .. and so far
 pub record TakenSoFar (a : Asking) (old new : Option LinkLists) (c : ClientState) (s : Session) (before handles : List Commit) (n : ℕ) : Type 0 where
@@ -92,16 +129,26 @@ pub record TakenSoFar (a : Asking) (old new : Option LinkLists) (c : ClientState
   pub link : LinkWentOn old new [] [] [] taken
   pub stands : Stands c s a taken before handles
 
--- What passed and what was done, from the request on.
-pub record SyncSays (a : Asking) (longest : ℕ) (old new : Option LinkLists) (before handles : List Commit) (s : Session) (answer : Result SyncOk SyncError) : Type 0 where
+-- the answers of a transfer without a request: it can't be made, or the link refuses it
+abbrev pub ComesBefore : Result SyncOk SyncError → Type 0
+ComesBefore (Err (why.Request e)) = Unit {0}
+ComesBefore (Err why.LinkFault) = Unit {0}
+ComesBefore (Err why.Memory) = Unit {0}
+ComesBefore answer = ⊥
+
+-- What passed and what was done, from the request on, where a primary sends so.
+pub record SyncSays (Sends : List ℕ → Option (List Sending) → Type 0) (a : Asking) (longest : ℕ) (old new : Option LinkLists) (before handles : List Commit) (s : Session) (answer : Result SyncOk SyncError) : Type 0 where
   pub asked : List (List ℕ)
   pub heard : List (List ℕ)
   pub sent : List (List ℕ)
   pub replies : List (List ℕ)
   pub link : LinkWentOn old new asked heard sent replies
   -- the one request is the secondary's, signed
-  pub request : (asked ≡ asked_octets a ∷ []) ⊎ ((asked ≡ []) × (heard ≡ []) × (sent ≡ []) × (replies ≡ []))
+  pub request : (asked ≡ asked_octets a ∷ []) ⊎ (ComesBefore answer × (asked ≡ []) × (heard ≡ []))
+  -- what it sent is the primary's answer to the request that it heard
+  pub served : IsServed Sends heard sent replies answer
   pub transfers : Transfers a replies before handles s answer
   -- the causes of what comes in place of a reply
   pub too_long : (e : PushError) → answer ≡ Err (why.Request e) → (e ≡ ShortBuf) × (min longest 65535 < length (asked_octets a))
   pub short : (e : ShortMessage) → answer ≡ Err (why.Short e) → HasShort heard ⊎ HasShort replies
+  pub ended : answer ≡ Err why.Ended → IsEnded heard new

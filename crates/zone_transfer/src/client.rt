@@ -162,6 +162,7 @@ impl XfrClient {
         ensures asks { (base : Commit) → asking_of self.new base ≡ asking_of self.old base }
         ensures closed { result ≢ Ok None → self.new.exchange ≡ None }
         ensures open { result ≡ Ok None → IsSome self.new.exchange }
+        ensures pending { result ≢ Ok None → session.new.pending ≡ session.new.current.version }
     {
         let Some(mut exchange) = self.exchange.take() else {
             unreachable!()

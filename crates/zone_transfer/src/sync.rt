@@ -5,7 +5,9 @@ ghost use Rattle.zone_transfer.specs.Links.{Rose};
 ghost use Rattle.zone_transfer.specs.Modes.{mode_of};
 ghost use Rattle.zone_transfer.specs.SoFar.{Asking};
 ghost use Rattle.zone_transfer.specs.Standing.{asking_of, Stands};
-ghost use Rattle.zone_transfer.specs.Transfers.{SyncSays, EndsSo, LinkWentOn, IsEnded};
+ghost use Rattle.zone_transfer.specs.Transfers.{SyncSays, EndsSo, Serves, SendsItems};
+ghost use Rattle.xfr_server.specs.Items.{Sending};
+ghost use Rattle.zone_transfer.specs.Serving.{request_at};
 
 use crate::client::{XfrClient, XfrMode};
 use crate::links::Link;
@@ -13,7 +15,7 @@ use crate::outcome::{SyncError, SyncOk};
 use dns_wire::MessageBuf;
 use std::alloc::Global;
 use tsig_port::{Key, Time48};
-use xfr_server::{ReplyStream, Request, Service, ServiceError, TransportSpecificContext};
+use xfr_server::{ReplyStream, Request, Service, TransportSpecificContext};
 use zone_store::{ReadZone, WriteZone};
 
 /// How many replies a secondary takes in one transfer.
@@ -42,14 +44,13 @@ pub fn sync_zone<P: Service<()>, L: Link>(
     made: &mut Vec<ReadZone>,
 ) -> Result<SyncOk, SyncError>
     // Whatever octets the link hands back, exactly the versions that the checked text spells are committed, in order, and the
-    // answer is the outcome.
-    ensures transfers { SyncSays (record { key = key.now; mode = mode_of mode; at = moments.at_secondary; base = session.old.current }) (L.longest link.old)
+    // answer is the outcome. The primary is asked what the link hands it, and the link is given its replies.
+    ensures transfers { SyncSays (λ m. P.Sends primary.now (request_at m moments.at_primary)) (record { key = key.now; mode = mode_of mode; at = moments.at_secondary; base = session.old.current }) (L.longest link.old)
         (L.lists link.old) (L.lists link.new) made.old.items made.new.items session.new result }
     ensures nothing_pending { session.new.pending ≡ session.new.current.version }
     // The causes by the link.
     ensures failed { result ≡ Err SyncError.LinkFault → Rose (L.faults link.old) (L.faults link.new) }
     ensures steady { result ≢ Err SyncError.LinkFault → L.faults link.new ≡ L.faults link.old }
-    ensures ended { result ≡ Err SyncError.Ended → IsEnded (L.lists link.new) }
 {
     let mut client = XfrClient::new(alloc, key, mode, moments.at_secondary);
     let outcome = exchange(
@@ -75,10 +76,9 @@ fn exchange<P: Service<()>, L: Link>(
     at_primary: Time48,
     made: &mut Vec<ReadZone>,
 ) -> Result<SyncOk, SyncError>
-    ensures says { SyncSays (asking_of client.old session.old.current) (L.longest link.old) (L.lists link.old) (L.lists link.new) made.old.items made.new.items session.new result }
+    ensures says { SyncSays (λ m. P.Sends primary.now (request_at m at_primary)) (asking_of client.old session.old.current) (L.longest link.old) (L.lists link.old) (L.lists link.new) made.old.items made.new.items session.new result }
     ensures failed { result ≡ Err SyncError.LinkFault → Rose (L.faults link.old) (L.faults link.new) }
     ensures steady { result ≢ Err SyncError.LinkFault → L.faults link.new ≡ L.faults link.old }
-    ensures ended { result ≡ Err SyncError.Ended → IsEnded (L.lists link.new) }
 {
     let request = client.request(session, link.max_len())?;
     link.send_request(request.as_slice())?;
@@ -103,13 +103,22 @@ fn serve<P: Service<()>, L: Link>(
     link: &mut L,
     at: Time48,
 ) -> Result<(), SyncError>
-    ensures link { (sent : List (List ℕ)) × LinkWentOn (L.lists link.old) (L.lists link.new) [] [] sent [] }
+    ensures served { Serves (P.Sends primary.now (request_at message at)) (L.lists link.old) (L.lists link.new) result }
     ensures failed { result ≡ Err SyncError.LinkFault → Rose (L.faults link.old) (L.faults link.new) }
     ensures steady { result ≢ Err SyncError.LinkFault → L.faults link.new ≡ L.faults link.old }
-    ensures refused { OnErr result ((result ≡ Err SyncError.LinkFault) ⊎ ((result ≡ Err SyncError.Memory) ⊎ (result ≡ Err (SyncError.Primary ServiceError.InternalError)))) }
 {
     let request = Request::new(message, TransportSpecificContext::NonUdp, at, ());
-    let mut replies = primary.call(alloc, request)?;
+    let replies = primary.call(alloc, request)?;
+    send_replies(replies, link)
+}
+
+/// Gives all replies of a stream to a link.
+fn send_replies<S: ReplyStream, L: Link>(replies: S, link: &mut L) -> Result<(), SyncError>
+    ensures served { (items : List Sending) → S.LeftOf replies items → SendsItems items (L.lists link.old) (L.lists link.new) result }
+    ensures failed { result ≡ Err SyncError.LinkFault → Rose (L.faults link.old) (L.faults link.new) }
+    ensures steady { result ≢ Err SyncError.LinkFault → L.faults link.new ≡ L.faults link.old }
+{
+    let mut replies = replies;
     'replies: while let Some(item) = replies.next_item() {
         if let Some(reply) = item?.into_response() {
             link.send_reply(reply.finish().as_slice())?;
@@ -129,7 +138,6 @@ fn take_replies<L: Link>(
     ensures ends { (a : Asking) (before : List Commit) → Stands client.old session.old a [] before made.old.items → EndsSo a (L.lists link.old) (L.lists link.new) before made.new.items session.new result }
     ensures failed { (a : Asking) (before : List Commit) → Stands client.old session.old a [] before made.old.items → result ≡ Err SyncError.LinkFault → Rose (L.faults link.old) (L.faults link.new) }
     ensures steady { result ≢ Err SyncError.LinkFault → L.faults link.new ≡ L.faults link.old }
-    ensures ended { (a : Asking) (before : List Commit) → Stands client.old session.old a [] before made.old.items → result ≡ Err SyncError.Ended → IsEnded (L.lists link.new) }
 {
     let mut count = 0u32;
     'taking: while count < MOST_REPLIES {

@@ -1,6 +1,6 @@
 use Rattle.std.proofs.Common.{◌≡◌, ℕ, ◌+◌, ◌<◌, ◌≤◌, refl, sym, ap, ◌∙◌, subst, arith, length, Option, Some, None, Ok, Err}
 use Rattle.std.proofs.lemmas.Result.{err_from_is_err_and}
-use Rattle.zone_transfer.proofs.Replying.{no_link_fault, no_end}
+use Rattle.zone_transfer.proofs.Replying.{no_link_fault}
 use Rattle.zone_transfer.proofs.Replies.{starts, reply_takes, no_reply, no_more, all_came, ends_refused, ends_well, takes_on, err_same}
 use Rattle.zone_transfer.specs.declared.outcome.SyncError.TheVariants as why
 use Rattle.zone_transfer.proofs.sync.take_replies.Goals as goal
@@ -30,13 +30,6 @@ returns-in_err-outcome-clause-failed g c a before st h =
     let k = c.taking.invariant.3 a before st in
     let r = reply_takes a c.taking.client c.take.new.self c.taking.session c.take.new.session k.taken before c.taking.made.items c.take.new.made.items c.in-Some.reply.items (Err c.in_err-outcome.field-0.0) c.in_err-outcome.ensures.takes k.stands in
     absurd (no_link_fault a c.take.new.session before c.take.new.made.items k.taken c.in-Some.reply.items c.in_err-outcome.field-0.0 k.stands.stands.unmet r (err_same c.in_err-outcome.field-0.0 why.LinkFault (rw (p.1, p.2) at h)))
-
-pub returns-in_err-outcome-clause-ended : goal.returns-in_err-outcome-clause-ended
-returns-in_err-outcome-clause-ended g c a before st h =
-    let p = err_from_is_err_and c.from_residual-in_err-outcome.result c.from_residual-in_err-outcome.ensures.1 in
-    let k = c.taking.invariant.3 a before st in
-    let r = reply_takes a c.taking.client c.take.new.self c.taking.session c.take.new.session k.taken before c.taking.made.items c.take.new.made.items c.in-Some.reply.items (Err c.in_err-outcome.field-0.0) c.in_err-outcome.ensures.takes k.stands in
-    absurd (no_end a c.take.new.session before c.take.new.made.items k.taken c.in-Some.reply.items c.in_err-outcome.field-0.0 k.stands.stands.unmet r (err_same c.in_err-outcome.field-0.0 why.Ended (rw (p.1, p.2) at h)))
 
 pub returns-in-Some-2-clause-ends : goal.returns-in-Some-2-clause-ends
 returns-in-Some-2-clause-ends g c a before st =
