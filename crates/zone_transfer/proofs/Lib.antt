@@ -13,3 +13,7 @@ pub mod Replying
 pub mod Passing
 pub mod Replies
 pub mod Exchanges
+pub mod HonestNames
+pub mod HonestRequests
+pub mod HonestReplies
+pub mod HonestCourses

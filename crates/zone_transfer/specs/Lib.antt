@@ -61,3 +61,4 @@ pub mod Steps
 pub mod Standing
 pub mod Replies
 pub mod Transfers
+pub mod Fitting
