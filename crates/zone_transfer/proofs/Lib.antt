@@ -14,4 +14,8 @@ pub mod Passing
 pub mod Replies
 pub mod Serving
 pub mod Exchanges
+pub mod HonestNames
+pub mod HonestRequests
+pub mod HonestReplies
+pub mod HonestCourses
 pub mod Delivery

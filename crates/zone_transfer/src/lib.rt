@@ -3,6 +3,7 @@
 
 pub mod client;
 pub mod failures;
+pub mod laws;
 pub mod links;
 pub mod loop_link;
 pub mod memory_link;
