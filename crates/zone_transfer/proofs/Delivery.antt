@@ -22,12 +22,15 @@ use Rattle.zone_transfer.specs.Ending.{refusal_outcome, outcome_of}
 use Rattle.zone_transfer.specs.Serving.{request_at, SendsAll, SendsUntil, SendsPart, FailsAfter, HasBegun, RepliedTo, NotReplied, IsServed}
 use Rattle.zone_transfer.specs.Transfers.{given_up, course_answered, AnswersCourse, Transfers, WentOn, BothWentOn, LinkWentOn, RequestsEnded, RepliesEnded, IsEnded, HasShort, ComesBefore, SyncSays}
 use Rattle.zone_transfer.specs.Fitting.{sent_whole}
-use Rattle.zone_transfer.specs.Delivery.{IsGranted, Delivers}
+use Rattle.zone_transfer.specs.Delivery.{IsGranted, WasHonest, Delivers}
 use Rattle.zone_transfer.specs.declared.outcome.SyncOk.{SyncOk}
 use Rattle.zone_transfer.specs.declared.outcome.SyncOk.TheVariants as done
 use Rattle.zone_transfer.specs.declared.outcome.SyncError.{SyncError}
 use Rattle.zone_transfer.specs.declared.outcome.SyncError.TheVariants as why
 use Rattle.zone_transfer.proofs.Exchanges.{none_done}
+use Rattle.zone_transfer.proofs.HonestRequests.{request_has_header}
+use Rattle.zone_transfer.proofs.HonestReplies.{reply, sent_is}
+use Rattle.zone_transfer.proofs.HonestCourses.{whole_succeeds}
 
 -- ---- outcomes
 
@@ -331,11 +334,11 @@ module _ (Sends : List ℕ → Option (List Sending) → Type 0) (a : Asking) (a
     not_primary x k (inr e) = never_fails Sends a at longest v w one grant k.sent (subst (λ (l : List (List ℕ)). IsServed Sends l k.sent k.replies (Err (why.Primary x))) e k.served)
 
     was_asked : (answer : Result SyncOk SyncError) → (ComesBefore answer → ⊥) → (k : Says answer) → k.asked ≡ asked_octets a ∷ []
-    was_asked answer no k = either k.request
+    was_asked answer later k = either k.request
       where
         either : (k.asked ≡ asked_octets a ∷ []) ⊎ (ComesBefore answer × (k.asked ≡ []) × (k.heard ≡ [])) → k.asked ≡ asked_octets a ∷ []
         either (inl q) = q
-        either (inr b) = absurd (no b.0)
+        either (inr b) = absurd (later b.0)
 
     pub delivers : f < 2 ^ 64 - 1 → (answer : Result SyncOk SyncError) → Says answer → (answer ≡ Err why.LinkFault → Rose f g) → Delivers v s answer
     delivers few (Ok x) k fault = let q = was_asked (Ok x) (λ b. b) k in ends_well x k q (replies_are (Ok x) k q)
@@ -357,3 +360,12 @@ module _ (Sends : List ℕ → Option (List Sending) → Type 0) (a : Asking) (a
     delivers few (Err (why.Iteration x)) k fault = let q = was_asked (Err (why.Iteration x)) (λ b. b) k in absurd (never (why.Iteration x) k refl refl (replies_are (Err (why.Iteration x)) k q))
     delivers few (Err (why.Update x)) k fault = let q = was_asked (Err (why.Update x)) (λ b. b) k in absurd (never (why.Update x) k refl refl (replies_are (Err (why.Update x)) k q))
     delivers few (Err why.VersionsExhausted) k fault = let q = was_asked (Err why.VersionsExhausted) (λ b. b) k in absurd (never why.VersionsExhausted k refl refl (replies_are (Err why.VersionsExhausted) k q))
+
+-- ---- where the link tells its lists
+
+pub delivered : (Sends : List ℕ → Option (List Sending) → Type 0) (a : Asking) (at longest : ℕ) (v : Version) (old new : Option LinkLists) (f g : ℕ) (before handles : List Commit) (s : Session) (answer : Result SyncOk SyncError)
+    → IsGranted Sends a at longest v → WasHonest old new f g → SyncSays Sends a longest old new before handles s answer → (answer ≡ Err why.LinkFault → Rose f g) → Delivers v s answer
+delivered Sends a at longest v None new f g before handles s answer grant h k fault = absurd h
+delivered Sends a at longest v (Some o) None f g before handles s answer grant h k fault = absurd h
+delivered Sends a at longest v (Some o) (Some n) f g before handles s answer grant h k fault =
+    delivers Sends a at longest v (reply a at v) (sent_is a at v) grant (request_has_header a) (λ gave. subst (λ (l : List (List ℕ)). Succeeds (course_so_far a l gave) v) (sent_is a at v) (whole_succeeds a at v gave grant.fits)) o n before handles s f g h.0 h.1 answer k fault

@@ -3,12 +3,15 @@ use Rattle.std.proofs.Common.{◌≡◌, ℕ, true, false, List, [], ◌∷◌, 
 use Rattle.xfr_server.specs.Items.{Sending, Sent, message_in, sent_by, NextOf, Gives, Calls}
 use Rattle.xfr_server.specs.Items.Sending.{Given, Failed}
 use Rattle.xfr_server.specs.declared.services.CallResult.{CallResult}
+use Rattle.xfr_server.specs.declared.requests.Request.{Request}
+use Rattle.xfr_server.specs.declared.requests.TransportSpecificContext.{TransportSpecificContext}
+use Rattle.xfr_server.specs.declared.requests.TransportSpecificContext.TheVariants.{NonUdp}
 use Rattle.xfr_server.specs.declared.services.ServiceError.{ServiceError}
 use Rattle.xfr_server.specs.declared.services.ServiceError.TheVariants as service
 use Rattle.dns_wire.specs.Wire.{Building}
 use Rattle.zone_transfer.specs.Refusals.{of_link, of_service}
 use Rattle.zone_transfer.specs.Links.{LinkLists, with_taken, on_replies}
-use Rattle.zone_transfer.specs.Serving.{SendsAll, HasBegun, IsFront, ServedBy, SentOf, RepliedTo}
+use Rattle.zone_transfer.specs.Serving.{request_at, SendsAll, HasBegun, IsFront, ServedBy, SentOf, RepliedTo}
 use Rattle.zone_transfer.specs.Transfers.{LinkWentOn, Serves, SendsItems, SentSoFar, ComesLater}
 use Rattle.zone_transfer.specs.declared.links.LinkError.{LinkError}
 use Rattle.zone_transfer.specs.declared.links.LinkError.TheVariants as links
@@ -22,7 +25,7 @@ pub begins : (items : List Sending) (Left : List Sending → Type 0) (o : Option
 begins items Left o l = record { sent = []; rest = items; left = l; link = nothing_yet o; joined = refl }
 
 -- the primary can't be asked
-pub not_begun : {S : Type 0} (Sends : Option (List Sending) → Type 0) (LeftOf : S → List Sending → Type 0) (o : Option LinkLists) (e : ServiceError) → Calls {S = S} Sends LeftOf (Err e) → Serves Sends o o (Err (of_service e))
+not_begun : {S : Type 0} (Sends : Option (List Sending) → Type 0) (LeftOf : S → List Sending → Type 0) (o : Option LinkLists) (e : ServiceError) → Calls {S = S} Sends LeftOf (Err e) → Serves Sends o o (Err (of_service e))
 not_begun Sends LeftOf o service.InternalError c = record { sent = []; link = nothing_yet o; by = inl (c, refl) }
 not_begun Sends LeftOf o service.Memory c = record { sent = []; link = nothing_yet o; by = inl refl }
 
@@ -34,9 +37,9 @@ pub passes : (items : List Sending) (Left After : List Sending → Type 0) (old 
 passes items Left After old new item none k n = record {
   sent = k.sent;
   rest = n.0;
-  left = n.1.1;
+  left = n.2;
   link = k.link;
-  joined = k.joined ∙ ap (λ l. joined_to k.sent (sent_by l)) n.1.0 ∙ ap (λ r. joined_to k.sent (record { messages = message_in r ++ (sent_by n.0).messages; fails = (sent_by n.0).fails })) none;
+  joined = k.joined ∙ ap (λ l. joined_to k.sent (sent_by l)) n.1 ∙ ap (λ r. joined_to k.sent (record { messages = message_in r ++ (sent_by n.0).messages; fails = (sent_by n.0).fails })) none;
 }
 
 pub sends_on : (items : List Sending) (Left After : List Sending → Type 0) (old mid new : Option LinkLists) (item : CallResult) (b : Building) (m : List ℕ) → item.response ≡ Some b → m ≡ b.octets → (k : SentSoFar items Left old mid) → NextOf After k.rest (Some (Ok item))
@@ -44,9 +47,9 @@ pub sends_on : (items : List Sending) (Left After : List Sending → Type 0) (ol
 sends_on items Left After old mid new item b m some is k n e = record {
   sent = k.sent ++ m ∷ [];
   rest = n.0;
-  left = n.1.1;
+  left = n.2;
   link = link_on old mid new [] [] k.sent [] [] [] (m ∷ []) [] k.link (reply_taken mid new m e);
-  joined = k.joined ∙ ap (λ l. joined_to k.sent (sent_by l)) n.1.0
+  joined = k.joined ∙ ap (λ l. joined_to k.sent (sent_by l)) n.1
     ∙ ap (λ r. joined_to k.sent (record { messages = message_in r ++ (sent_by n.0).messages; fails = (sent_by n.0).fails })) some
     ∙ ap (λ x. joined_to k.sent (record { messages = x ∷ (sent_by n.0).messages; fails = (sent_by n.0).fails })) (sym is)
     ∙ ap (λ l. joined_to [] (record { messages = l; fails = (sent_by n.0).fails })) (sym (append_assoc k.sent (m ∷ []) (sent_by n.0).messages));
@@ -68,7 +71,7 @@ pub not_made : (items : List Sending) (Left After : List Sending → Type 0) (ol
 not_made items Left After old new service.InternalError k n = record {
   sent = k.sent;
   link = k.link;
-  by = k.joined ∙ ap (λ l. joined_to k.sent (sent_by l)) n.1.0 ∙ ap (λ l. joined_to [] (record { messages = l; fails = true })) (append-nil k.sent);
+  by = k.joined ∙ ap (λ l. joined_to k.sent (sent_by l)) n.1 ∙ ap (λ l. joined_to [] (record { messages = l; fails = true })) (append-nil k.sent);
 }
 not_made items Left After old new service.Memory k n = record { sent = k.sent; link = k.link; by = front_sent items Left old new k }
 
@@ -122,3 +125,15 @@ replied_to Sends sent (Err (why.Xfr e)) l k = k
 replied_to Sends sent (Err (why.Iteration e)) l k = k
 replied_to Sends sent (Err (why.Update e)) l k = k
 replied_to Sends sent (Err why.VersionsExhausted) l k = k
+
+-- a request that is made as `request_at` says
+pub is_request : (r : Request (Unit {0})) (message : List ℕ) (at : ℕ) → r.message ≡ message → r.transport ≡ NonUdp → r.at ≡ at → r.reserved ≡ 0 → r ≡ request_at message at
+is_request r message at m t n e =
+    ap (λ x. made x r.transport r.at r.reserved) m ∙ ap (λ x. made message x r.at r.reserved) t ∙ ap (λ x. made message NonUdp x r.reserved) n ∙ ap (λ x. made message NonUdp at x) e
+  where
+    made : List ℕ → TransportSpecificContext → ℕ → ℕ → Request (Unit {0})
+    made m t n e = record { message = m; transport = t; at = n; metadata = tt; reserved = e }
+
+pub not_asked : {S : Type 0} (Sends : Request (Unit {0}) → Option (List Sending) → Type 0) (LeftOf : S → List Sending → Type 0) (o : Option LinkLists) (e : ServiceError) (r : Request (Unit {0})) (message : List ℕ) (at : ℕ) → r ≡ request_at message at → Calls {S = S} (Sends r) LeftOf (Err e)
+    → Serves (Sends (request_at message at)) o o (Err (of_service e))
+not_asked {S} Sends LeftOf o e r message at is c = not_begun (Sends (request_at message at)) LeftOf o e (subst (λ (x : Request (Unit {0})). Calls {S = S} (Sends x) LeftOf (Err e)) is c)

@@ -28,6 +28,9 @@ pub record Asking : Type 0 where
   pub at : ℕ
   pub base : Commit
 
+abbrev pub asks_with : TsigKey → Mode → ℕ → Commit → Asking
+asks_with key mode at base = record { key = key; mode = mode; at = at; base = base }
+
 abbrev pub asked_question : Asking → Question
 asked_question a = record { qname = a.base.version.apex; qtype = type_of a.mode; qclass = a.base.version.class }
 

@@ -127,7 +127,7 @@ returns-clause-says g c =
     let heard_it = link_on first mid told (m ∷ []) [] [] [] [] (heard ∷ []) [] [] took (request_handed mid told (Some heard) (rw c.in-Some.is at c.in_ok-asked.ensures.ok)) in
     let then = g.L.Link.lists c.serve.new.link in
     let st = c.in_ok-request.ensures.begun before in
-    replied (λ m. g.P.Service.Sends c.args.primary.now (request_at m c.args.at_primary)) a longest first told then (g.L.Link.lists c.take_replies.new.link) before c.take_replies.new.made.items c.take_replies.new.session c.take_replies.result (m ∷ []) heard heard_it asked c.in_ok-serve.ensures.served (c.take_replies.ensures.ends a before st)
+    replied (λ m. g.P.Service.Sends c.args.primary.now (request_at m c.args.at_primary)) a longest first told then (g.L.Link.lists c.take_replies.new.link) before c.take_replies.new.made.items c.take_replies.new.session c.take_replies.result (m ∷ []) heard heard_it asked (rw c.in_ok-from_octets.ensures.found at c.in_ok-serve.ensures.served) (c.take_replies.ensures.ends a before st)
 
 pub returns-clause-failed : goal.returns-clause-failed
 returns-clause-failed g c h =
