@@ -64,3 +64,4 @@ pub mod Serving
 pub mod Transfers
 pub mod Fitting
 pub mod Delivery
+pub mod Grants
