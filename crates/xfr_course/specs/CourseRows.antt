@@ -1,10 +1,10 @@
 -- Worked courses and ends of a transfer.
-use Rattle.std.specs.Prelude.{ℕ, List, [], ◌∷◌, true, false, slice_set, None}
+use Rattle.std.specs.Prelude.{ℕ, List, [], ◌∷◌, true, false, slice_set, replicate, None}
 use Rattle.dns_rdata.specs.Records.{Record}
 use Rattle.dns_rdata.specs.RecordRows as data_rows
 use Rattle.dns_wire.specs.Wire.{message_wire}
 use Rattle.dns_wire.specs.MessageRows as message_rows
-use Rattle.tsig_port.specs.Tsig.{TsigKey, signed_answer, mac_in}
+use Rattle.tsig_port.specs.Tsig.{signed_answer, mac_in}
 use Rattle.tsig_port.specs.ExchangeRows.{row_key, row_request}
 use Rattle.zone_types.specs.Version.{Version}
 use Rattle.zone_types.specs.TransferText.{Mode, Ixfr}
@@ -58,3 +58,10 @@ handed now gave_up replies = record { key = row_key; now = now; request = row_re
 -- one message that carries what its primary sends
 abbrev pub small_carrier : Carrier
 small_carrier = record { message = zone_rows.reply 251 (sent_text small_ends); page = sent_text small_ends }
+
+-- a reply that is a header alone, and one that is too short to be one
+abbrev pub bare_header : List ℕ
+bare_header = replicate 12 0
+
+abbrev pub two_octets : List ℕ
+two_octets = 1 ∷ 2 ∷ []

@@ -1,5 +1,5 @@
 // Worked transfers, proved by computation.
-ghost use Rattle.std.specs.Prelude.{map, ◌≡◌, [], ◌∷◌, true, false, Some, drop};
+ghost use Rattle.std.specs.Prelude.{map, ◌≡◌, [], ◌∷◌, true, false, Some, None, drop, replicate, length};
 ghost use Rattle.zone_types.specs.Version.{same_version};
 ghost use Rattle.dns_name.specs.Codes.{type_axfr, type_ixfr};
 ghost use Rattle.zone_types.specs.Edits.{Incompatible};
@@ -65,4 +65,14 @@ pub fn course_row()
 /// One message can carry what that primary sends.
 pub fn success_row()
     ensures { CarrySent examples.small_ends 1000 examples.small_carrier [] }
+{}
+
+/// Replies: those before the first without a header are taken, and at most so many; a fault of a signature comes before a short reply, and that before too many.
+pub fn reply_row()
+    ensures before_short { courses.replies_taken (examples.bare_header ∷ examples.two_octets ∷ examples.bare_header ∷ []) ≡ examples.bare_header ∷ [] }
+    ensures signature { courses.stop_after outcomes.Ended (examples.two_octets ∷ []) (Some ValidationError.BadSig) ≡ outcomes.Tsig ValidationError.BadSig }
+    ensures short { courses.stop_after outcomes.Ended (examples.two_octets ∷ replicate 65536 examples.bare_header) None ≡ outcomes.Short }
+    ensures too_many { courses.stop_after outcomes.Ended (replicate 65536 examples.bare_header) None ≡ outcomes.TooManyMessages }
+    ensures not_too_many { courses.stop_after outcomes.Ended (replicate 65535 examples.bare_header) None ≡ outcomes.Ended }
+    ensures most { length (courses.replies_taken (replicate 65537 examples.bare_header)) ≡ 65536 }
 {}
