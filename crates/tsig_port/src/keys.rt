@@ -1,5 +1,6 @@
 // Shared keys, and where a server finds them (RFC 8945, 1.2 and 5.2.1).
 ghost use Rattle.std.specs.Prelude.{◌≡◌, ℕ, List, [], Option, Some, None, take};
+ghost use Rattle.dns_name.specs.Names.{name_text};
 ghost use Rattle.tsig_port.specs.Hmac.{block_len, native_len};
 ghost use Rattle.tsig_port.specs.HmacState.{HoldsHmac};
 ghost use Rattle.tsig_port.specs.Tsig.{new_key, compose_len};
@@ -131,6 +132,8 @@ impl Key {
 }
 
 impl fmt::Display for Key {
+    ghost output = { λ k. Some (name_text k.name) };
+
     fn fmt<W: fmt::Write>(&self, f: &mut fmt::Formatter<W>) -> fmt::Result {
         let name = &self.name;
         write!(f, "{name}")
