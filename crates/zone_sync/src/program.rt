@@ -1,11 +1,13 @@
 //! The program over its streams and its link.
-ghost use Rattle.std.specs.Prelude.{◌≡◌, ◌≢◌, ◌⊎◌, ◌<◌, ◌≤◌, ℕ, List, Some, Err, map, length, string_bytes, IfOk, IfSome, IsOk, IsTrue};
+ghost use Rattle.std.specs.Prelude.{◌≡◌, ◌≢◌, ◌⊎◌, ◌<◌, ◌≤◌, ℕ, List, Some, Ok, Err, map, length, string_bytes, IfOk, IfSome, IsTrue};
 ghost use Rattle.zone_types.specs.TransferText.{Axfr};
 ghost use Rattle.zone_transfer.specs.Links.{Rose};
-ghost use Rattle.zone_sync.specs.Streams.{with_more};
-ghost use Rattle.zone_sync.specs.Reported.{IsReport, TookReport, NamedLine};
-ghost use Rattle.zone_sync.specs.Notices.{usage_line, fault_line, long_line, bad_line, is_fault};
+ghost use Rattle.zone_sync.specs.Streams.{with_more, emptied};
+ghost use Rattle.zone_sync.specs.Reported.{Reports, TookReport, Ran, NamedLine, status_by, asking_with};
+ghost use Rattle.zone_sync.specs.Notices.{usage_line, fault_line, long_line, bad_line, is_fault, is_reported, is_read};
+ghost use Rattle.zone_script.specs.Script as scripts;
 ghost use Rattle.zone_script.specs.Script.{script_of};
+ghost use Rattle.tsig_port.specs.Tsig.{TsigKey};
 ghost use Rattle.zone_script.specs.ScriptReaders.{readers_so_far};
 ghost use Rattle.zone_script.specs.Words.{form_of, Transfer};
 
@@ -70,13 +72,7 @@ impl Status {
 
 /// The status of a transfer whose report was written.
 fn status_of(outcome: &Result<SyncOk, SyncError>) -> Status
-    ensures done { result ≡ Status.Done → IsOk outcome.now }
-    ensures link { result ≡ Status.LinkFault → outcome.now ≡ Err SyncError.LinkFault }
-    ensures sink { result ≢ Status.SinkFault }
-    ensures source { result ≢ Status.SourceFault }
-    ensures long { result ≢ Status.TooLong }
-    ensures usage { result ≢ Status.Usage }
-    ensures script { result ≢ Status.Script }
+    ensures { result ≡ status_by outcome.now }
 {
     match outcome {
         Ok(_) => Status::Done,
@@ -111,8 +107,15 @@ pub fn run<S: Source, K: Sink, L: Link>(
     ensures bad_script { (text : List ℕ) (n : ℕ) → form_of (map string_bytes words.now) ≡ Some (Transfer Axfr 0) → S.remaining src.old ≡ Some text → length text ≤ MOST_OCTETS → script_of readers_so_far text ≡ Err n → (result ≡ Status.Script) ⊎ IsTrue (is_fault result) }
     ensures too_long { (text : List ℕ) → form_of (map string_bytes words.now) ≡ Some (Transfer Axfr 0) → S.remaining src.old ≡ Some text → MOST_OCTETS < length text → (result ≡ Status.TooLong) ⊎ IsTrue (is_fault result) }
     ensures long_line { result ≡ Status.TooLong → K.taken out.new ≡ with_more long_line (K.taken out.old) }
-    // On status 0 the sink took the report of an outcome and of a version, and nothing else.
-    ensures report { result ≡ Status.Done → TookReport (K.taken out.old) (K.taken out.new) }
+    // On the statuses 0, 1 and 7 the source spelt a script, its transfer was answered so, and the sink took the report of that and nothing else.
+    ensures ran { IsTrue (is_reported result) → (text : List ℕ) × IfSome (S.remaining src.old) (λ octets. text ≡ octets)
+        × Ran text (L.longest link.old) (L.lists link.old) (L.lists link.new) (K.taken out.old) (K.taken out.new) result }
+    // Where a script is spelt and no call failed, that is how it ends, or for want of memory.
+    ensures completes { (text : List ℕ) (script : scripts.Script TsigKey) → form_of (map string_bytes words.now) ≡ Some (Transfer Axfr 0) → S.remaining src.old ≡ Some text → length text ≤ MOST_OCTETS
+        → script_of readers_so_far text ≡ Ok script → ¬ Rose (S.faults src.old) (S.faults src.new) → ¬ Rose (K.faults out.old) (K.faults out.new) → ¬ Rose (L.faults link.old) (L.faults link.new)
+        → (result ≡ Status.Done) ⊎ ((result ≡ Status.Refused) ⊎ (result ≡ Status.Memory)) }
+    // The source was read to its end on these statuses, and on status 3.
+    ensures none_left { IsTrue (is_read result) → S.remaining src.new ≡ emptied (S.remaining src.old) }
     ensures long { result ≡ Status.TooLong → IfSome (S.remaining src.old) (λ left. MOST_OCTETS < length left) }
 {
     if !is_axfr(words) {
@@ -144,7 +147,7 @@ fn write_last<K: Sink>(out: &mut K, octets: &[u8], status: Status) -> Status
 fn run_script<K: Sink, L: Link>(alloc: Global, text: &[u8], out: &mut K, link: &mut L) -> Status
     ensures sink_fault { result ≡ Status.SinkFault → Rose (K.faults out.old) (K.faults out.new) }
     ensures link_fault { result ≡ Status.LinkFault → Rose (L.faults link.old) (L.faults link.new) }
-    ensures report { result ≡ Status.Done → TookReport (K.taken out.old) (K.taken out.new) }
+    ensures ran { IsTrue (is_reported result) → Ran text.now (L.longest link.old) (L.lists link.old) (L.lists link.new) (K.taken out.old) (K.taken out.new) result }
     ensures steady { result ≢ Status.SinkFault → K.faults out.new ≡ K.faults out.old }
     ensures script { result ≡ Status.Script → NamedLine text.now (K.taken out.old) (K.taken out.new) }
     ensures bad_script { (n : ℕ) → script_of readers_so_far text.now ≡ Err n → (result ≡ Status.Script) ⊎ IsTrue (is_fault result) }
@@ -179,7 +182,8 @@ fn run_transfer<K: Sink, L: Link>(
 ) -> Status
     ensures sink_fault { result ≡ Status.SinkFault → Rose (K.faults out.old) (K.faults out.new) }
     ensures link_fault { result ≡ Status.LinkFault → Rose (L.faults link.old) (L.faults link.new) }
-    ensures report { result ≡ Status.Done → TookReport (K.taken out.old) (K.taken out.new) }
+    ensures report { IsTrue (is_reported result) → TookReport (asking_with script.key script.at_secondary script.secondary) (L.longest link.old) (L.lists link.old) (L.lists link.new)
+        (K.taken out.old) (K.taken out.new) result }
     ensures steady { result ≢ Status.SinkFault → K.faults out.new ≡ K.faults out.old }
     ensures others { (result ≢ Status.Usage) × (result ≢ Status.SourceFault) × (result ≢ Status.TooLong) × (result ≢ Status.Script) }
 {
@@ -206,9 +210,9 @@ fn transfer<L: Link>(
     script: Script,
     link: &mut L,
 ) -> Result<(Vec<u8>, Status), AllocError>
-    ensures report { IfOk result (λ r. r.1 ≡ Status.Done → IsReport r.0.items) }
+    ensures report { IfOk result (λ r. Reports (asking_with script.key script.at_secondary script.secondary) (L.longest link.old) (L.lists link.old) (L.lists link.new) r.0.items r.1) }
     ensures link_fault { IfOk result (λ r. r.1 ≡ Status.LinkFault → Rose (L.faults link.old) (L.faults link.new)) }
-    ensures others { IfOk result (λ r. (r.1 ≢ Status.SinkFault) × (r.1 ≢ Status.Usage) × (r.1 ≢ Status.SourceFault) × (r.1 ≢ Status.TooLong) × (r.1 ≢ Status.Script)) }
+    ensures others { IfOk result (λ r. IsTrue (is_reported r.1)) }
 {
     let mut script = script;
     let primary = primary_of(alloc, &script.primary, &script.key)?;
