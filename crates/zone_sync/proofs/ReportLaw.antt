@@ -7,9 +7,11 @@ use Rattle.zone_types.specs.Commits.{Commit}
 use Rattle.zone_types.specs.Session.{Session}
 use Rattle.xfr_course.specs.Outcome.{Outcome}
 use Rattle.zone_transfer.specs.Links.{LinkLists}
-use Rattle.zone_transfer.specs.SoFar.{Asking}
+use Rattle.zone_transfer.specs.SoFar.{Asking, asks_with}
 use Rattle.zone_transfer.specs.Ending.{outcome_of}
-use Rattle.zone_transfer.specs.Transfers.{SyncSays}
+use Rattle.zone_transfer.specs.Delivery.{Synchronizes}
+use Rattle.xfr_server.specs.Items.{Sending}
+use Rattle.zone_types.specs.TransferText.{Axfr}
 use Rattle.zone_transfer.specs.declared.outcome.SyncOk.{SyncOk}
 use Rattle.zone_transfer.specs.declared.outcome.SyncError.{SyncError}
 use Rattle.zone_transfer.specs.declared.outcome.SyncError.TheVariants as why
@@ -39,28 +41,29 @@ link_failed answer status e f = by answer (sym e ∙ f)
     by (Err why.Memory) h = cc
     by (Err e) h = cc
 
--- a transfer into a new list of handles
-pub says_of_new : (key : TsigKey) (at longest : ℕ) (opened base : Commit) (old new : Option LinkLists) (before handles : List Commit) (s : Session) (answer : Result SyncOk SyncError)
-    → opened ≡ base → before ≡ [] → SyncSays (asking_with key at opened) longest old new before handles s answer → SyncSays (asking_with key at base) longest old new [] handles s answer
-says_of_new key at longest opened base old new before handles s answer same none says =
-    subst (λ b. SyncSays (asking_with key at b) longest old new [] handles s answer) same
-    (subst (λ had. SyncSays (asking_with key at opened) longest old new had handles s answer) none says)
+module _ (Sends : List ℕ → Option (List Sending) → Type 0) (at longest : ℕ) (old new : Option LinkLists) (f g : ℕ) where
+  -- a transfer into a new list of handles
+  pub says_of_new : (key : TsigKey) (now : ℕ) (opened base : Commit) (before handles : List Commit) (s : Session) (answer : Result SyncOk SyncError)
+      → opened ≡ base → before ≡ [] → Synchronizes Sends (asks_with key Axfr now opened) at longest old new f g before handles s answer → Synchronizes Sends (asking_with key now base) at longest old new f g [] handles s answer
+  says_of_new key now opened base before handles s answer same none says =
+      subst (λ b. Synchronizes Sends (asking_with key now b) at longest old new f g [] handles s answer) same
+      (subst (λ had. Synchronizes Sends (asking_with key now opened) at longest old new f g had handles s answer) none says)
 
--- what was made of an answer is its report
-pub reports_so : (a : Asking) (longest : ℕ) (old new : Option LinkLists) (handles : List Commit) (s : Session) (answer : Result SyncOk SyncError) (octets : List ℕ) (n : ℕ) (last : Commit) (status : Status)
-    → SyncSays a longest old new [] handles s answer → n ≡ length handles → last ≡ s.current → status ≡ status_by answer
-    → IsSomeAnd (outcome_of answer) (λ how. octets ≡ report record_wire how n last.version [] []) → Reports a longest old new octets status
-reports_so a longest old new handles s answer octets n last status says counted current ends named = by (outcome_of answer) refl named
-  where
-    by : (o : Option Outcome) → outcome_of answer ≡ o → IsSomeAnd o (λ how. octets ≡ report record_wire how n last.version [] []) → Reports a longest old new octets status
-    by (Some how) e is = record {
-      answer = answer;
-      handles = handles;
-      session = s;
-      says = says;
-      ends = ends;
-      how = how;
-      names = e;
-      is = is ∙ ap (λ m. report record_wire how m last.version [] []) counted ∙ ap (λ z. report record_wire how (length handles) z.version [] []) current;
-    }
-    by None e is = absurd is
+  -- what was made of an answer is its report
+  pub reports_so : (a : Asking) (handles : List Commit) (s : Session) (answer : Result SyncOk SyncError) (octets : List ℕ) (n : ℕ) (last : Commit) (status : Status)
+      → Synchronizes Sends a at longest old new f g [] handles s answer → n ≡ length handles → last ≡ s.current → status ≡ status_by answer
+      → IsSomeAnd (outcome_of answer) (λ how. octets ≡ report record_wire how n last.version [] []) → Reports Sends a at longest old new f g octets status
+  reports_so a handles s answer octets n last status says counted current ends named = by (outcome_of answer) refl named
+    where
+      by : (o : Option Outcome) → outcome_of answer ≡ o → IsSomeAnd o (λ how. octets ≡ report record_wire how n last.version [] []) → Reports Sends a at longest old new f g octets status
+      by (Some how) e is = record {
+        answer = answer;
+        handles = handles;
+        session = s;
+        transfer = says;
+        ends = ends;
+        how = how;
+        names = e;
+        is = is ∙ ap (λ m. report record_wire how m last.version [] []) counted ∙ ap (λ z. report record_wire how (length handles) z.version [] []) current;
+      }
+      by None e is = absurd is
