@@ -1,20 +1,69 @@
--- A transfer that ended well has an outcome, and so a report.
-use Rattle.std.specs.Prelude.{◌≡◌, ℕ, List, [], Result, Ok, Err, IfSome, IsOk}
-use Rattle.std.proofs.Common.{rules}
+-- The report of a transfer, from what its parts ensure.
+use Rattle.std.specs.Prelude.{◌≡◌, ℕ, List, [], length, Option, Some, None, Result, Ok, Err, IsSomeAnd, IsTrue}
+use Rattle.std.proofs.Common.{refl, sym, ap, ◌∙◌, subst}
 use Rattle.dns_rdata.specs.Records.{record_wire}
-use Rattle.zone_types.specs.Version.{Version}
-use Rattle.xfr_course.specs.Outcome.{Updated, UpToDate}
-use Rattle.zone_sync.specs.Report.{report}
+use Rattle.tsig_port.specs.Tsig.{TsigKey}
+use Rattle.zone_types.specs.Commits.{Commit}
+use Rattle.zone_types.specs.Session.{Session}
+use Rattle.xfr_course.specs.Outcome.{Outcome}
+use Rattle.zone_transfer.specs.Links.{LinkLists}
+use Rattle.zone_transfer.specs.SoFar.{Asking, asks_with}
 use Rattle.zone_transfer.specs.Ending.{outcome_of}
-use Rattle.zone_sync.specs.Reported.{IsReport}
+use Rattle.zone_transfer.specs.Delivery.{Synchronizes}
+use Rattle.xfr_server.specs.Items.{Sending}
+use Rattle.zone_types.specs.TransferText.{Axfr}
 use Rattle.zone_transfer.specs.declared.outcome.SyncOk.{SyncOk}
-use Rattle.zone_transfer.specs.declared.outcome.SyncOk.TheVariants as done
 use Rattle.zone_transfer.specs.declared.outcome.SyncError.{SyncError}
+use Rattle.zone_transfer.specs.declared.outcome.SyncError.TheVariants as why
+use Rattle.zone_sync.specs.Report.{report}
+use Rattle.zone_sync.specs.Notices.{is_reported}
+use Rattle.zone_sync.specs.Reported.{Reports, status_by, asking_with}
+use Rattle.zone_sync.specs.declared.program.Status.{Status}
+use Rattle.zone_sync.specs.declared.program.Status.TheVariants.{LinkFault}
 
-pub well_reported : (ok : SyncOk) (octets : List ℕ) (n : ℕ) (v : Version) → IfSome (outcome_of (Ok ok)) (λ how. octets ≡ report record_wire how n v [] []) → IsReport octets
-well_reported done.Updated octets n v e = record { how = Updated; made = n; last = v; is = e }
-well_reported done.UpToDate octets n v e = record { how = UpToDate; made = n; last = v; is = e }
+-- an answer with an outcome has a status with a report
+pub outcome_is_reported : (answer : Result SyncOk SyncError) (status : Status) (P : Outcome → Type 0) → status ≡ status_by answer → IsSomeAnd (outcome_of answer) P → IsTrue (is_reported status)
+outcome_is_reported answer status P e h = subst (λ s. IsTrue (is_reported s)) (sym e) (by answer h)
+  where
+    by : (r : Result SyncOk SyncError) → IsSomeAnd (outcome_of r) P → IsTrue (is_reported (status_by r))
+    by (Ok done) x = refl
+    by (Err why.LinkFault) x = refl
+    by (Err why.Memory) x = absurd x
+    by (Err e) x = refl
 
-pub reported : (o : Result SyncOk SyncError) (octets : List ℕ) (n : ℕ) (v : Version) → IsOk o → IfSome (outcome_of o) (λ how. octets ≡ report record_wire how n v [] []) → IsReport octets
-reported (Ok ok) octets n v h e = well_reported ok octets n v e
-reported (Err why) octets n v h e = absurd (search rules)
+-- a status of a failed link is that of its answer
+pub link_failed : (answer : Result SyncOk SyncError) (status : Status) → status ≡ status_by answer → status ≡ LinkFault → answer ≡ Err why.LinkFault
+link_failed answer status e f = by answer (sym e ∙ f)
+  where
+    by : (r : Result SyncOk SyncError) → status_by r ≡ LinkFault → r ≡ Err why.LinkFault
+    by (Ok done) h = cc
+    by (Err why.LinkFault) h = refl
+    by (Err why.Memory) h = cc
+    by (Err e) h = cc
+
+module _ (Sends : List ℕ → Option (List Sending) → Type 0) (at longest : ℕ) (old new : Option LinkLists) (f g : ℕ) where
+  -- a transfer into a new list of handles
+  pub says_of_new : (key : TsigKey) (now : ℕ) (opened base : Commit) (before handles : List Commit) (s : Session) (answer : Result SyncOk SyncError)
+      → opened ≡ base → before ≡ [] → Synchronizes Sends (asks_with key Axfr now opened) at longest old new f g before handles s answer → Synchronizes Sends (asking_with key now base) at longest old new f g [] handles s answer
+  says_of_new key now opened base before handles s answer same none says =
+      subst (λ b. Synchronizes Sends (asking_with key now b) at longest old new f g [] handles s answer) same
+      (subst (λ had. Synchronizes Sends (asking_with key now opened) at longest old new f g had handles s answer) none says)
+
+  -- what was made of an answer is its report
+  pub reports_so : (a : Asking) (handles : List Commit) (s : Session) (answer : Result SyncOk SyncError) (octets : List ℕ) (n : ℕ) (last : Commit) (status : Status)
+      → Synchronizes Sends a at longest old new f g [] handles s answer → n ≡ length handles → last ≡ s.current → status ≡ status_by answer
+      → IsSomeAnd (outcome_of answer) (λ how. octets ≡ report record_wire how n last.version [] []) → Reports Sends a at longest old new f g octets status
+  reports_so a handles s answer octets n last status says counted current ends named = by (outcome_of answer) refl named
+    where
+      by : (o : Option Outcome) → outcome_of answer ≡ o → IsSomeAnd o (λ how. octets ≡ report record_wire how n last.version [] []) → Reports Sends a at longest old new f g octets status
+      by (Some how) e is = record {
+        answer = answer;
+        handles = handles;
+        session = s;
+        transfer = says;
+        ends = ends;
+        how = how;
+        names = e;
+        is = is ∙ ap (λ m. report record_wire how m last.version [] []) counted ∙ ap (λ z. report record_wire how (length handles) z.version [] []) current;
+      }
+      by None e is = absurd is

@@ -1,7 +1,7 @@
--- What the program writes where there is no report.
+-- What the program writes where there is no report, and which statuses come with what.
 use Rattle.std.specs.Prelude.{ℕ, List, [], ◌∷◌, ◌++◌, Bool, true, false, codes, decimal}
 use Rattle.zone_sync.specs.declared.program.Status.{Status}
-use Rattle.zone_sync.specs.declared.program.Status.TheVariants.{SourceFault, SinkFault, Memory}
+use Rattle.zone_sync.specs.declared.program.Status.TheVariants.{Done, Refused, Script, SourceFault, SinkFault, Memory, LinkFault}
 
 -- the words have no form
 abbrev pub usage_line : List ℕ
@@ -25,3 +25,15 @@ is_fault SourceFault = true
 is_fault SinkFault = true
 is_fault Memory = true
 is_fault _ = false
+
+-- the statuses that come with a report
+abbrev pub is_reported : Status → Bool
+is_reported Done = true
+is_reported Refused = true
+is_reported LinkFault = true
+is_reported _ = false
+
+-- the statuses that come where the script was read to its end, and memory did not run out
+abbrev pub is_read : Status → Bool
+is_read Script = true
+is_read s = is_reported s

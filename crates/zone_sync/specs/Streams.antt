@@ -1,5 +1,5 @@
 -- Octets that go through a stream in parts, where the stream tells what it holds.
-use Rattle.std.specs.Prelude.{ℕ, List, ◌++◌, Option, option_map}
+use Rattle.std.specs.Prelude.{ℕ, List, [], ◌++◌, Option, option_map}
 
 -- what a sink took, with a further part behind it
 abbrev pub with_more : List ℕ → Option (List ℕ) → Option (List ℕ)
@@ -8,3 +8,7 @@ with_more part had = option_map (λ octets. octets ++ part) had
 -- what a source had, from a part and what is left behind it
 abbrev pub with_first : List ℕ → Option (List ℕ) → Option (List ℕ)
 with_first part left = option_map (λ octets. part ++ octets) left
+
+-- what is left of a source that was read to its end
+abbrev pub emptied : Option (List ℕ) → Option (List ℕ)
+emptied left = option_map (λ octets. []) left

@@ -1,11 +1,16 @@
 //! The program over its streams and its link.
-ghost use Rattle.std.specs.Prelude.{◌≡◌, ◌≢◌, ◌⊎◌, ◌<◌, ◌≤◌, ℕ, List, Some, Err, map, length, string_bytes, IfOk, IfSome, IsOk, IsTrue};
+ghost use Rattle.std.specs.Prelude.{◌≡◌, ◌≢◌, ◌⊎◌, ◌<◌, ◌≤◌, ℕ, List, Some, Ok, Err, map, length, string_bytes, IfOk, IfSome, IsTrue};
 ghost use Rattle.zone_types.specs.TransferText.{Axfr};
 ghost use Rattle.zone_transfer.specs.Links.{Rose};
-ghost use Rattle.zone_sync.specs.Streams.{with_more};
-ghost use Rattle.zone_sync.specs.Reported.{IsReport, TookReport, NamedLine};
-ghost use Rattle.zone_sync.specs.Notices.{usage_line, fault_line, long_line, bad_line, is_fault};
+ghost use Rattle.zone_sync.specs.Streams.{with_more, emptied};
+ghost use Rattle.zone_sync.specs.Reported.{Reports, TookReport, Ran, FitsLink, NamedLine, status_by, asking_with, provider_of};
+ghost use Rattle.zone_sync.specs.Primaries.{refuser};
+ghost use Rattle.zone_transfer.specs.Serving.{request_at};
+ghost use Rattle.zone_transfer.specs.Delivery.{WasHonest};
+ghost use Rattle.zone_sync.specs.Notices.{usage_line, fault_line, long_line, bad_line, is_fault, is_reported, is_read};
+ghost use Rattle.zone_script.specs.Script as scripts;
 ghost use Rattle.zone_script.specs.Script.{script_of};
+ghost use Rattle.tsig_port.specs.Tsig.{TsigKey};
 ghost use Rattle.zone_script.specs.ScriptReaders.{readers_so_far};
 ghost use Rattle.zone_script.specs.Words.{form_of, Transfer};
 
@@ -16,11 +21,12 @@ use crate::whole::{MOST_OCTETS, ReadError, read_whole};
 use dns_name::Labelled;
 use std::alloc::{AllocError, Global};
 use tsig_port::Key;
-use xfr_server::{HistoryProvider, PrimaryStack, RefuseSvc, TsigMiddlewareSvc, XfrMiddlewareSvc};
+use xfr_server::{HistoryProvider, PrimaryStack, RefuseSvc, Service, TsigMiddlewareSvc, XfrMiddlewareSvc};
 use zone_script::script::{Script, ScriptError, parse};
 use zone_script::words::is_axfr;
 use zone_store::ZoneApex;
 use zone_transfer::client::XfrMode;
+use zone_transfer::laws::history_primaries_grant;
 use zone_transfer::links::Link;
 use zone_transfer::outcome::{SyncError, SyncOk};
 use zone_transfer::sync::{Moments, sync_zone};
@@ -70,13 +76,7 @@ impl Status {
 
 /// The status of a transfer whose report was written.
 fn status_of(outcome: &Result<SyncOk, SyncError>) -> Status
-    ensures done { result ≡ Status.Done → IsOk outcome.now }
-    ensures link { result ≡ Status.LinkFault → outcome.now ≡ Err SyncError.LinkFault }
-    ensures sink { result ≢ Status.SinkFault }
-    ensures source { result ≢ Status.SourceFault }
-    ensures long { result ≢ Status.TooLong }
-    ensures usage { result ≢ Status.Usage }
-    ensures script { result ≢ Status.Script }
+    ensures { result ≡ status_by outcome.now }
 {
     match outcome {
         Ok(_) => Status::Done,
@@ -111,8 +111,20 @@ pub fn run<S: Source, K: Sink, L: Link>(
     ensures bad_script { (text : List ℕ) (n : ℕ) → form_of (map string_bytes words.now) ≡ Some (Transfer Axfr 0) → S.remaining src.old ≡ Some text → length text ≤ MOST_OCTETS → script_of readers_so_far text ≡ Err n → (result ≡ Status.Script) ⊎ IsTrue (is_fault result) }
     ensures too_long { (text : List ℕ) → form_of (map string_bytes words.now) ≡ Some (Transfer Axfr 0) → S.remaining src.old ≡ Some text → MOST_OCTETS < length text → (result ≡ Status.TooLong) ⊎ IsTrue (is_fault result) }
     ensures long_line { result ≡ Status.TooLong → K.taken out.new ≡ with_more long_line (K.taken out.old) }
-    // On status 0 the sink took the report of an outcome and of a version, and nothing else.
-    ensures report { result ≡ Status.Done → TookReport (K.taken out.old) (K.taken out.new) }
+    // On the statuses 0, 1 and 7 the source spelt a script, its transfer was answered so, and the sink took the report of that and nothing else.
+    ensures ran { IsTrue (is_reported result) → (text : List ℕ) × IfSome (S.remaining src.old) (λ octets. text ≡ octets)
+        × Ran (λ provider key at m. ⟦<Primary as Service<()>>⟧.Sends ((refuser, provider), key) (request_at m at)) text (L.longest link.old) (L.lists link.old) (L.lists link.new) (L.faults link.old) (L.faults link.new)
+            (K.taken out.old) (K.taken out.new) result }
+    // Where a script is spelt and no call failed, that is how it ends, or for want of memory.
+    ensures completes { (text : List ℕ) (script : scripts.Script TsigKey) → form_of (map string_bytes words.now) ≡ Some (Transfer Axfr 0) → S.remaining src.old ≡ Some text → length text ≤ MOST_OCTETS
+        → script_of readers_so_far text ≡ Ok script → ¬ Rose (S.faults src.old) (S.faults src.new) → ¬ Rose (K.faults out.old) (K.faults out.new) → ¬ Rose (L.faults link.old) (L.faults link.new)
+        → (result ≡ Status.Done) ⊎ ((result ≡ Status.Refused) ⊎ (result ≡ Status.Memory)) }
+    // .. and where the script's parts fit each other and the link was honest, it ends with 0, or for want of memory.
+    ensures delivers { (text : List ℕ) (script : scripts.Script TsigKey) (key : TsigKey) → form_of (map string_bytes words.now) ≡ Some (Transfer Axfr 0) → S.remaining src.old ≡ Some text → length text ≤ MOST_OCTETS
+        → script_of readers_so_far text ≡ Ok script → FitsLink script key (L.longest link.old) → WasHonest (L.lists link.old) (L.lists link.new) (L.faults link.old) (L.faults link.new)
+        → ¬ Rose (S.faults src.old) (S.faults src.new) → ¬ Rose (K.faults out.old) (K.faults out.new) → (result ≡ Status.Done) ⊎ (result ≡ Status.Memory) }
+    // The source was read to its end on these statuses, and on status 3.
+    ensures none_left { IsTrue (is_read result) → S.remaining src.new ≡ emptied (S.remaining src.old) }
     ensures long { result ≡ Status.TooLong → IfSome (S.remaining src.old) (λ left. MOST_OCTETS < length left) }
 {
     if !is_axfr(words) {
@@ -144,12 +156,17 @@ fn write_last<K: Sink>(out: &mut K, octets: &[u8], status: Status) -> Status
 fn run_script<K: Sink, L: Link>(alloc: Global, text: &[u8], out: &mut K, link: &mut L) -> Status
     ensures sink_fault { result ≡ Status.SinkFault → Rose (K.faults out.old) (K.faults out.new) }
     ensures link_fault { result ≡ Status.LinkFault → Rose (L.faults link.old) (L.faults link.new) }
-    ensures report { result ≡ Status.Done → TookReport (K.taken out.old) (K.taken out.new) }
+    ensures ran { IsTrue (is_reported result) → Ran (λ provider key at m. ⟦<Primary as Service<()>>⟧.Sends ((refuser, provider), key) (request_at m at)) text.now (L.longest link.old) (L.lists link.old) (L.lists link.new) (L.faults link.old) (L.faults link.new)
+        (K.taken out.old) (K.taken out.new) result }
+    ensures delivers { (script : scripts.Script TsigKey) (key : TsigKey) → script_of readers_so_far text.now ≡ Ok script → FitsLink script key (L.longest link.old)
+        → WasHonest (L.lists link.old) (L.lists link.new) (L.faults link.old) (L.faults link.new) → ¬ Rose (K.faults out.old) (K.faults out.new) → (result ≡ Status.Done) ⊎ (result ≡ Status.Memory) }
     ensures steady { result ≢ Status.SinkFault → K.faults out.new ≡ K.faults out.old }
     ensures script { result ≡ Status.Script → NamedLine text.now (K.taken out.old) (K.taken out.new) }
     ensures bad_script { (n : ℕ) → script_of readers_so_far text.now ≡ Err n → (result ≡ Status.Script) ⊎ IsTrue (is_fault result) }
     ensures others { (result ≢ Status.Usage) × (result ≢ Status.SourceFault) × (result ≢ Status.TooLong) }
 {
+    // For the proof: such a primary grants.
+    history_primaries_grant();
     match parse(alloc, text) {
         Ok(script) => run_transfer(alloc, script, out, link),
         Err(ScriptError::Line(number)) => write_bad_line(alloc, out, number),
@@ -179,7 +196,8 @@ fn run_transfer<K: Sink, L: Link>(
 ) -> Status
     ensures sink_fault { result ≡ Status.SinkFault → Rose (K.faults out.old) (K.faults out.new) }
     ensures link_fault { result ≡ Status.LinkFault → Rose (L.faults link.old) (L.faults link.new) }
-    ensures report { result ≡ Status.Done → TookReport (K.taken out.old) (K.taken out.new) }
+    ensures report { IsTrue (is_reported result) → TookReport (λ m. ⟦<Primary as Service<()>>⟧.Sends ((refuser, provider_of script.primary.version script.key), script.key) (request_at m script.at_primary))
+        (asking_with script.key script.at_secondary script.secondary) script.at_primary (L.longest link.old) (L.lists link.old) (L.lists link.new) (L.faults link.old) (L.faults link.new) (K.taken out.old) (K.taken out.new) result }
     ensures steady { result ≢ Status.SinkFault → K.faults out.new ≡ K.faults out.old }
     ensures others { (result ≢ Status.Usage) × (result ≢ Status.SourceFault) × (result ≢ Status.TooLong) × (result ≢ Status.Script) }
 {
@@ -193,7 +211,9 @@ fn run_transfer<K: Sink, L: Link>(
 type Primary = PrimaryStack<RefuseSvc, HistoryProvider, Key>;
 
 /// The primary that offers a zone's current version to a key.
-fn primary_of(alloc: Global, zone: &ZoneApex, key: &Key) -> Result<Primary, AllocError> {
+fn primary_of(alloc: Global, zone: &ZoneApex, key: &Key) -> Result<Primary, AllocError>
+    ensures { IfOk result (λ p. p ≡ ((refuser, provider_of zone.now.version key.now), key.now)) }
+{
     let mut provider = HistoryProvider::new(alloc, zone.read()?);
     provider.grant(key.name().duplicate(), key.algorithm())?;
     let transfers = XfrMiddlewareSvc::new(RefuseSvc, provider);
@@ -206,9 +226,10 @@ fn transfer<L: Link>(
     script: Script,
     link: &mut L,
 ) -> Result<(Vec<u8>, Status), AllocError>
-    ensures report { IfOk result (λ r. r.1 ≡ Status.Done → IsReport r.0.items) }
+    ensures report { IfOk result (λ r. Reports (λ m. ⟦<Primary as Service<()>>⟧.Sends ((refuser, provider_of script.primary.version script.key), script.key) (request_at m script.at_primary))
+        (asking_with script.key script.at_secondary script.secondary) script.at_primary (L.longest link.old) (L.lists link.old) (L.lists link.new) (L.faults link.old) (L.faults link.new) r.0.items r.1) }
     ensures link_fault { IfOk result (λ r. r.1 ≡ Status.LinkFault → Rose (L.faults link.old) (L.faults link.new)) }
-    ensures others { IfOk result (λ r. (r.1 ≢ Status.SinkFault) × (r.1 ≢ Status.Usage) × (r.1 ≢ Status.SourceFault) × (r.1 ≢ Status.TooLong) × (r.1 ≢ Status.Script)) }
+    ensures others { IfOk result (λ r. IsTrue (is_reported r.1)) }
 {
     let mut script = script;
     let primary = primary_of(alloc, &script.primary, &script.key)?;

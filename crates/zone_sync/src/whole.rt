@@ -1,7 +1,7 @@
 //! All octets of a source, up to a bound.
-ghost use Rattle.std.specs.Prelude.{◌≡◌, ◌≢◌, ◌<◌, ◌≤◌, length, IfOk, IfSome, Some, None};
+ghost use Rattle.std.specs.Prelude.{◌≡◌, ◌≢◌, ◌<◌, ◌≤◌, length, IfOk, IfSome, OnOk, Some, None};
 ghost use Rattle.zone_transfer.specs.Links.{Rose};
-ghost use Rattle.zone_sync.specs.Streams.{with_first};
+ghost use Rattle.zone_sync.specs.Streams.{with_first, emptied};
 
 use crate::sources::{Failed, Source};
 use std::alloc::{AllocError, Global};
@@ -45,6 +45,7 @@ impl From<AllocError> for ReadError {
 /// Reads a source to its end.
 pub fn read_whole<S: Source>(alloc: Global, src: &mut S) -> Result<Vec<u8>, ReadError>
     ensures all { IfOk result (λ v. IfSome (S.remaining src.old) (λ left. v.items ≡ left)) }
+    ensures none_left { OnOk result (S.remaining src.new ≡ emptied (S.remaining src.old)) }
     ensures bounded { IfOk result (λ v. length v.items ≤ MOST_OCTETS) }
     ensures long { result ≡ Err ReadError.TooLong → IfSome (S.remaining src.old) (λ left. MOST_OCTETS < length left) }
     ensures failed { result ≡ Err ReadError.Failed → Rose (S.faults src.old) (S.faults src.new) }

@@ -19,3 +19,4 @@ pub mod HonestRequests
 pub mod HonestReplies
 pub mod HonestCourses
 pub mod Delivery
+pub mod Grants

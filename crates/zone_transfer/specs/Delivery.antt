@@ -1,6 +1,7 @@
 -- A transfer over an honest link to a granting primary: when it has to end well, and what it leaves (RFC 5936, 2 and 6).
 use Rattle.std.specs.Prelude.{◌≡◌, ℕ, ◌<◌, ◌≤◌, ◌-◌, ◌^◌, List, [], ◌∷◌, length, min, Option, Some, None, Result, Ok, Err}
 use Rattle.zone_types.specs.Version.{Version, Same}
+use Rattle.zone_types.specs.Commits.{Commit}
 use Rattle.zone_types.specs.Session.{Session}
 use Rattle.xfr_server.specs.Items.{Sending}
 use Rattle.xfr_server.specs.FullTransfer.{IsSentWhole}
@@ -8,6 +9,7 @@ use Rattle.zone_transfer.specs.Links.{LinkLists, IsHonest}
 use Rattle.zone_transfer.specs.SoFar.{Asking, asked_octets}
 use Rattle.zone_transfer.specs.Serving.{request_at}
 use Rattle.zone_transfer.specs.Fitting.{Fits}
+use Rattle.zone_transfer.specs.Transfers.{SyncSays}
 use Rattle.zone_transfer.specs.declared.outcome.SyncOk.{SyncOk}
 use Rattle.zone_transfer.specs.declared.outcome.SyncError.{SyncError}
 use Rattle.zone_transfer.specs.declared.outcome.SyncError.TheVariants as why
@@ -28,3 +30,11 @@ abbrev pub Delivers : Version → Session → Result SyncOk SyncError → Type 0
 Delivers v s (Ok done) = Same s.current.version v
 Delivers v s (Err why.Memory) = Unit {0}
 Delivers v s (Err e) = ⊥
+
+-- The headline: whatever octets the link hands back, exactly the versions that the checked text spells are committed, in order, and the answer is its
+-- outcome; nothing is pending then; and over an honest link to a primary that grants a version the answer is Ok or want of memory, and after Ok
+-- that version is current.
+pub record Synchronizes (Sends : List ℕ → Option (List Sending) → Type 0) (a : Asking) (at longest : ℕ) (old new : Option LinkLists) (faults_old faults_new : ℕ) (before handles : List Commit) (s : Session) (answer : Result SyncOk SyncError) : Type 0 where
+  pub says : SyncSays Sends a longest old new before handles s answer
+  pub settled : s.pending ≡ s.current.version
+  pub delivers : (v : Version) → IsGranted Sends a at longest v → WasHonest old new faults_old faults_new → Delivers v s answer

@@ -52,6 +52,7 @@ pub use Rattle.xfr_course.specs.Courses
 pub use Rattle.xfr_course.specs.Joining
 pub use Rattle.xfr_course.specs.CourseRows
 pub mod Links
+pub mod Calls
 pub mod Queues
 pub mod Refusals
 pub mod Ending
@@ -64,3 +65,4 @@ pub mod Serving
 pub mod Transfers
 pub mod Fitting
 pub mod Delivery
+pub mod Grants

@@ -1,6 +1,7 @@
 //! Which calls of an outside in memory fail, and how often it failed.
-ghost use Rattle.std.specs.Prelude.{◌≡◌, IsTrue, false, [], ℕ};
+ghost use Rattle.std.specs.Prelude.{◌≡◌, IsTrue, false};
 ghost use Rattle.zone_transfer.specs.Links.{Rose};
+ghost use Rattle.zone_transfer.specs.Calls.{no_calls, with_fault, fails_next, after_call};
 
 use std::marker::Model;
 
@@ -13,17 +14,17 @@ pub struct Failures {
 }
 
 impl Model for Failures {
-    ghost use Rattle.std.specs.Prelude.{ℕ};
+    ghost use Rattle.zone_transfer.specs.Calls.{Calls};
 
-    ghost Value = { ℕ };
+    ghost Value = { Calls };
 
-    ghost view = { λ f. f.faults };
+    ghost view = { λ f. record { failing = f.failing.items; made = f.made; faults = f.faults } };
 }
 
 impl Failures {
     /// No call was made yet; those of the list will fail.
     pub fn new(failing: Vec<u64>) -> Failures
-        ensures { result ≡ 0 }
+        ensures { result ≡ no_calls failing.items }
     {
         Failures {
             failing,
@@ -34,15 +35,18 @@ impl Failures {
 
     /// Counts a fault.
     pub fn count_fault(&mut self)
-        ensures { Rose self.old self.new }
+        ensures counted { self.new ≡ with_fault self.old }
+        ensures rose { Rose self.old.faults self.new.faults }
     {
         self.faults = self.faults.saturating_add(1);
     }
 
     /// Counts a call, and a fault where it is one that is to fail.
     pub fn is_next_failing(&mut self) -> bool
-        ensures failed { IsTrue result → Rose self.old self.new }
-        ensures steady { result ≡ false → self.new ≡ self.old }
+        ensures says { result ≡ fails_next self.old }
+        ensures counted { self.new ≡ after_call self.old }
+        ensures failed { IsTrue result → Rose self.old.faults self.new.faults }
+        ensures steady { result ≡ false → self.new.faults ≡ self.old.faults }
     {
         self.made = self.made.saturating_add(1);
         if self.failing.contains(&self.made) {

@@ -1,9 +1,11 @@
 //! A link that hands on all that it took.
 ghost use Rattle.std.specs.Prelude.{◌≡◌};
+ghost use Rattle.zone_transfer.specs.Links.{no_lists};
 
 use crate::links::{Link, LinkError};
 use crate::queue::Queue;
 use std::alloc::Global;
+use std::marker::Model;
 
 /// A link in memory: what it takes it hands on octet for octet, first in, first out. It never fails.
 ///
@@ -14,9 +16,20 @@ pub struct LoopLink {
     replies: Queue,
 }
 
+impl Model for LoopLink {
+    ghost use Rattle.zone_transfer.specs.Links.{LinkLists};
+    ghost use Rattle.zone_transfer.specs.Queues.{way_of};
+
+    ghost Value = { LinkLists };
+
+    ghost view = { λ l. record { requests = way_of l.requests; replies = way_of l.replies } };
+}
+
 impl LoopLink {
     /// A link over which nothing went yet.
-    pub fn new(alloc: Global) -> LoopLink {
+    pub fn new(alloc: Global) -> LoopLink
+        ensures { result ≡ no_lists }
+    {
         LoopLink {
             requests: Queue::new(alloc),
             replies: Queue::new(alloc),
@@ -26,9 +39,8 @@ impl LoopLink {
 
 impl Link for LoopLink {
     ghost use Rattle.std.specs.Prelude.{Some};
-    ghost use Rattle.zone_transfer.specs.Queues.{way_of};
 
-    ghost lists = { λ l. Some (record { requests = way_of l.requests; replies = way_of l.replies }) };
+    ghost lists = { λ l. Some l };
 
     ghost faults = { λ l. 0 };
 

@@ -8,8 +8,7 @@ ghost use Rattle.zone_transfer.specs.Standing.{asking_of, Stands};
 ghost use Rattle.zone_transfer.specs.Transfers.{SyncSays, EndsSo, Serves, SendsItems};
 ghost use Rattle.xfr_server.specs.Items.{Sending};
 ghost use Rattle.zone_transfer.specs.Serving.{request_at};
-ghost use Rattle.zone_transfer.specs.Delivery.{IsGranted, WasHonest, Delivers};
-ghost use Rattle.zone_types.specs.Version.{Version};
+ghost use Rattle.zone_transfer.specs.Delivery.{Synchronizes};
 
 use crate::client::{XfrClient, XfrMode};
 use crate::links::Link;
@@ -46,13 +45,11 @@ pub fn sync_zone<P: Service<()>, L: Link>(
     made: &mut Vec<ReadZone>,
 ) -> Result<SyncOk, SyncError>
     // Whatever octets the link hands back, exactly the versions that the checked text spells are committed, in order, and the
-    // answer is the outcome. The primary is asked what the link hands it, and the link is given its replies.
-    ensures transfers { SyncSays (λ m. P.Sends primary.now (request_at m moments.at_primary)) (asks_with key.now (mode_of mode) moments.at_secondary session.old.current) (L.longest link.old)
-        (L.lists link.old) (L.lists link.new) made.old.items made.new.items session.new result }
-    ensures nothing_pending { session.new.pending ≡ session.new.current.version }
-    // Over an honest link to a primary that grants a version, the answer is Ok or want of memory, and after Ok that version is current.
-    ensures delivers { (v : Version) → IsGranted (λ m. P.Sends primary.now (request_at m moments.at_primary)) (asks_with key.now (mode_of mode) moments.at_secondary session.old.current) moments.at_primary (L.longest link.old) v
-        → WasHonest (L.lists link.old) (L.lists link.new) (L.faults link.old) (L.faults link.new) → Delivers v session.new result }
+    // answer is the outcome. The primary is asked what the link hands it, and the link is given its replies. Nothing is pending
+    // afterwards. Over an honest link to a primary that grants a version, the answer is Ok or want of memory, and after Ok that
+    // version is current.
+    ensures headline { Synchronizes (λ m. P.Sends primary.now (request_at m moments.at_primary)) (asks_with key.now (mode_of mode) moments.at_secondary session.old.current)
+        moments.at_primary (L.longest link.old) (L.lists link.old) (L.lists link.new) (L.faults link.old) (L.faults link.new) made.old.items made.new.items session.new result }
     // The causes by the link.
     ensures failed { result ≡ Err SyncError.LinkFault → Rose (L.faults link.old) (L.faults link.new) }
     ensures steady { result ≢ Err SyncError.LinkFault → L.faults link.new ≡ L.faults link.old }
