@@ -10,3 +10,5 @@ pub mod memory_link;
 pub mod outcome;
 mod queue;
 pub mod sync;
+#[cfg(test)]
+mod tests;
