@@ -1,5 +1,5 @@
 //! The first line of a report: how the transfer ended.
-ghost use Rattle.std.specs.Prelude.{◌≡◌, ◌++◌, ◌∷◌, [], codes, decimal, ℕ, OnOk, IfSome};
+ghost use Rattle.std.specs.Prelude.{◌≡◌, ◌++◌, ◌∷◌, [], codes, decimal, ℕ, OnOk, IfSome, IsSome};
 ghost use Rattle.zone_sync.specs.Report.{line, outcome_words, signature_words};
 ghost use Rattle.zone_transfer.specs.Ending.{outcome_of, refusal_outcome, message_outcome, item_outcome, update_outcome};
 
@@ -16,7 +16,8 @@ pub(crate) fn append_outcome(
     outcome: &Result<SyncOk, SyncError>,
     made: usize,
 ) -> Result<(), AllocError>
-    ensures { OnOk result (IfSome (outcome_of outcome.now) (λ how. out.new.items ≡ out.old.items ++ line (outcome_words how made))) }
+    ensures told { OnOk result (IsSome (outcome_of outcome.now)) }
+    ensures line { OnOk result (IfSome (outcome_of outcome.now) (λ how. out.new.items ≡ out.old.items ++ line (outcome_words how made))) }
 {
     match outcome {
         Ok(SyncOk::Updated) => {
@@ -66,7 +67,8 @@ fn append_signature(
 
 /// The line of another refusal; want of memory has none.
 fn append_refusal(out: &mut Vec<u8>, error: &SyncError) -> Result<(), AllocError>
-    ensures { (n : ℕ) → OnOk result (IfSome (refusal_outcome error.now) (λ how. out.new.items ≡ out.old.items ++ line (outcome_words how n))) }
+    ensures told { OnOk result (IsSome (refusal_outcome error.now)) }
+    ensures line { (n : ℕ) → OnOk result (IfSome (refusal_outcome error.now) (λ how. out.new.items ≡ out.old.items ++ line (outcome_words how n))) }
 {
     match error {
         SyncError::NoSoa => out.extend_from_slice(b"refused no-soa\n"),
@@ -117,7 +119,8 @@ fn append_record(out: &mut Vec<u8>, why: protocol::IterationError) -> Result<(),
 
 /// The line of an update that doesn't fit; want of memory has none.
 fn append_update(out: &mut Vec<u8>, why: update::Error) -> Result<(), AllocError>
-    ensures { (n : ℕ) → OnOk result (IfSome (update_outcome why) (λ how. out.new.items ≡ out.old.items ++ line (outcome_words how n))) }
+    ensures told { OnOk result (IsSome (update_outcome why)) }
+    ensures line { (n : ℕ) → OnOk result (IfSome (update_outcome why) (λ how. out.new.items ≡ out.old.items ++ line (outcome_words how n))) }
 {
     match why {
         update::Error::IncompatibleUpdate => out.extend_from_slice(b"refused incompatible\n"),
