@@ -1,5 +1,5 @@
 //! The report of a transfer.
-ghost use Rattle.std.specs.Prelude.{◌≡◌, ◌++◌, [], IfOk, IfSome, OnOk, flat_map, map};
+ghost use Rattle.std.specs.Prelude.{◌≡◌, ◌++◌, [], IfOk, IfSome, IsSome, OnOk, flat_map, map};
 ghost use Rattle.dns_rdata.specs.Records.{record_wire};
 ghost use Rattle.dns_rdata.specs.ZoneData.{data_fields};
 ghost use Rattle.zone_types.specs.Walk.{walk};
@@ -22,7 +22,8 @@ pub fn report_octets(
     made: usize,
     zone: &ReadZone,
 ) -> Result<Vec<u8>, AllocError>
-    ensures { IfOk result (λ v. IfSome (outcome_of outcome.now) (λ how. v.items ≡ report record_wire how made zone.now.version [] [])) }
+    ensures told { OnOk result (IsSome (outcome_of outcome.now)) }
+    ensures report { IfOk result (λ v. IfSome (outcome_of outcome.now) (λ how. v.items ≡ report record_wire how made zone.now.version [] [])) }
 {
     let mut out = Vec::new(alloc);
     append_outcome(alloc, &mut out, outcome, made)?;
