@@ -1,11 +1,13 @@
 //! Sinks: where the octets of a report go.
-ghost use Rattle.std.specs.Prelude.{◌≡◌, ◌≢◌, ◌<◌, ◌≤◌, ◌++◌, length, take, option_map, IfOk, OnOk, OnErr, ℕ};
+ghost use Rattle.std.specs.Prelude.{◌≡◌, ◌≢◌, ◌<◌, ◌≤◌, ◌++◌, [], min, length, take, option_map, IfOk, IsErr, OnOk, OnErr, IsTrue, ℕ};
 ghost use Rattle.zone_transfer.specs.Links.{Rose};
+ghost use Rattle.zone_transfer.specs.Calls.{no_calls, fails_next, after_call, after_fault};
 ghost use Rattle.zone_sync.specs.Streams.{with_more};
 
 use crate::sources::Failed;
 use std::alloc::Global;
 use std::io::Write;
+use std::marker::Model;
 use zone_transfer::failures::Failures;
 
 /// Octets that go out.
@@ -35,13 +37,24 @@ pub struct MemorySink {
     octets: Vec<u8>,
     most: usize,
     failures: Failures,
-    ghost some: { 0 < most },
+}
+
+impl Model for MemorySink {
+    ghost use Rattle.std.specs.Prelude.{◌<◌};
+    ghost use Rattle.zone_sync.specs.Streams.{Taken};
+
+    ghost Value = { Taken };
+
+    ghost view = { λ s. record { octets = s.octets.items; most = s.most; calls = s.failures } };
+
+    ghost invariant = { λ s. 0 < s.most };
 }
 
 impl MemorySink {
     /// An empty sink, which takes at most so many octets in a call; the calls of the list, numbered from 1, fail.
     pub fn new(alloc: Global, most: usize, failing: Vec<u64>) -> MemorySink
         requires { 0 < most }
+        ensures { result ≡ record { octets = []; most = most; calls = no_calls failing.items } }
     {
         MemorySink {
             octets: Vec::new(alloc),
@@ -51,7 +64,9 @@ impl MemorySink {
     }
 
     /// What it took.
-    pub fn as_slice(&self) -> &[u8] {
+    pub fn as_slice(&self) -> &[u8]
+        ensures { result.now ≡ self.now.octets }
+    {
         self.octets.as_slice()
     }
 }
@@ -59,12 +74,22 @@ impl MemorySink {
 impl Sink for MemorySink {
     ghost use Rattle.std.specs.Prelude.{Some};
 
-    ghost taken = { λ s. Some s.octets.items };
+    ghost taken = { λ s. Some s.octets };
 
-    ghost faults = { λ s. s.failures };
+    ghost faults = { λ s. s.calls.faults };
 
     /// Want of memory is a fault too.
-    fn write(&mut self, buf: &[u8]) -> Result<usize, Failed> {
+    fn write(&mut self, buf: &[u8]) -> Result<usize, Failed>
+        requires { 0 < length buf.now }
+        ensures fails { IsTrue (fails_next self.old.calls) → IsErr result }
+        ensures calls { OnOk result (self.new.calls ≡ after_call self.old.calls) }
+        ensures fault { OnErr result (self.new.calls ≡ after_fault self.old.calls) }
+        ensures some { IfOk result (λ n. 0 < n) }
+        ensures count { IfOk result (λ n. n ≡ min (length buf.now) self.old.most) }
+        ensures octets { IfOk result (λ n. self.new.octets ≡ self.old.octets ++ take n buf.now) }
+        ensures err { OnErr result (self.new.octets ≡ self.old.octets) }
+        ensures most { self.new.most ≡ self.old.most }
+    {
         if self.failures.is_next_failing() {
             return Err(Failed);
         }
@@ -86,7 +111,9 @@ pub struct StdSink<W: Write + Drop> {
 
 impl<W: Write + Drop> StdSink<W> {
     /// A sink over this writer, as over standard output.
-    pub fn new(writer: W) -> StdSink<W> {
+    pub fn new(writer: W) -> StdSink<W>
+        ensures { ⟦<StdSink<W> as Sink>⟧.faults result ≡ 0 }
+    {
         StdSink { writer, faults: 0 }
     }
 }

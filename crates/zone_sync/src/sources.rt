@@ -1,10 +1,12 @@
 //! Sources: where the octets of a script come from.
-ghost use Rattle.std.specs.Prelude.{◌≡◌, ◌≢◌, ◌<◌, ◌≤◌, ◌++◌, [], length, take, option_map, IfOk, IfErr, IfSome, OnOk, OnErr};
+ghost use Rattle.std.specs.Prelude.{◌≡◌, ◌≢◌, ◌<◌, ◌≤◌, ◌++◌, ◌↔◌, [], min, length, take, option_map, IfOk, IfErr, IfSome, IsErr, OnOk, OnErr, IsTrue};
 ghost use Rattle.zone_transfer.specs.Links.{Rose};
+ghost use Rattle.zone_transfer.specs.Calls.{no_calls, fails_next, after_call};
 ghost use Rattle.zone_sync.specs.Streams.{with_first};
 
 use std::alloc::{AllocError, Global};
 use std::io::Read;
+use std::marker::Model;
 use zone_transfer::failures::Failures;
 
 /// A call of a source or a sink that failed; its count of faults rose.
@@ -39,12 +41,24 @@ pub struct MemorySource {
     octets: Vec<u8>,
     place: usize,
     failures: Failures,
-    ghost in_range: { place ≤ length octets.items },
+}
+
+impl Model for MemorySource {
+    ghost use Rattle.std.specs.Prelude.{◌≤◌, length, drop};
+    ghost use Rattle.zone_sync.specs.Streams.{Left};
+
+    ghost Value = { Left };
+
+    ghost view = { λ s. record { octets = drop s.place s.octets.items; calls = s.failures } };
+
+    ghost invariant = { λ s. s.place ≤ length s.octets.items };
 }
 
 impl MemorySource {
     /// A source of these octets; the calls of the list, numbered from 1, fail and read nothing.
-    pub fn new(octets: Vec<u8>, failing: Vec<u64>) -> MemorySource {
+    pub fn new(octets: Vec<u8>, failing: Vec<u64>) -> MemorySource
+        ensures { result ≡ record { octets = octets.items; calls = no_calls failing.items } }
+    {
         MemorySource {
             octets,
             place: 0,
@@ -54,13 +68,20 @@ impl MemorySource {
 }
 
 impl Source for MemorySource {
-    ghost use Rattle.std.specs.Prelude.{Some, drop};
+    ghost use Rattle.std.specs.Prelude.{Some};
 
-    ghost remaining = { λ s. Some (drop s.place s.octets.items) };
+    ghost remaining = { λ s. Some s.octets };
 
-    ghost faults = { λ s. s.failures };
+    ghost faults = { λ s. s.calls.faults };
 
-    fn read(&mut self, buf: &mut [u8]) -> Result<usize, Failed> {
+    /// Reads as much as there is and as the buffer holds.
+    fn read(&mut self, buf: &mut [u8]) -> Result<usize, Failed>
+        ensures fails { IsErr result ↔ IsTrue (fails_next self.old.calls) }
+        ensures calls { self.new.calls ≡ after_call self.old.calls }
+        ensures count { IfOk result (λ n. n ≡ min (length self.old.octets) (length buf.old)) }
+        ensures octets { IfOk result (λ n. take n buf.new ++ self.new.octets ≡ self.old.octets) }
+        ensures err { OnErr result (self.new.octets ≡ self.old.octets) }
+    {
         if self.failures.is_next_failing() {
             return Err(Failed);
         }
@@ -82,7 +103,9 @@ pub struct StdSource<R: Read + Drop> {
 
 impl<R: Read + Drop> StdSource<R> {
     /// A source over this reader, as over standard input.
-    pub fn new(reader: R) -> StdSource<R> {
+    pub fn new(reader: R) -> StdSource<R>
+        ensures { ⟦<StdSource<R> as Source>⟧.faults result ≡ 0 }
+    {
         StdSource { reader, faults: 0 }
     }
 }
