@@ -52,8 +52,8 @@ spelt_is_not_bad : (text : List ℕ) (t : scripts.Script TsigKey) (n : ℕ) → 
 spelt_is_not_bad text t n e f = let clash : Ok t ≡ Err n = sym e ∙ f in cc
 
 module _ (SendsOf : Provider → TsigKey → ℕ → List ℕ → Option (List Sending) → Type 0)
-  (grants : (p : Provider) (key : TsigKey) (a : Asking) (at longest : ℕ) → a.key ≡ key → is_granted p.grants (Some (key_id key)) ≡ true → Fits a at p.kept → length (asked_octets a) ≤ min longest 65535 → IsGranted (SendsOf p key at) a at longest p.kept)
-  (text : List ℕ) (t : scripts.Script TsigKey) (key : TsigKey) (longest : ℕ) (old new : Option LinkLists) (f g : ℕ) (taken_old taken_new : Option (List ℕ)) (spelt : script_of readers_so_far text ≡ Ok t) (fits : FitsLink t key longest) (honest : WasHonest old new f g) where
+    (grants : (p : Provider) (key : TsigKey) (a : Asking) (at longest : ℕ) → a.key ≡ key → is_granted p.grants (Some (key_id key)) ≡ true → Fits a at p.kept → length (asked_octets a) ≤ min longest 65535 → IsGranted (SendsOf p key at) a at longest p.kept)
+    (text : List ℕ) (t : scripts.Script TsigKey) (key : TsigKey) (longest : ℕ) (old new : Option LinkLists) (f g : ℕ) (taken_old taken_new : Option (List ℕ)) (spelt : script_of readers_so_far text ≡ Ok t) (fits : FitsLink t key longest) (honest : WasHonest old new f g) where
   same_script : (u : scripts.Script TsigKey) → script_of readers_so_far text ≡ Ok u → t ≡ u
   same_script u e = ap (unless t) (sym spelt ∙ e)
     where

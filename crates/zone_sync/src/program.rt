@@ -21,7 +21,9 @@ use crate::whole::{MOST_OCTETS, ReadError, read_whole};
 use dns_name::Labelled;
 use std::alloc::{AllocError, Global};
 use tsig_port::Key;
-use xfr_server::{HistoryProvider, PrimaryStack, RefuseSvc, Service, TsigMiddlewareSvc, XfrMiddlewareSvc};
+use xfr_server::{
+    HistoryProvider, PrimaryStack, RefuseSvc, Service, TsigMiddlewareSvc, XfrMiddlewareSvc,
+};
 use zone_script::script::{Script, ScriptError, parse};
 use zone_script::words::is_axfr;
 use zone_store::ZoneApex;
@@ -114,7 +116,7 @@ pub fn run<S: Source, K: Sink, L: Link>(
     // On the statuses 0, 1 and 7 the source spelt a script, its transfer was answered so, and the sink took the report of that and nothing else.
     ensures ran { IsTrue (is_reported result) → (text : List ℕ) × IfSome (S.remaining src.old) (λ octets. text ≡ octets)
         × Ran (λ provider key at m. ⟦<Primary as Service<()>>⟧.Sends ((refuser, provider), key) (request_at m at)) text (L.longest link.old) (L.lists link.old) (L.lists link.new) (L.faults link.old) (L.faults link.new)
-            (K.taken out.old) (K.taken out.new) result }
+        (K.taken out.old) (K.taken out.new) result }
     // Where a script is spelt and no call failed, that is how it ends, or for want of memory.
     ensures completes { (text : List ℕ) (script : scripts.Script TsigKey) → form_of (map string_bytes words.now) ≡ Some (Transfer Axfr 0) → S.remaining src.old ≡ Some text → length text ≤ MOST_OCTETS
         → script_of readers_so_far text ≡ Ok script → ¬ Rose (S.faults src.old) (S.faults src.new) → ¬ Rose (K.faults out.old) (K.faults out.new) → ¬ Rose (L.faults link.old) (L.faults link.new)

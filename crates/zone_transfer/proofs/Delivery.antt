@@ -258,6 +258,7 @@ leaves : (a : Asking) (before handles : List Commit) (s : Session) (vs : List Ve
 leaves a before handles s vs c v base is m k =
     let last = sym (current_version a.base vs) ∙ ap (λ l. last_or (Some a.base.version) l) is ∙ ap (λ b. last_or (Some b) (made c)) (sym base) ∙ k.stands in
     subst (λ (u : Version). Same u v) (sym (ap (λ x. x.version) m.current ∙ same_version_as (commit_after a.base vs).version k.last last)) k.same
+
 -- ---- the answer
 
 base_of : (a : Asking) (replies : List (List ℕ)) (gave : Outcome) → (course_so_far a replies gave).base ≡ a.base.version
@@ -265,7 +266,7 @@ unfolding course_so_far
 base_of a replies gave = refl
 
 module _ (Sends : List ℕ → Option (List Sending) → Type 0) (a : Asking) (at longest : ℕ) (v : Version) (w : List ℕ) (one : sent_whole a at v ≡ w ∷ []) (grant : IsGranted Sends a at longest v)
-  (headed : has_header (asked_octets a) ≡ true) (course : (gave : Outcome) → Succeeds (course_so_far a (w ∷ []) gave) v) (o n : LinkLists) (before handles : List Commit) (s : Session) where
+    (headed : has_header (asked_octets a) ≡ true) (course : (gave : Outcome) → Succeeds (course_so_far a (w ∷ []) gave) v) (o n : LinkLists) (before handles : List Commit) (s : Session) where
   whole : (x : SyncOk) → Transfers a (w ∷ []) before handles s (Ok x) → Same s.current.version v
   whole x t = leaves a before handles s t.versions (course_so_far a (w ∷ []) Ended) v (base_of a (w ∷ []) Ended) t.spelt t.made (course Ended)
 

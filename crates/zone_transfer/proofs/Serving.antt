@@ -50,9 +50,9 @@ sends_on items Left After old mid new item b m some is k n e = record {
   left = n.2;
   link = link_on old mid new [] [] k.sent [] [] [] (m ∷ []) [] k.link (reply_taken mid new m e);
   joined = k.joined ∙ ap (λ l. joined_to k.sent (sent_by l)) n.1
-    ∙ ap (λ r. joined_to k.sent (record { messages = message_in r ++ (sent_by n.0).messages; fails = (sent_by n.0).fails })) some
-    ∙ ap (λ x. joined_to k.sent (record { messages = x ∷ (sent_by n.0).messages; fails = (sent_by n.0).fails })) (sym is)
-    ∙ ap (λ l. joined_to [] (record { messages = l; fails = (sent_by n.0).fails })) (sym (append_assoc k.sent (m ∷ []) (sent_by n.0).messages));
+      ∙ ap (λ r. joined_to k.sent (record { messages = message_in r ++ (sent_by n.0).messages; fails = (sent_by n.0).fails })) some
+      ∙ ap (λ x. joined_to k.sent (record { messages = x ∷ (sent_by n.0).messages; fails = (sent_by n.0).fails })) (sym is)
+      ∙ ap (λ l. joined_to [] (record { messages = l; fails = (sent_by n.0).fails })) (sym (append_assoc k.sent (m ∷ []) (sent_by n.0).messages));
 }
 
 -- there is no further item

@@ -139,4 +139,3 @@ returns-clause-failed g c h =
     let st = c.in_ok-request.ensures.begun before in
     let steady = c.in_ok-serve.ensures.steady (λ k. absurd (cc k)) ∙ c.in_ok-asked.ensures.steady (λ k. absurd (cc k)) ∙ c.in_ok-send_request.ensures.steady (λ k. absurd (cc k)) in
     subst (λ n. Rose n (g.L.Link.faults c.take_replies.new.link)) steady (c.take_replies.ensures.failed a before st h)
-
