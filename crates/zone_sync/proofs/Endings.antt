@@ -5,6 +5,7 @@ use Rattle.std.proofs.Common.{refl, sym, ap, subst, ◌∙◌, inl, inr, eq-eqb}
 use Rattle.dns_name.specs.Names.{Name, same_name}
 use Rattle.tsig_port.specs.Tsig.{TsigKey}
 use Rattle.zone_types.specs.Version.{Version}
+use Rattle.zone_types.specs.Commits.{Commit}
 use Rattle.zone_types.specs.Session.{Session}
 use Rattle.zone_types.specs.Offer.{Provider, is_granted}
 use Rattle.zone_types.proofs.Folded.{same_name-Decides}
@@ -20,10 +21,24 @@ use Rattle.zone_transfer.specs.declared.outcome.SyncError.TheVariants as why
 use Rattle.zone_script.specs.Script as scripts
 use Rattle.zone_script.specs.Script.{script_of}
 use Rattle.zone_script.specs.ScriptReaders.{readers_so_far}
+use Rattle.zone_script.specs.Keeping.{Gives}
+use Rattle.zone_script.specs.declared.script.Script.{Script as ReadScript}
 use Rattle.zone_sync.specs.Notices.{is_reported}
-use Rattle.zone_sync.specs.Reported.{Ran, FitsLink, NamedLine, status_by, provider_of, primary_version, asking_in}
+use Rattle.zone_sync.specs.Reported.{TookReport, Ran, FitsLink, asking_with, NamedLine, status_by, provider_of, primary_version, asking_in}
 use Rattle.zone_sync.specs.declared.program.Status.{Status}
 use Rattle.zone_sync.specs.declared.program.Status.TheVariants.{Done, Refused, Usage, Script, SourceFault, SinkFault, Memory, LinkFault, TooLong}
+
+-- a run of a script that was read is one of the script that the text spells
+pub ran_so : (SendsOf : Provider → TsigKey → ℕ → List ℕ → Option (List Sending) → Type 0) (text : List ℕ) (longest : ℕ) (old new : Option LinkLists) (f g : ℕ) (taken_old taken_new : Option (List ℕ)) (status : Status) (s : ReadScript)
+    → ((t : scripts.Script TsigKey) × (script_of readers_so_far text ≡ Ok t) × Gives t s)
+    → TookReport (SendsOf (provider_of s.primary.version s.key) s.key s.at_primary) (asking_with s.key s.at_secondary s.secondary) s.at_primary longest old new f g taken_old taken_new status
+    → Ran SendsOf text longest old new f g taken_old taken_new status
+ran_so SendsOf text longest old new f g taken_old taken_new status s (t, spells, gives) took =
+    let at = subst (λ (n : ℕ). TookReport (SendsOf (provider_of s.primary.version s.key) s.key n) (asking_with s.key s.at_secondary s.secondary) n longest old new f g taken_old taken_new status) gives.at_primary took in
+    let zone = subst (λ (z : Commit). TookReport (SendsOf (provider_of z.version s.key) s.key t.at_primary) (asking_with s.key s.at_secondary s.secondary) t.at_primary longest old new f g taken_old taken_new status) gives.primary at in
+    let later = subst (λ (n : ℕ). TookReport (SendsOf (provider_of (primary_version t) s.key) s.key t.at_primary) (asking_with s.key n s.secondary) t.at_primary longest old new f g taken_old taken_new status) gives.at_secondary zone in
+    let own = subst (λ (z : Commit). TookReport (SendsOf (provider_of (primary_version t) s.key) s.key t.at_primary) (asking_with s.key t.at_secondary z) t.at_primary longest old new f g taken_old taken_new status) gives.secondary later in
+    record { script = t; spells = spells; key = s.key; keyed = gives.key; took = own }
 
 -- the program's primary grants the zone to the script's key
 granted_to_one : (name : Name) (n : ℕ) → list_any (λ (k : Name × ℕ). same_name k.0 name && (k.1 == n)) ((name, n) ∷ []) ≡ true
