@@ -19,15 +19,15 @@ use Rattle.zone_sync.specs.Reported.{Reports, status_by, asking_with}
 use Rattle.zone_sync.specs.declared.program.Status.{Status}
 use Rattle.zone_sync.specs.declared.program.Status.TheVariants.{LinkFault}
 
--- an answer with an outcome has a status with a report
-pub outcome_is_reported : (answer : Result SyncOk SyncError) (status : Status) (P : Outcome → Type 0) → status ≡ status_by answer → IsSomeAnd (outcome_of answer) P → IsTrue (is_reported status)
-outcome_is_reported answer status P e h = subst (λ s. IsTrue (is_reported s)) (sym e) (by answer h)
+-- a status that comes with a report
+pub ends_reported : (a : Asking) (longest : ℕ) (old new : Option LinkLists) (octets : List ℕ) (status : Status) → Reports a longest old new octets status → IsTrue (is_reported status)
+ends_reported a longest old new octets status r = subst (λ s. IsTrue (is_reported s)) (sym r.ended) (by r.answer r.names)
   where
-    by : (r : Result SyncOk SyncError) → IsSomeAnd (outcome_of r) P → IsTrue (is_reported (status_by r))
-    by (Ok done) x = refl
-    by (Err why.LinkFault) x = refl
-    by (Err why.Memory) x = absurd x
-    by (Err e) x = refl
+    by : (answer : Result SyncOk SyncError) → outcome_of answer ≡ Some r.how → IsTrue (is_reported (status_by answer))
+    by (Ok done) h = refl
+    by (Err why.LinkFault) h = refl
+    by (Err why.Memory) h = cc
+    by (Err e) h = refl
 
 -- a status of a failed link is that of its answer
 pub link_failed : (answer : Result SyncOk SyncError) (status : Status) → status ≡ status_by answer → status ≡ LinkFault → answer ≡ Err why.LinkFault
@@ -58,7 +58,7 @@ reports_so a longest old new handles s answer octets n last status says counted 
       handles = handles;
       session = s;
       says = says;
-      ends = ends;
+      ended = ends;
       how = how;
       names = e;
       is = is ∙ ap (λ m. report record_wire how m last.version [] []) counted ∙ ap (λ z. report record_wire how (length handles) z.version [] []) current;
