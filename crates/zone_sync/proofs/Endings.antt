@@ -5,7 +5,6 @@ use Rattle.std.proofs.Common.{refl, sym, ap, subst, ◌∙◌, inl, inr, eq-eqb}
 use Rattle.dns_name.specs.Names.{Name, same_name}
 use Rattle.tsig_port.specs.Tsig.{TsigKey}
 use Rattle.zone_types.specs.Version.{Version}
-use Rattle.zone_types.specs.Commits.{Commit}
 use Rattle.zone_types.specs.Session.{Session}
 use Rattle.zone_types.specs.Offer.{Provider, is_granted}
 use Rattle.zone_types.proofs.Folded.{same_name-Decides}
@@ -21,24 +20,9 @@ use Rattle.zone_transfer.specs.declared.outcome.SyncError.TheVariants as why
 use Rattle.zone_script.specs.Script as scripts
 use Rattle.zone_script.specs.Script.{script_of}
 use Rattle.zone_script.specs.ScriptReaders.{readers_so_far}
-use Rattle.zone_script.specs.Keeping.{Gives}
-use Rattle.zone_script.specs.declared.script.Script.{Script as ReadScript}
-use Rattle.zone_sync.specs.Notices.{is_reported}
-use Rattle.zone_sync.specs.Reported.{TookReport, Ran, FitsLink, asking_with, NamedLine, status_by, provider_of, primary_version, asking_in}
+use Rattle.zone_sync.specs.Reported.{Ran, IsDue, Took, FitsLink, status_by, provider_of, primary_version, asking_in}
 use Rattle.zone_sync.specs.declared.program.Status.{Status}
 use Rattle.zone_sync.specs.declared.program.Status.TheVariants.{Done, Refused, Usage, Script, SourceFault, SinkFault, Memory, LinkFault, TooLong}
-
--- a run of a script that was read is one of the script that the text spells
-pub ran_so : (SendsOf : Provider → TsigKey → ℕ → List ℕ → Option (List Sending) → Type 0) (text : List ℕ) (longest : ℕ) (old new : Option LinkLists) (f g : ℕ) (taken_old taken_new : Option (List ℕ)) (status : Status) (s : ReadScript)
-    → ((t : scripts.Script TsigKey) × (script_of readers_so_far text ≡ Ok t) × Gives t s)
-    → TookReport (SendsOf (provider_of s.primary.version s.key) s.key s.at_primary) (asking_with s.key s.at_secondary s.secondary) s.at_primary longest old new f g taken_old taken_new status
-    → Ran SendsOf text longest old new f g taken_old taken_new status
-ran_so SendsOf text longest old new f g taken_old taken_new status s (t, spells, gives) took =
-    let at = subst (λ (n : ℕ). TookReport (SendsOf (provider_of s.primary.version s.key) s.key n) (asking_with s.key s.at_secondary s.secondary) n longest old new f g taken_old taken_new status) gives.at_primary took in
-    let zone = subst (λ (z : Commit). TookReport (SendsOf (provider_of z.version s.key) s.key t.at_primary) (asking_with s.key s.at_secondary s.secondary) t.at_primary longest old new f g taken_old taken_new status) gives.primary at in
-    let later = subst (λ (n : ℕ). TookReport (SendsOf (provider_of (primary_version t) s.key) s.key t.at_primary) (asking_with s.key n s.secondary) t.at_primary longest old new f g taken_old taken_new status) gives.at_secondary zone in
-    let own = subst (λ (z : Commit). TookReport (SendsOf (provider_of (primary_version t) s.key) s.key t.at_primary) (asking_with s.key t.at_secondary z) t.at_primary longest old new f g taken_old taken_new status) gives.secondary later in
-    record { script = t; spells = spells; key = s.key; keyed = gives.key; took = own }
 
 -- the program's primary grants the zone to the script's key
 granted_to_one : (name : Name) (n : ℕ) → list_any (λ (k : Name × ℕ). same_name k.0 name && (k.1 == n)) ((name, n) ∷ []) ≡ true
@@ -62,10 +46,6 @@ good_status v s (Err (why.Iteration x)) d = absurd d
 good_status v s (Err (why.Update x)) d = absurd d
 good_status v s (Err why.VersionsExhausted) d = absurd d
 
--- a script that is spelt has no bad line
-spelt_is_not_bad : (text : List ℕ) (t : scripts.Script TsigKey) (n : ℕ) → script_of readers_so_far text ≡ Ok t → script_of readers_so_far text ≡ Err n → ⊥
-spelt_is_not_bad text t n e f = let clash : Ok t ≡ Err n = sym e ∙ f in cc
-
 module _ (SendsOf : Provider → TsigKey → ℕ → List ℕ → Option (List Sending) → Type 0)
     (grants : (p : Provider) (key : TsigKey) (a : Asking) (at longest : ℕ) → a.key ≡ key → is_granted p.grants (Some (key_id key)) ≡ true → Fits a at p.kept → length (asked_octets a) ≤ min longest 65535 → IsGranted (SendsOf p key at) a at longest p.kept)
     (text : List ℕ) (t : scripts.Script TsigKey) (key : TsigKey) (longest : ℕ) (old new : Option LinkLists) (f g : ℕ) (taken_old taken_new : Option (List ℕ)) (spelt : script_of readers_so_far text ≡ Ok t) (fits : FitsLink t key longest) (honest : WasHonest old new f g) where
@@ -85,26 +65,26 @@ module _ (SendsOf : Provider → TsigKey → ℕ → List ℕ → Option (List S
       subst (λ (x : TsigKey). FitsLink u x longest) (same_key key k (sym mine.keyed ∙ keyed)) mine
 
   -- a run that was reported ends so
-  reported_well : (s : Status) → Ran SendsOf text longest old new f g taken_old taken_new s → (s ≡ Done) ⊎ (s ≡ Memory)
-  reported_well s r =
-      let fit = fits_too r.script r.key r.spells r.keyed in
+  reported_well : (octets : List ℕ) (s : Status) → Ran SendsOf (Some text) longest old new f g octets s → (s ≡ Done) ⊎ (s ≡ Memory)
+  reported_well octets s r =
+      let fit = fits_too r.script r.key (subst (λ (x : List ℕ). script_of readers_so_far x ≡ Ok r.script) r.whole r.spells) r.keyed in
       let v = primary_version r.script in
-      let k = r.took.reports in
+      let k = r.reports in
       let grant = grants (provider_of v r.key) r.key (asking_in r.script r.key) r.script.at_primary longest refl (granted_to_one r.key.name (key_id r.key).1) fit.fits fit.request_fits in
       ends_by (good_status v k.session k.answer (k.transfer.delivers v grant honest))
     where
-      ends_by : (status_by r.took.reports.answer ≡ Done) ⊎ (status_by r.took.reports.answer ≡ Memory) → (s ≡ Done) ⊎ (s ≡ Memory)
-      ends_by (inl e) = inl (r.took.reports.ends ∙ e)
-      ends_by (inr e) = inr (r.took.reports.ends ∙ e)
+      ends_by : (status_by r.reports.answer ≡ Done) ⊎ (status_by r.reports.answer ≡ Memory) → (s ≡ Done) ⊎ (s ≡ Memory)
+      ends_by (inl e) = inl (r.reports.ended ∙ e)
+      ends_by (inr e) = inr (r.reports.ended ∙ e)
 
-  pub delivers_so : (SinkFaults : Type 0) (s : Status) → (s ≢ Usage) × (s ≢ SourceFault) × (s ≢ TooLong) → (s ≡ Script → NamedLine text taken_old taken_new) → (s ≡ SinkFault → SinkFaults)
-      → (IsTrue (is_reported s) → Ran SendsOf text longest old new f g taken_old taken_new s) → ¬ SinkFaults → (s ≡ Done) ⊎ (s ≡ Memory)
-  delivers_so SinkFaults Done others named sink ran no_sink = inl refl
-  delivers_so SinkFaults Memory others named sink ran no_sink = inr refl
-  delivers_so SinkFaults Refused others named sink ran no_sink = reported_well Refused (ran refl)
-  delivers_so SinkFaults LinkFault others named sink ran no_sink = reported_well LinkFault (ran refl)
-  delivers_so SinkFaults Usage others named sink ran no_sink = absurd (others.0 refl)
-  delivers_so SinkFaults SourceFault others named sink ran no_sink = absurd (others.1 refl)
-  delivers_so SinkFaults TooLong others named sink ran no_sink = absurd (others.2 refl)
-  delivers_so SinkFaults Script others named sink ran no_sink = absurd (spelt_is_not_bad text t (named refl).number spelt (named refl).bad)
-  delivers_so SinkFaults SinkFault others named sink ran no_sink = absurd (no_sink (sink refl))
+  pub delivers_so : (SinkFaults : Type 0) (s : Status) → (s ≢ Usage) × (s ≢ SourceFault) × (s ≢ TooLong) × (s ≢ Script) → (s ≡ SinkFault → SinkFaults)
+      → (s ≢ SinkFault → Took (λ octets. IsDue SendsOf (Some text) longest old new f g octets s) taken_old taken_new) → ¬ SinkFaults → (s ≡ Done) ⊎ (s ≡ Memory)
+  delivers_so SinkFaults Done others sink written no_sink = inl refl
+  delivers_so SinkFaults Memory others sink written no_sink = inr refl
+  delivers_so SinkFaults Refused others sink written no_sink = let t = written (λ e. cc e) in reported_well t.octets Refused t.due
+  delivers_so SinkFaults LinkFault others sink written no_sink = let t = written (λ e. cc e) in reported_well t.octets LinkFault t.due
+  delivers_so SinkFaults Usage others sink written no_sink = absurd (others.0 refl)
+  delivers_so SinkFaults SourceFault others sink written no_sink = absurd (others.1 refl)
+  delivers_so SinkFaults TooLong others sink written no_sink = absurd (others.2 refl)
+  delivers_so SinkFaults Script others sink written no_sink = absurd (others.3 refl)
+  delivers_so SinkFaults SinkFault others sink written no_sink = absurd (no_sink (sink refl))

@@ -21,15 +21,15 @@ use Rattle.zone_sync.specs.Reported.{Reports, status_by, asking_with}
 use Rattle.zone_sync.specs.declared.program.Status.{Status}
 use Rattle.zone_sync.specs.declared.program.Status.TheVariants.{LinkFault}
 
--- an answer with an outcome has a status with a report
-pub outcome_is_reported : (answer : Result SyncOk SyncError) (status : Status) (P : Outcome → Type 0) → status ≡ status_by answer → IsSomeAnd (outcome_of answer) P → IsTrue (is_reported status)
-outcome_is_reported answer status P e h = subst (λ s. IsTrue (is_reported s)) (sym e) (by answer h)
+-- a status that comes with a report
+pub ends_reported : (Sends : List ℕ → Option (List Sending) → Type 0) (a : Asking) (at longest : ℕ) (old new : Option LinkLists) (f g : ℕ) (octets : List ℕ) (status : Status) → Reports Sends a at longest old new f g octets status → IsTrue (is_reported status)
+ends_reported Sends a at longest old new f g octets status r = subst (λ s. IsTrue (is_reported s)) (sym r.ended) (by r.answer r.names)
   where
-    by : (r : Result SyncOk SyncError) → IsSomeAnd (outcome_of r) P → IsTrue (is_reported (status_by r))
-    by (Ok done) x = refl
-    by (Err why.LinkFault) x = refl
-    by (Err why.Memory) x = absurd x
-    by (Err e) x = refl
+    by : (answer : Result SyncOk SyncError) → outcome_of answer ≡ Some r.how → IsTrue (is_reported (status_by answer))
+    by (Ok done) h = refl
+    by (Err why.LinkFault) h = refl
+    by (Err why.Memory) h = cc
+    by (Err e) h = refl
 
 -- a status of a failed link is that of its answer
 pub link_failed : (answer : Result SyncOk SyncError) (status : Status) → status ≡ status_by answer → status ≡ LinkFault → answer ≡ Err why.LinkFault
@@ -61,7 +61,7 @@ module _ (Sends : List ℕ → Option (List Sending) → Type 0) (at longest : �
         handles = handles;
         session = s;
         transfer = says;
-        ends = ends;
+        ended = ends;
         how = how;
         names = e;
         is = is ∙ ap (λ m. report record_wire how m last.version [] []) counted ∙ ap (λ z. report record_wire how (length handles) z.version [] []) current;

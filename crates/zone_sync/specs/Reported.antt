@@ -1,5 +1,5 @@
--- What a run of the program wrote: the report of the transfer that a script asks for, or the number of a bad line.
-use Rattle.std.specs.Prelude.{◌≡◌, ℕ, ◌≤◌, List, [], ◌∷◌, length, min, false, Option, Some, Result, Ok, Err}
+-- What a run of the program writes: the report of the transfer that a script asks for, the number of a bad line, or a notice.
+use Rattle.std.specs.Prelude.{◌≡◌, ℕ, List, [], length, take, Option, Some, IfSome, Result, Ok, Err, ◌≤◌, ◌∷◌, min, false}
 use Rattle.dns_rdata.specs.Records.{record_wire}
 use Rattle.tsig_port.specs.Tsig.{TsigKey}
 use Rattle.zone_types.specs.Commits.{Commit}
@@ -24,37 +24,31 @@ use Rattle.zone_script.specs.Script.{Script, script_of, secondary_version}
 use Rattle.zone_script.specs.ScriptReaders.{readers_so_far}
 use Rattle.zone_sync.specs.Report.{report}
 use Rattle.zone_sync.specs.Streams.{with_more}
-use Rattle.zone_sync.specs.Notices.{bad_line}
+use Rattle.zone_sync.specs.Notices.{usage_line, fault_line, long_line, bad_line}
 use Rattle.zone_sync.specs.declared.program.Status.{Status}
-use Rattle.zone_sync.specs.declared.program.Status.TheVariants.{Done, Refused, Memory, LinkFault}
+use Rattle.zone_sync.specs.declared.program.Status.TheVariants as ends
 
 -- the status of a transfer's answer
 abbrev pub status_by : Result SyncOk SyncError → Status
-status_by (Ok done) = Done
-status_by (Err why.LinkFault) = LinkFault
-status_by (Err why.Memory) = Memory
-status_by (Err _) = Refused
+status_by (Ok done) = ends.Done
+status_by (Err why.LinkFault) = ends.LinkFault
+status_by (Err why.Memory) = ends.Memory
+status_by (Err _) = ends.Refused
 
 -- a secondary asks for the whole zone, with a key, at a moment, and at this commit of its own zone
 abbrev pub asking_with : TsigKey → ℕ → Commit → Asking
 asking_with key at base = record { key = key; mode = Axfr; at = at; base = base }
 
--- a transfer was answered, its answer has that status, and octets are its report: outcome, count of versions made, and the records of the last version
+-- a transfer was answered so that it ends with that status, and octets are its report: outcome, count of versions made, and the records of the last one
 pub record Reports (Sends : List ℕ → Option (List Sending) → Type 0) (a : Asking) (at longest : ℕ) (old new : Option LinkLists) (faults_old faults_new : ℕ) (octets : List ℕ) (status : Status) : Type 0 where
   pub answer : Result SyncOk SyncError
   pub handles : List Commit
   pub session : Session
   pub transfer : Synchronizes Sends a at longest old new faults_old faults_new [] handles session answer
-  pub ends : status ≡ status_by answer
+  pub ended : status ≡ status_by answer
   pub how : Outcome
   pub names : outcome_of answer ≡ Some how
   pub is : octets ≡ report record_wire how (length handles) session.current.version [] []
-
--- a sink took that report
-pub record TookReport (Sends : List ℕ → Option (List Sending) → Type 0) (a : Asking) (at longest : ℕ) (old new : Option LinkLists) (faults_old faults_new : ℕ) (taken_old taken_new : Option (List ℕ)) (status : Status) : Type 0 where
-  pub octets : List ℕ
-  pub reports : Reports Sends a at longest old new faults_old faults_new octets status
-  pub taken : taken_new ≡ with_more octets taken_old
 
 -- the primary of a script: it keeps this version, without differences, and grants it to the key
 abbrev pub provider_of : Version → TsigKey → Provider
@@ -67,13 +61,15 @@ primary_version script = close (opened script.primary)
 abbrev pub asking_in : Script TsigKey → TsigKey → Asking
 asking_in script key = asking_with key script.at_secondary (record { number = 0; version = secondary_version script })
 
--- a text spells a script, and a sink took the report of its transfer, from a primary of the script's zone and key that sends so
-pub record Ran (SendsOf : Provider → TsigKey → ℕ → List ℕ → Option (List Sending) → Type 0) (text : List ℕ) (longest : ℕ) (old new : Option LinkLists) (faults_old faults_new : ℕ) (taken_old taken_new : Option (List ℕ)) (status : Status) : Type 0 where
+-- what the source had, where it tells it, spells a script, and octets are the report of its transfer from a primary of the script's zone and key that sends so
+pub record Ran (SendsOf : Provider → TsigKey → ℕ → List ℕ → Option (List Sending) → Type 0) (left : Option (List ℕ)) (longest : ℕ) (old new : Option LinkLists) (faults_old faults_new : ℕ) (octets : List ℕ) (status : Status) : Type 0 where
+  pub text : List ℕ
+  pub whole : IfSome left (λ had. text ≡ had)
   pub script : Script TsigKey
   pub spells : script_of readers_so_far text ≡ Ok script
   pub key : TsigKey
   pub keyed : script.key ≡ Some key
-  pub took : TookReport (SendsOf (provider_of (primary_version script) key) key script.at_primary) (asking_in script key) script.at_primary longest old new faults_old faults_new taken_old taken_new status
+  pub reports : Reports (SendsOf (provider_of (primary_version script) key) key script.at_primary) (asking_in script key) script.at_primary longest old new faults_old faults_new octets status
 
 -- a script whose zones, key and moments fit each other, and whose request fits the link
 pub record FitsLink (script : Script TsigKey) (key : TsigKey) (longest : ℕ) : Type 0 where
@@ -81,8 +77,34 @@ pub record FitsLink (script : Script TsigKey) (key : TsigKey) (longest : ℕ) : 
   pub fits : Fits (asking_in script key) script.at_primary (primary_version script)
   pub request_fits : length (asked_octets (asking_in script key)) ≤ min longest 65535
 
--- a script's first bad line was named to a sink
-pub record NamedLine (text : List ℕ) (old new : Option (List ℕ)) : Type 0 where
+-- .. is no script, and octets name its first bad line
+pub record NamesLine (left : Option (List ℕ)) (octets : List ℕ) : Type 0 where
+  pub text : List ℕ
+  pub whole : IfSome left (λ had. text ≡ had)
   pub number : ℕ
   pub bad : script_of readers_so_far text ≡ Err number
-  pub taken : new ≡ with_more (bad_line number) old
+  pub is : octets ≡ bad_line number
+
+-- what there is to write with a status; with that of a failed sink nothing is, and a first part of what another status would have written was taken
+abbrev pub IsDue : (Provider → TsigKey → ℕ → List ℕ → Option (List Sending) → Type 0) → Option (List ℕ) → ℕ → Option LinkLists → Option LinkLists → ℕ → ℕ → List ℕ → Status → Type 0
+IsDue SendsOf left longest old new f g octets ends.Usage = octets ≡ usage_line
+IsDue SendsOf left longest old new f g octets ends.Script = NamesLine left octets
+IsDue SendsOf left longest old new f g octets ends.SourceFault = octets ≡ fault_line
+IsDue SendsOf left longest old new f g octets ends.TooLong = octets ≡ long_line
+IsDue SendsOf left longest old new f g octets ends.Memory = octets ≡ []
+IsDue SendsOf left longest old new f g octets ends.SinkFault = ⊥
+IsDue SendsOf left longest old new f g octets status = Ran SendsOf left longest old new f g octets status
+
+-- a sink took octets of which this holds
+pub record Took (Holds : List ℕ → Type 0) (old new : Option (List ℕ)) : Type 0 where
+  pub octets : List ℕ
+  pub due : Holds octets
+  pub taken : new ≡ with_more octets old
+
+-- .. or a first part of what belongs to some status
+pub record TookFirst (Holds : List ℕ → Status → Type 0) (old new : Option (List ℕ)) : Type 0 where
+  pub octets : List ℕ
+  pub status : Status
+  pub count : ℕ
+  pub due : Holds octets status
+  pub taken : new ≡ with_more (take count octets) old

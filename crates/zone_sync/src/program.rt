@@ -1,13 +1,13 @@
 //! The program over its streams and its link.
-ghost use Rattle.std.specs.Prelude.{◌≡◌, ◌≢◌, ◌⊎◌, ◌<◌, ◌≤◌, ℕ, List, Some, Ok, Err, map, length, string_bytes, IfOk, IfSome, IsTrue};
+ghost use Rattle.std.specs.Prelude.{◌≡◌, ◌≢◌, ◌⊎◌, ◌<◌, ◌≤◌, ℕ, List, Some, Ok, Err, map, length, take, string_bytes, IfOk, IfSome, IsTrue};
 ghost use Rattle.zone_types.specs.TransferText.{Axfr};
 ghost use Rattle.zone_transfer.specs.Links.{Rose};
 ghost use Rattle.zone_sync.specs.Streams.{with_more, emptied};
-ghost use Rattle.zone_sync.specs.Reported.{Reports, TookReport, Ran, FitsLink, NamedLine, status_by, asking_with, provider_of};
+ghost use Rattle.zone_sync.specs.Reported.{Reports, FitsLink, provider_of, IsDue, Took, TookFirst, status_by, asking_with};
 ghost use Rattle.zone_sync.specs.Primaries.{refuser};
 ghost use Rattle.zone_transfer.specs.Serving.{request_at};
 ghost use Rattle.zone_transfer.specs.Delivery.{WasHonest};
-ghost use Rattle.zone_sync.specs.Notices.{usage_line, fault_line, long_line, bad_line, is_fault, is_reported, is_read};
+ghost use Rattle.zone_sync.specs.Notices.{bad_line, is_fault, is_reported, is_read};
 ghost use Rattle.zone_script.specs.Script as scripts;
 ghost use Rattle.zone_script.specs.Script.{script_of};
 ghost use Rattle.tsig_port.specs.Tsig.{TsigKey};
@@ -96,38 +96,33 @@ pub fn run<S: Source, K: Sink, L: Link>(
     out: &mut K,
     link: &mut L,
 ) -> Status
+    // What is written with each status; with status 5 a first part of it.
+    ensures written { result ≢ Status.SinkFault → Took (λ octets. IsDue (λ provider key at m. ⟦<Primary as Service<()>>⟧.Sends ((refuser, provider), key) (request_at m at)) (S.remaining src.old) (L.longest link.old) (L.lists link.old) (L.lists link.new) (L.faults link.old) (L.faults link.new) octets result) (K.taken out.old) (K.taken out.new) }
+    ensures part { result ≡ Status.SinkFault → TookFirst (IsDue (λ provider key at m. ⟦<Primary as Service<()>>⟧.Sends ((refuser, provider), key) (request_at m at)) (S.remaining src.old) (L.longest link.old) (L.lists link.old) (L.lists link.new) (L.faults link.old) (L.faults link.new)) (K.taken out.old) (K.taken out.new) }
     // Other words are answered by status 2 alone, or by 5, and nothing is read.
     ensures usage { result ≡ Status.Usage → form_of (map string_bytes words.now) ≢ Some (Transfer Axfr 0) }
     ensures no_form { form_of (map string_bytes words.now) ≢ Some (Transfer Axfr 0) → (result ≡ Status.Usage) ⊎ (result ≡ Status.SinkFault) }
     ensures unread { form_of (map string_bytes words.now) ≢ Some (Transfer Axfr 0) → src.new ≡ src.old }
-    ensures usage_line { result ≡ Status.Usage → K.taken out.new ≡ with_more usage_line (K.taken out.old) }
     // The statuses of faults come where a count of faults rose, and only want of memory and a later fault hide one.
     ensures source_fault { result ≡ Status.SourceFault → Rose (S.faults src.old) (S.faults src.new) }
     ensures sink_fault { result ≡ Status.SinkFault → Rose (K.faults out.old) (K.faults out.new) }
     ensures link_fault { result ≡ Status.LinkFault → Rose (L.faults link.old) (L.faults link.new) }
     ensures source_fails { S.faults src.old < S.faults src.new → (result ≡ Status.SourceFault) ⊎ (result ≡ Status.SinkFault) }
     ensures sink_fails { K.faults out.old < K.faults out.new → result ≡ Status.SinkFault }
-    ensures fault_line { result ≡ Status.SourceFault → K.taken out.new ≡ with_more fault_line (K.taken out.old) }
     // A script is too long exactly where it has more octets, and else a line is named exactly where the definition names it.
-    ensures script { result ≡ Status.Script → IfSome (S.remaining src.old) (λ text. NamedLine text (K.taken out.old) (K.taken out.new)) }
-    ensures bad_script { (text : List ℕ) (n : ℕ) → form_of (map string_bytes words.now) ≡ Some (Transfer Axfr 0) → S.remaining src.old ≡ Some text → length text ≤ MOST_OCTETS → script_of readers_so_far text ≡ Err n → (result ≡ Status.Script) ⊎ IsTrue (is_fault result) }
+    ensures long { result ≡ Status.TooLong → IfSome (S.remaining src.old) (λ left. MOST_OCTETS < length left) }
     ensures too_long { (text : List ℕ) → form_of (map string_bytes words.now) ≡ Some (Transfer Axfr 0) → S.remaining src.old ≡ Some text → MOST_OCTETS < length text → (result ≡ Status.TooLong) ⊎ IsTrue (is_fault result) }
-    ensures long_line { result ≡ Status.TooLong → K.taken out.new ≡ with_more long_line (K.taken out.old) }
-    // On the statuses 0, 1 and 7 the source spelt a script, its transfer was answered so, and the sink took the report of that and nothing else.
-    ensures ran { IsTrue (is_reported result) → (text : List ℕ) × IfSome (S.remaining src.old) (λ octets. text ≡ octets)
-        × Ran (λ provider key at m. ⟦<Primary as Service<()>>⟧.Sends ((refuser, provider), key) (request_at m at)) text (L.longest link.old) (L.lists link.old) (L.lists link.new) (L.faults link.old) (L.faults link.new)
-        (K.taken out.old) (K.taken out.new) result }
-    // Where a script is spelt and no call failed, that is how it ends, or for want of memory.
+    ensures bad_script { (text : List ℕ) (n : ℕ) → form_of (map string_bytes words.now) ≡ Some (Transfer Axfr 0) → S.remaining src.old ≡ Some text → length text ≤ MOST_OCTETS → script_of readers_so_far text ≡ Err n → (result ≡ Status.Script) ⊎ IsTrue (is_fault result) }
+    // Where a script is spelt and no call failed, the transfer is answered, or memory ran out.
     ensures completes { (text : List ℕ) (script : scripts.Script TsigKey) → form_of (map string_bytes words.now) ≡ Some (Transfer Axfr 0) → S.remaining src.old ≡ Some text → length text ≤ MOST_OCTETS
         → script_of readers_so_far text ≡ Ok script → ¬ Rose (S.faults src.old) (S.faults src.new) → ¬ Rose (K.faults out.old) (K.faults out.new) → ¬ Rose (L.faults link.old) (L.faults link.new)
         → (result ≡ Status.Done) ⊎ ((result ≡ Status.Refused) ⊎ (result ≡ Status.Memory)) }
-    // .. and where the script's parts fit each other and the link was honest, it ends with 0, or for want of memory.
+    // .. and where the script's parts fit each other and the link was honest, it ends well, or memory ran out.
     ensures delivers { (text : List ℕ) (script : scripts.Script TsigKey) (key : TsigKey) → form_of (map string_bytes words.now) ≡ Some (Transfer Axfr 0) → S.remaining src.old ≡ Some text → length text ≤ MOST_OCTETS
         → script_of readers_so_far text ≡ Ok script → FitsLink script key (L.longest link.old) → WasHonest (L.lists link.old) (L.lists link.new) (L.faults link.old) (L.faults link.new)
         → ¬ Rose (S.faults src.old) (S.faults src.new) → ¬ Rose (K.faults out.old) (K.faults out.new) → (result ≡ Status.Done) ⊎ (result ≡ Status.Memory) }
-    // The source was read to its end on these statuses, and on status 3.
+    // With a report or the number of a line, the source was read to its end.
     ensures none_left { IsTrue (is_read result) → S.remaining src.new ≡ emptied (S.remaining src.old) }
-    ensures long { result ≡ Status.TooLong → IfSome (S.remaining src.old) (λ left. MOST_OCTETS < length left) }
 {
     if !is_axfr(words) {
         return write_last(out, USAGE, Status::Usage);
@@ -145,6 +140,7 @@ fn write_last<K: Sink>(out: &mut K, octets: &[u8], status: Status) -> Status
     requires { status ≢ Status.SinkFault }
     ensures done { result ≢ Status.SinkFault → result ≡ status }
     ensures written { result ≢ Status.SinkFault → K.taken out.new ≡ with_more octets.now (K.taken out.old) }
+    ensures part { (n : ℕ) × (K.taken out.new ≡ with_more (take n octets.now) (K.taken out.old)) }
     ensures failed { result ≡ Status.SinkFault → Rose (K.faults out.old) (K.faults out.new) }
     ensures steady { result ≢ Status.SinkFault → K.faults out.new ≡ K.faults out.old }
 {
@@ -156,14 +152,14 @@ fn write_last<K: Sink>(out: &mut K, octets: &[u8], status: Status) -> Status
 
 /// Reads a script and runs it.
 fn run_script<K: Sink, L: Link>(alloc: Global, text: &[u8], out: &mut K, link: &mut L) -> Status
+    ensures written { result ≢ Status.SinkFault → Took (λ octets. IsDue (λ provider key at m. ⟦<Primary as Service<()>>⟧.Sends ((refuser, provider), key) (request_at m at)) (Some text.now) (L.longest link.old) (L.lists link.old) (L.lists link.new) (L.faults link.old) (L.faults link.new) octets result) (K.taken out.old) (K.taken out.new) }
+    ensures part { result ≡ Status.SinkFault → TookFirst (IsDue (λ provider key at m. ⟦<Primary as Service<()>>⟧.Sends ((refuser, provider), key) (request_at m at)) (Some text.now) (L.longest link.old) (L.lists link.old) (L.lists link.new) (L.faults link.old) (L.faults link.new)) (K.taken out.old) (K.taken out.new) }
     ensures sink_fault { result ≡ Status.SinkFault → Rose (K.faults out.old) (K.faults out.new) }
     ensures link_fault { result ≡ Status.LinkFault → Rose (L.faults link.old) (L.faults link.new) }
-    ensures ran { IsTrue (is_reported result) → Ran (λ provider key at m. ⟦<Primary as Service<()>>⟧.Sends ((refuser, provider), key) (request_at m at)) text.now (L.longest link.old) (L.lists link.old) (L.lists link.new) (L.faults link.old) (L.faults link.new)
-        (K.taken out.old) (K.taken out.new) result }
     ensures delivers { (script : scripts.Script TsigKey) (key : TsigKey) → script_of readers_so_far text.now ≡ Ok script → FitsLink script key (L.longest link.old)
         → WasHonest (L.lists link.old) (L.lists link.new) (L.faults link.old) (L.faults link.new) → ¬ Rose (K.faults out.old) (K.faults out.new) → (result ≡ Status.Done) ⊎ (result ≡ Status.Memory) }
     ensures steady { result ≢ Status.SinkFault → K.faults out.new ≡ K.faults out.old }
-    ensures script { result ≡ Status.Script → NamedLine text.now (K.taken out.old) (K.taken out.new) }
+    ensures script { (s : scripts.Script TsigKey) → script_of readers_so_far text.now ≡ Ok s → result ≢ Status.Script }
     ensures bad_script { (n : ℕ) → script_of readers_so_far text.now ≡ Err n → (result ≡ Status.Script) ⊎ IsTrue (is_fault result) }
     ensures others { (result ≢ Status.Usage) × (result ≢ Status.SourceFault) × (result ≢ Status.TooLong) }
 {
@@ -181,6 +177,8 @@ fn write_bad_line<K: Sink>(alloc: Global, out: &mut K, number: u64) -> Status
     ensures sink_fault { result ≡ Status.SinkFault → Rose (K.faults out.old) (K.faults out.new) }
     ensures steady { result ≢ Status.SinkFault → K.faults out.new ≡ K.faults out.old }
     ensures written { result ≡ Status.Script → K.taken out.new ≡ with_more (bad_line number) (K.taken out.old) }
+    ensures part { result ≡ Status.SinkFault → (n : ℕ) × (K.taken out.new ≡ with_more (take n (bad_line number)) (K.taken out.old)) }
+    ensures nothing { result ≡ Status.Memory → K.taken out.new ≡ K.taken out.old }
     ensures others { (result ≡ Status.Script) ⊎ ((result ≡ Status.SinkFault) ⊎ (result ≡ Status.Memory)) }
 {
     match format!(in alloc; "line {number}\n") {
@@ -198,8 +196,13 @@ fn run_transfer<K: Sink, L: Link>(
 ) -> Status
     ensures sink_fault { result ≡ Status.SinkFault → Rose (K.faults out.old) (K.faults out.new) }
     ensures link_fault { result ≡ Status.LinkFault → Rose (L.faults link.old) (L.faults link.new) }
-    ensures report { IsTrue (is_reported result) → TookReport (λ m. ⟦<Primary as Service<()>>⟧.Sends ((refuser, provider_of script.primary.version script.key), script.key) (request_at m script.at_primary))
-        (asking_with script.key script.at_secondary script.secondary) script.at_primary (L.longest link.old) (L.lists link.old) (L.lists link.new) (L.faults link.old) (L.faults link.new) (K.taken out.old) (K.taken out.new) result }
+    ensures written { IsTrue (is_reported result)
+        → Took (λ octets. Reports (λ m. ⟦<Primary as Service<()>>⟧.Sends ((refuser, provider_of script.primary.version script.key), script.key) (request_at m script.at_primary))
+        (asking_with script.key script.at_secondary script.secondary) script.at_primary (L.longest link.old) (L.lists link.old) (L.lists link.new) (L.faults link.old) (L.faults link.new) octets result) (K.taken out.old) (K.taken out.new) }
+    ensures part { result ≡ Status.SinkFault
+        → TookFirst (Reports (λ m. ⟦<Primary as Service<()>>⟧.Sends ((refuser, provider_of script.primary.version script.key), script.key) (request_at m script.at_primary))
+        (asking_with script.key script.at_secondary script.secondary) script.at_primary (L.longest link.old) (L.lists link.old) (L.lists link.new) (L.faults link.old) (L.faults link.new)) (K.taken out.old) (K.taken out.new) }
+    ensures nothing { result ≡ Status.Memory → K.taken out.new ≡ K.taken out.old }
     ensures steady { result ≢ Status.SinkFault → K.faults out.new ≡ K.faults out.old }
     ensures others { (result ≢ Status.Usage) × (result ≢ Status.SourceFault) × (result ≢ Status.TooLong) × (result ≢ Status.Script) }
 {
