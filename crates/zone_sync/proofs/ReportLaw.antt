@@ -1,6 +1,6 @@
 -- The report of a transfer, from what its parts ensure.
-use Rattle.std.specs.Prelude.{◌≡◌, ℕ, List, [], length, Option, Some, None, Result, Ok, Err, IsSomeAnd, IsTrue}
-use Rattle.std.proofs.Common.{refl, sym, ap, ◌∙◌, subst}
+use Rattle.std.specs.Prelude.{◌≡◌, ◌≢◌, ◌<◌, ℕ, List, [], length, Option, Some, None, Result, Ok, Err, IsSomeAnd, IsTrue}
+use Rattle.std.proofs.Common.{refl, sym, ap, ◌∙◌, subst, arith}
 use Rattle.dns_rdata.specs.Records.{record_wire}
 use Rattle.tsig_port.specs.Tsig.{TsigKey}
 use Rattle.zone_types.specs.Commits.{Commit}
@@ -40,6 +40,19 @@ link_failed answer status e f = by answer (sym e ∙ f)
     by (Err why.LinkFault) h = refl
     by (Err why.Memory) h = cc
     by (Err e) h = cc
+
+-- a count of faults that rose is that of the answer
+pub link_fails : (answer : Result SyncOk SyncError) (status : Status) (old new : ℕ) → status ≡ status_by answer → (answer ≢ Err why.LinkFault → new ≡ old) → old < new → status ≡ LinkFault
+link_fails answer status old new e steady rose = e ∙ by answer steady
+  where
+    not_steady : new ≡ old → ⊥
+    not_steady f = omega arith
+
+    by : (r : Result SyncOk SyncError) → (r ≢ Err why.LinkFault → new ≡ old) → status_by r ≡ LinkFault
+    by (Ok done) h = absurd (not_steady (h (λ f. cc)))
+    by (Err why.LinkFault) h = refl
+    by (Err why.Memory) h = absurd (not_steady (h (λ f. cc)))
+    by (Err e) h = absurd (not_steady (h (λ f. cc)))
 
 module _ (Sends : List ℕ → Option (List Sending) → Type 0) (at longest : ℕ) (old new : Option LinkLists) (f g : ℕ) where
   -- a transfer into a new list of handles

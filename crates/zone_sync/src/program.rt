@@ -109,6 +109,7 @@ pub fn run<S: Source, K: Sink, L: Link>(
     ensures link_fault { result ≡ Status.LinkFault → Rose (L.faults link.old) (L.faults link.new) }
     ensures source_fails { S.faults src.old < S.faults src.new → (result ≡ Status.SourceFault) ⊎ (result ≡ Status.SinkFault) }
     ensures sink_fails { K.faults out.old < K.faults out.new → result ≡ Status.SinkFault }
+    ensures link_fails { L.faults link.old < L.faults link.new → (result ≡ Status.LinkFault) ⊎ ((result ≡ Status.SinkFault) ⊎ (result ≡ Status.Memory)) }
     // A script is too long exactly where it has more octets, and else a line is named exactly where the definition names it.
     ensures long { result ≡ Status.TooLong → IfSome (S.remaining src.old) (λ left. MOST_OCTETS < length left) }
     ensures too_long { (text : List ℕ) → form_of (map string_bytes words.now) ≡ Some (Transfer Axfr 0) → S.remaining src.old ≡ Some text → MOST_OCTETS < length text → (result ≡ Status.TooLong) ⊎ IsTrue (is_fault result) }
@@ -156,6 +157,7 @@ fn run_script<K: Sink, L: Link>(alloc: Global, text: &[u8], out: &mut K, link: &
     ensures part { result ≡ Status.SinkFault → TookFirst (IsDue (λ provider key at m. ⟦<Primary as Service<()>>⟧.Sends ((refuser, provider), key) (request_at m at)) (Some text.now) (L.longest link.old) (L.lists link.old) (L.lists link.new) (L.faults link.old) (L.faults link.new)) (K.taken out.old) (K.taken out.new) }
     ensures sink_fault { result ≡ Status.SinkFault → Rose (K.faults out.old) (K.faults out.new) }
     ensures link_fault { result ≡ Status.LinkFault → Rose (L.faults link.old) (L.faults link.new) }
+    ensures link_fails { L.faults link.old < L.faults link.new → (result ≡ Status.LinkFault) ⊎ ((result ≡ Status.SinkFault) ⊎ (result ≡ Status.Memory)) }
     ensures delivers { (script : scripts.Script TsigKey) (key : TsigKey) → script_of readers_so_far text.now ≡ Ok script → FitsLink script key (L.longest link.old)
         → WasHonest (L.lists link.old) (L.lists link.new) (L.faults link.old) (L.faults link.new) → ¬ Rose (K.faults out.old) (K.faults out.new) → (result ≡ Status.Done) ⊎ (result ≡ Status.Memory) }
     ensures steady { result ≢ Status.SinkFault → K.faults out.new ≡ K.faults out.old }
@@ -196,6 +198,7 @@ fn run_transfer<K: Sink, L: Link>(
 ) -> Status
     ensures sink_fault { result ≡ Status.SinkFault → Rose (K.faults out.old) (K.faults out.new) }
     ensures link_fault { result ≡ Status.LinkFault → Rose (L.faults link.old) (L.faults link.new) }
+    ensures link_fails { L.faults link.old < L.faults link.new → (result ≡ Status.LinkFault) ⊎ ((result ≡ Status.SinkFault) ⊎ (result ≡ Status.Memory)) }
     ensures written { IsTrue (is_reported result)
         → Took (λ octets. Reports (λ m. ⟦<Primary as Service<()>>⟧.Sends ((refuser, provider_of script.primary.version script.key), script.key) (request_at m script.at_primary))
         (asking_with script.key script.at_secondary script.secondary) script.at_primary (L.longest link.old) (L.lists link.old) (L.lists link.new) (L.faults link.old) (L.faults link.new) octets result) (K.taken out.old) (K.taken out.new) }
@@ -234,6 +237,7 @@ fn transfer<L: Link>(
     ensures report { IfOk result (λ r. Reports (λ m. ⟦<Primary as Service<()>>⟧.Sends ((refuser, provider_of script.primary.version script.key), script.key) (request_at m script.at_primary))
         (asking_with script.key script.at_secondary script.secondary) script.at_primary (L.longest link.old) (L.lists link.old) (L.lists link.new) (L.faults link.old) (L.faults link.new) r.0.items r.1) }
     ensures link_fault { IfOk result (λ r. r.1 ≡ Status.LinkFault → Rose (L.faults link.old) (L.faults link.new)) }
+    ensures link_fails { IfOk result (λ r. L.faults link.old < L.faults link.new → r.1 ≡ Status.LinkFault) }
     ensures others { IfOk result (λ r. IsTrue (is_reported r.1)) }
 {
     let mut script = script;

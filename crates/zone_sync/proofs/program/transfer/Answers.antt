@@ -1,6 +1,6 @@
 use Rattle.std.proofs.Common.{ap, ◌∙◌}
 use Rattle.zone_types.specs.Session.{Session}
-use Rattle.zone_sync.proofs.ReportLaw.{says_of_new, reports_so, ends_reported, link_failed}
+use Rattle.zone_sync.proofs.ReportLaw.{says_of_new, reports_so, ends_reported, link_failed, link_fails}
 use Rattle.zone_sync.proofs.program.transfer.Goals as goal
 
 pub returns-clause-report : goal.returns-clause-report
@@ -15,3 +15,6 @@ returns-clause-others g c = ends_reported _ _ _ _ _ _ _ _ _ _ (returns-clause-re
 
 pub returns-clause-link_fault : goal.returns-clause-link_fault
 returns-clause-link_fault g c = λ h. c.sync_zone-outcome.ensures.failed (link_failed c.sync_zone-outcome.result c.status_of.result c.status_of.ensures h)
+
+pub returns-clause-link_fails : goal.returns-clause-link_fails
+returns-clause-link_fails g c = link_fails c.sync_zone-outcome.result c.status_of.result _ _ c.status_of.ensures c.sync_zone-outcome.ensures.steady
