@@ -1,6 +1,6 @@
 //! A link that hands on all that it took.
 ghost use Rattle.std.specs.Prelude.{◌≡◌};
-ghost use Rattle.zone_transfer.specs.Links.{no_lists};
+ghost use Rattle.zone_transfer.specs.Links.{IsHonest, no_lists};
 
 use crate::links::{Link, LinkError};
 use crate::queue::Queue;
@@ -34,6 +34,15 @@ impl LoopLink {
             requests: Queue::new(alloc),
             replies: Queue::new(alloc),
         }
+    }
+
+    /// That it was honest since it was new: each way handed on what it took, in order, and said that no more come only behind the
+    /// last. It does nothing.
+    pub fn honesty(&self)
+        ensures { IsHonest no_lists self.now 0 0 }
+    {
+        self.requests.honesty();
+        self.replies.honesty();
     }
 }
 

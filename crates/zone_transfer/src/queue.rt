@@ -1,6 +1,6 @@
 //! Messages that go one way, kept and handed on in order.
 ghost use Rattle.std.specs.Prelude.{◌≡◌, IfOk, OnOk, OnErr, option_map, ℕ};
-ghost use Rattle.zone_transfer.specs.Links.{Way, with_taken, after_take};
+ghost use Rattle.zone_transfer.specs.Links.{Way, HandsOn, no_way, with_taken, after_take};
 ghost use Rattle.zone_transfer.specs.Queues.{way_of, no_queue};
 
 use std::alloc::{AllocError, Global};
@@ -16,14 +16,14 @@ pub(crate) struct Queue {
 }
 
 impl Model for Queue {
-    ghost use Rattle.std.specs.Prelude.{ℕ, ◌≤◌, length, map};
+    ghost use Rattle.std.specs.Prelude.{◌≡◌, ℕ, ◌≤◌, length, map, IsTrue};
     ghost use Rattle.zone_transfer.specs.Queues.{Queued};
 
     ghost Value = { Queued };
 
     ghost view = { λ q. record { messages = map (λ m. m.items) q.messages.items; count = q.count; stopped = q.stopped } };
 
-    ghost invariant = { λ q. q.count ≤ length q.messages.items };
+    ghost invariant = { λ q. (q.count ≤ length q.messages.items) × (IsTrue q.stopped → q.count ≡ length q.messages.items) };
 }
 
 impl Queue {
@@ -37,6 +37,15 @@ impl Queue {
             count: 0,
             stopped: false,
         }
+    }
+
+    /// That what was handed on is a first part of what was put in, and all of it once the end was told. It does nothing.
+    pub(crate) fn honesty(&self)
+        ensures { HandsOn no_way (way_of self.now) }
+    {
+        let _messages = &self.messages;
+        let _count = self.count;
+        let _stopped = self.stopped;
     }
 
     /// Puts a copy of a message in, as the last one.
