@@ -3,9 +3,8 @@
 use crate::program::{Status, run};
 use crate::sinks::{MemorySink, Sink, StdSink, write_all};
 use crate::sources::{MemorySource, Source, StdSource};
-use std::alloc::{AllocError, Global};
+use std::alloc::Global;
 use std::process::Abort;
-use std::test::Fail;
 use zone_transfer::links::Link;
 use zone_transfer::loop_link::LoopLink;
 use zone_transfer::memory_link::MemoryLink;
@@ -31,24 +30,40 @@ rr 0 026e73076578616d706c65000001000100000e100004c0000202\n";
 const USAGE: &[u8] = b"usage: zonesync axfr [K] / ixfr [K] / gen N SEED\n";
 
 /// The words that a text holds, separated by spaces.
-fn words_of(alloc: Global, text: &str) -> Result<Vec<String>, AllocError> {
+fn words_of<R: Abort>(rt: &R, alloc: Global, text: &str) -> Vec<String> {
     let mut words = Vec::new(alloc);
     for word in text.split_ascii_whitespace() {
-        words.push(String::from_str(alloc, word)?)?;
+        let word = String::from_str(alloc, word).expect(rt, "memory");
+        words.push(word).expect(rt, "memory");
     }
-    Ok(words)
+    words
 }
 
 /// A script of the small zone, with an `at` line.
-fn script_at(alloc: Global, at: &[u8]) -> Result<Vec<u8>, AllocError> {
-    let mut text = HEAD.to_vec(alloc)?;
-    text.extend_from_slice(at)?;
-    text.extend_from_slice(RECORDS)?;
-    Ok(text)
+fn script_at<R: Abort>(rt: &R, alloc: Global, at: &[u8]) -> Vec<u8> {
+    let mut text = HEAD.to_vec(alloc).expect(rt, "memory");
+    text.extend_from_slice(at).expect(rt, "memory");
+    text.extend_from_slice(RECORDS).expect(rt, "memory");
+    text
+}
+
+/// Runs words over a script and a link; status and output.
+pub(crate) fn ran<R: Abort, L: Link>(
+    rt: &R,
+    alloc: Global,
+    words: &str,
+    script: Vec<u8>,
+    link: &mut L,
+) -> (Status, MemorySink) {
+    let words = words_of(rt, alloc, words);
+    let mut src = MemorySource::new(script, Vec::new(alloc));
+    let mut out = MemorySink::new(alloc, 7, Vec::new(alloc));
+    let got = run(alloc, words.as_slice(), &mut src, &mut out, link);
+    (got, out)
 }
 
 /// Runs words over a script and a link, and asserts status and output.
-pub(crate) fn expect<R: Abort, L: Link>(
+fn expect<R: Abort, L: Link>(
     rt: &R,
     alloc: Global,
     words: &str,
@@ -56,182 +71,130 @@ pub(crate) fn expect<R: Abort, L: Link>(
     link: &mut L,
     status: Status,
     output: &[u8],
-) -> Result<(), AllocError> {
-    let words = words_of(alloc, words)?;
-    let mut src = MemorySource::new(script, Vec::new(alloc));
-    let mut out = MemorySink::new(alloc, 7, Vec::new(alloc));
-    let got = run(alloc, words.as_slice(), &mut src, &mut out, link);
+) {
+    let (got, out) = ran(rt, alloc, words, script, link);
     assert_eq!(rt; out.as_slice(), output);
     assert_eq!(rt; got, status);
-    Ok(())
 }
 
 #[test]
-fn axfr_brings_the_zone(rt: HostRuntime) -> Result<(), Fail> {
+fn axfr_brings_the_zone(rt: HostRuntime) {
     for words in ["axfr", "axfr 0"] {
-        let script = script_at(rt.alloc(), b"at 1000 1000\n")?;
+        let script = script_at(&rt, rt.alloc(), b"at 1000 1000\n");
         let mut link = LoopLink::new(rt.alloc());
-        expect(
-            &rt,
-            rt.alloc(),
-            words,
-            script,
-            &mut link,
-            Status::Done,
-            REPORT,
-        )?;
+        let alloc = rt.alloc();
+        expect(&rt, alloc, words, script, &mut link, Status::Done, REPORT);
     }
-    Ok(())
 }
 
 #[test]
-fn words_of_no_form(rt: HostRuntime) -> Result<(), Fail> {
+fn words_of_no_form(rt: HostRuntime) {
     for words in ["", "ixfr", "gen 1 0", "axfr 17", "axfr 01x", "--help"] {
         let mut link = LoopLink::new(rt.alloc());
         let script = Vec::new(rt.alloc());
-        expect(
-            &rt,
-            rt.alloc(),
-            words,
-            script,
-            &mut link,
-            Status::Usage,
-            USAGE,
-        )?;
+        let alloc = rt.alloc();
+        expect(&rt, alloc, words, script, &mut link, Status::Usage, USAGE);
     }
-    Ok(())
 }
 
 #[test]
-fn bad_lines(rt: HostRuntime) -> Result<(), Fail> {
-    let mut link = LoopLink::new(rt.alloc());
-    let script = Vec::new(rt.alloc());
-    expect(
-        &rt,
-        rt.alloc(),
-        "axfr",
-        script,
-        &mut link,
-        Status::Script,
-        b"line 1\n",
-    )?;
-    let script = script_at(rt.alloc(), b"# a comment\n\nat 1000\n")?;
-    expect(
-        &rt,
-        rt.alloc(),
-        "axfr",
-        script,
-        &mut link,
-        Status::Script,
-        b"line 5\n",
-    )?;
-    Ok(())
+fn fudge_of_300_seconds(rt: HostRuntime) {
+    let refused = b"refused tsig server-unsigned\n".as_slice();
+    for (at, status, output) in [
+        (b"at 1300 1000\n".as_slice(), Status::Done, REPORT),
+        (b"at 1301 1000\n".as_slice(), Status::Refused, refused),
+    ] {
+        let script = script_at(&rt, rt.alloc(), at);
+        let mut link = LoopLink::new(rt.alloc());
+        expect(&rt, rt.alloc(), "axfr", script, &mut link, status, output);
+    }
 }
 
 #[test]
-fn fudge_of_300_seconds(rt: HostRuntime) -> Result<(), Fail> {
-    let mut link = LoopLink::new(rt.alloc());
-    let script = script_at(rt.alloc(), b"at 1300 1000\n")?;
-    expect(
-        &rt,
-        rt.alloc(),
-        "axfr",
-        script,
-        &mut link,
-        Status::Done,
-        REPORT,
-    )?;
-    let mut link = LoopLink::new(rt.alloc());
-    let script = script_at(rt.alloc(), b"at 1301 1000\n")?;
-    let refused = b"refused tsig server-unsigned\n";
-    expect(
-        &rt,
-        rt.alloc(),
-        "axfr",
-        script,
-        &mut link,
-        Status::Refused,
-        refused,
-    )?;
-    Ok(())
+fn request_of_101_octets(rt: HostRuntime) {
+    let refused = b"refused request-too-long\n".as_slice();
+    for (max_len, status, output) in [
+        (100usize, Status::Refused, refused),
+        (101, Status::Done, REPORT),
+    ] {
+        let script = script_at(&rt, rt.alloc(), b"");
+        let mut link = MemoryLink::new(rt.alloc(), max_len, Vec::new(rt.alloc()));
+        expect(&rt, rt.alloc(), "axfr", script, &mut link, status, output);
+    }
 }
 
 #[test]
-fn request_of_101_octets(rt: HostRuntime) -> Result<(), Fail> {
-    let mut link = MemoryLink::new(rt.alloc(), 100, Vec::new(rt.alloc()));
-    let script = script_at(rt.alloc(), b"")?;
-    let refused = b"refused request-too-long\n";
-    expect(
-        &rt,
-        rt.alloc(),
-        "axfr",
-        script,
-        &mut link,
-        Status::Refused,
-        refused,
-    )?;
-    let mut link = MemoryLink::new(rt.alloc(), 101, Vec::new(rt.alloc()));
-    let script = script_at(rt.alloc(), b"")?;
-    expect(
-        &rt,
-        rt.alloc(),
-        "axfr",
-        script,
-        &mut link,
-        Status::Done,
-        REPORT,
-    )?;
-    Ok(())
-}
-
-#[test]
-fn failing_link(rt: HostRuntime) -> Result<(), Fail> {
+fn failing_link(rt: HostRuntime) {
+    let alloc = rt.alloc();
+    let refused = b"refused link-fault\n".as_slice();
     for call in [1u64, 2, 3, 4] {
-        let mut link = MemoryLink::new(rt.alloc(), 65_535, vec![in rt.alloc(); call]?);
-        let script = script_at(rt.alloc(), b"at 1000 1000\n")?;
-        let refused = b"refused link-fault\n";
-        expect(
-            &rt,
-            rt.alloc(),
-            "axfr",
-            script,
-            &mut link,
-            Status::LinkFault,
-            refused,
-        )?;
+        let failing = vec![in alloc; call].expect(&rt, "memory");
+        let mut link = MemoryLink::new(alloc, 65_535, failing);
+        let script = script_at(&rt, alloc, b"at 1000 1000\n");
+        let status = Status::LinkFault;
+        expect(&rt, alloc, "axfr", script, &mut link, status, refused);
     }
-    Ok(())
 }
 
 #[test]
-fn failing_source(rt: HostRuntime) -> Result<(), Fail> {
-    let words = words_of(rt.alloc(), "axfr")?;
-    let script = script_at(rt.alloc(), b"at 1000 1000\n")?;
-    let mut src = MemorySource::new(script, vec![in rt.alloc(); 2]?);
+fn failing_source(rt: HostRuntime) {
+    let words = words_of(&rt, rt.alloc(), "axfr");
+    let script = script_at(&rt, rt.alloc(), b"at 1000 1000\n");
+    let failing = vec![in rt.alloc(); 2].expect(&rt, "memory");
+    let mut src = MemorySource::new(script, failing);
     let mut out = MemorySink::new(rt.alloc(), 4096, Vec::new(rt.alloc()));
     let mut link = LoopLink::new(rt.alloc());
     let got = run(rt.alloc(), words.as_slice(), &mut src, &mut out, &mut link);
     assert_eq!(rt; out.as_slice(), b"read fault\n".as_slice());
     assert_eq!(rt; got, Status::SourceFault);
-    Ok(())
 }
 
 #[test]
-fn failing_sink(rt: HostRuntime) -> Result<(), Fail> {
-    let words = words_of(rt.alloc(), "axfr")?;
-    let script = script_at(rt.alloc(), b"at 1000 1000\n")?;
+fn failing_sink(rt: HostRuntime) {
+    let words = words_of(&rt, rt.alloc(), "axfr");
+    let script = script_at(&rt, rt.alloc(), b"at 1000 1000\n");
     let mut src = MemorySource::new(script, Vec::new(rt.alloc()));
-    let mut out = MemorySink::new(rt.alloc(), 16, vec![in rt.alloc(); 3]?);
+    let failing = vec![in rt.alloc(); 3].expect(&rt, "memory");
+    let mut out = MemorySink::new(rt.alloc(), 16, failing);
     let mut link = LoopLink::new(rt.alloc());
     let got = run(rt.alloc(), words.as_slice(), &mut src, &mut out, &mut link);
     assert_eq!(rt; out.as_slice().len(), 32);
     assert!(rt; REPORT.starts_with(out.as_slice()));
     assert_eq!(rt; got, Status::SinkFault);
-    Ok(())
 }
 
 #[test]
-fn std_source_reads(rt: HostRuntime) -> Result<(), Fail> {
+fn one_octet_a_call(rt: HostRuntime) {
+    let words = words_of(&rt, rt.alloc(), "axfr");
+    let octets = script_at(&rt, rt.alloc(), b"at 1000 1000\n");
+    let mut src = StdSource::new(OneOctet { octets, place: 0 });
+    let mut out = MemorySink::new(rt.alloc(), 1, Vec::new(rt.alloc()));
+    let mut link = LoopLink::new(rt.alloc());
+    let got = run(rt.alloc(), words.as_slice(), &mut src, &mut out, &mut link);
+    assert_eq!(rt; out.as_slice(), REPORT);
+    assert_eq!(rt; got, Status::Done);
+}
+
+/// A reader that gives one octet a call.
+#[derive(Drop)]
+struct OneOctet {
+    octets: Vec<u8>,
+    place: usize,
+}
+
+impl std::io::Read for OneOctet {
+    fn read(&mut self, buf: &mut [u8]) -> std::io::Result<usize> {
+        let (Some(octet), Some(first)) = (self.octets.get(self.place), buf.first_mut()) else {
+            return Ok(0);
+        };
+        *first = *octet;
+        self.place += 1;
+        Ok(1)
+    }
+}
+
+#[test]
+fn std_source_reads(rt: HostRuntime) {
     let text: &[u8] = b"octets";
     let mut src = StdSource::new(text);
     let mut buf = [0u8; 4];
@@ -239,16 +202,14 @@ fn std_source_reads(rt: HostRuntime) -> Result<(), Fail> {
     assert_eq!(rt; buf.as_slice(), b"octe".as_slice());
     assert_eq!(rt; src.read(&mut buf), Ok(2));
     assert_eq!(rt; src.read(&mut buf), Ok(0));
-    Ok(())
 }
 
 #[test]
-fn std_sink_writes(rt: HostRuntime) -> Result<(), Fail> {
+fn std_sink_writes(rt: HostRuntime) {
     let mut out = StdSink::new(Vec::new(rt.alloc()));
     assert_eq!(rt; write_all(&mut out, b"octets"), Ok(()));
     let mut full = StdSink::new(NoRoom);
     assert!(rt; full.write(b"octets").is_err());
-    Ok(())
 }
 
 /// A writer that takes nothing.
