@@ -1,14 +1,11 @@
 -- Equality of record data is an equivalence.
 use Rattle.std.specs.Prelude.{◌≡◌, true, refl}
 use Rattle.std.proofs.Common.{sym, true≢false}
-use Rattle.std.specs.Cmp.{IsEquivalence, on_equiv}
+use Rattle.std.specs.Cmp.{IsEquivalence}
 use Rattle.std.specs.Cmp.Lexicographic.{lists_equiv, nat_list_eq_equiv}
-use Rattle.dns_name.specs.Names.{fold, same_name}
+use Rattle.dns_name.specs.NameOrder.{same_name_equiv}
 use Rattle.dns_rdata.specs.Records.{Field, same_field, same_data}
 use Rattle.dns_rdata.specs.Records.Field.{Octets, DomainName}
-
-pub same_name_equiv : IsEquivalence same_name
-same_name_equiv = on_equiv fold (lists_equiv nat_list_eq_equiv)
 
 field_itself : (f : Field) → same_field f f ≡ true
 field_itself (Octets a) = nat_list_eq_equiv.refl a

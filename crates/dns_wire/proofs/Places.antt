@@ -17,7 +17,7 @@ mapped f None y e = absurd (cc e)
 mapped f (Some x) y e = (x, refl, ap (λ r. unwrap_or r (f x)) e)
 
 -- a bind that holds a value
-bound : {A B : Type 0} (o : Option A) (f : A → Option B) (y : B) → (o >>= f) ≡ Some y → (x : A) × (o ≡ Some x) × (f x ≡ Some y)
+pub bound : {A B : Type 0} (o : Option A) (f : A → Option B) (y : B) → (o >>= f) ≡ Some y → (x : A) × (o ≡ Some x) × (f x ≡ Some y)
 bound None f y e = absurd (cc e)
 bound (Some x) f y e = (x, refl, e)
 
@@ -25,7 +25,7 @@ guarded : {A : Type 0} (b : Bool) (x y : A) → (if b then Some x else None) ≡
 guarded true x y e = (refl, ap (λ r. unwrap_or r x) e)
 guarded false x y e = absurd (cc e)
 
-held : {A : Type 0} (x y : A) → Some x ≡ Some y → x ≡ y
+pub held : {A : Type 0} (x y : A) → Some x ≡ Some y → x ≡ y
 held x y e = ap (λ r. unwrap_or r x) e
 
 -- ---- names, numbers and octets
@@ -38,19 +38,19 @@ stands_ends m (at_pointer p q k offset n e h) = omega arith
 name_at-ends : (m : List ℕ) (p : ℕ) (r : Name × ℕ) → name_at m p ≡ Some r → p < r.1
 name_at-ends m p r e = stands_ends m (name_at-NameAt m p r.0 r.1 e).1
 
-octets_at-ends : (k : ℕ) (m : List ℕ) (p : ℕ) (r : List ℕ × ℕ) → octets_at k m p ≡ Some r → r.1 ≡ p + k
+pub octets_at-ends : (k : ℕ) (m : List ℕ) (p : ℕ) (r : List ℕ × ℕ) → octets_at k m p ≡ Some r → r.1 ≡ p + k
 octets_at-ends k m p r e =
     let (fits, same) = guarded (nat_le (p + k) (length m)) (slice_range m p (p + k), p + k) r e in
     sym (ap (λ (x : List ℕ × ℕ). x.1) same)
 
-u16_at-ends : (m : List ℕ) (p : ℕ) (r : ℕ × ℕ) → u16_at m p ≡ Some r → r.1 ≡ p + 2
+pub u16_at-ends : (m : List ℕ) (p : ℕ) (r : ℕ × ℕ) → u16_at m p ≡ Some r → r.1 ≡ p + 2
 u16_at-ends m p r e =
     let (x, found, rest) = bound (octets_at 2 m p) (λ x. Some (from_be_bytes w16 x.0, x.1)) r e in
     let ends = octets_at-ends 2 m p x found in
     let same : x.1 ≡ r.1 = ap (λ (y : ℕ × ℕ). y.1) (held (from_be_bytes w16 x.0, x.1) r rest) in
     omega (arith, ends, same)
 
-u32_at-ends : (m : List ℕ) (p : ℕ) (r : ℕ × ℕ) → u32_at m p ≡ Some r → r.1 ≡ p + 4
+pub u32_at-ends : (m : List ℕ) (p : ℕ) (r : ℕ × ℕ) → u32_at m p ≡ Some r → r.1 ≡ p + 4
 u32_at-ends m p r e =
     let (x, found, rest) = bound (octets_at 4 m p) (λ x. Some (from_be_bytes w32 x.0, x.1)) r e in
     let ends = octets_at-ends 4 m p x found in
@@ -71,7 +71,7 @@ question_ends m p r e =
     let same : c.1 ≡ r.1 = ap (λ (y : Question × ℕ). y.1) (held _ r e3) in
     omega (arith, a, b, d, same)
 
-record_ends : (m : List ℕ) (p : ℕ) (r : RawRecord × ℕ) → raw_record_at m p ≡ Some r → p < r.1
+pub record_ends : (m : List ℕ) (p : ℕ) (r : RawRecord × ℕ) → raw_record_at m p ≡ Some r → p < r.1
 unfolding raw_record_at
 record_ends m p r e =
     let (n, named, e1) = bound (name_at m p) _ r e in

@@ -11,7 +11,7 @@ use Rattle.dns_rdata.specs.Records.{Field, Record, same_data}
 use Rattle.zone_types.specs.Version.{RecordSet, Key, Sets, Version, has_key, set_in, all_differ}
 use Rattle.zone_types.specs.Edits.{distinct, put_set}
 use Rattle.zone_types.specs.Classify.{opened_with, lowest_ttl}
-use Rattle.zone_types.proofs.Folded.{same_data_equiv}
+use Rattle.dns_rdata.specs.SameData.{same_data_equiv}
 use Rattle.zone_store.specs.Puts.{opened_by}
 use Rattle.zone_store.proofs.Closing.{filter_none}
 

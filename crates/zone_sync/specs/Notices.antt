@@ -1,7 +1,7 @@
 -- What the program writes where there is no report, and which statuses come with what.
 use Rattle.std.specs.Prelude.{ℕ, List, [], ◌∷◌, ◌++◌, Bool, true, false, codes, decimal}
 use Rattle.zone_sync.specs.declared.program.Status.{Status}
-use Rattle.zone_sync.specs.declared.program.Status.TheVariants.{Done, Refused, Script, SourceFault, SinkFault, Memory, LinkFault}
+use Rattle.zone_sync.specs.declared.program.Status.TheVariants.{Done, Refused, Usage, Script, SourceFault, SinkFault, Memory, LinkFault, TooLong}
 
 -- the words have no form
 abbrev pub usage_line : List ℕ
@@ -37,3 +37,15 @@ is_reported _ = false
 abbrev pub is_read : Status → Bool
 is_read Script = true
 is_read s = is_reported s
+
+-- the exit status
+abbrev pub exit_status : Status → ℕ
+exit_status Done = 0
+exit_status Refused = 1
+exit_status Usage = 2
+exit_status Script = 3
+exit_status SourceFault = 4
+exit_status SinkFault = 5
+exit_status Memory = 6
+exit_status LinkFault = 7
+exit_status TooLong = 8

@@ -7,7 +7,7 @@ ghost use Rattle.zone_sync.specs.Reported.{Reports, FitsLink, provider_of, IsDue
 ghost use Rattle.zone_sync.specs.Primaries.{refuser};
 ghost use Rattle.zone_transfer.specs.Serving.{request_at};
 ghost use Rattle.zone_transfer.specs.Delivery.{WasHonest};
-ghost use Rattle.zone_sync.specs.Notices.{bad_line, is_fault, is_reported, is_read};
+ghost use Rattle.zone_sync.specs.Notices.{bad_line, is_fault, is_reported, is_read, exit_status};
 ghost use Rattle.zone_script.specs.Script as scripts;
 ghost use Rattle.zone_script.specs.Script.{script_of};
 ghost use Rattle.tsig_port.specs.Tsig.{TsigKey};
@@ -61,7 +61,9 @@ pub enum Status {
 
 impl Status {
     /// The exit status, 0 to 8.
-    pub fn code(self) -> u8 {
+    pub fn code(self) -> u8
+        ensures { result ≡ exit_status self }
+    {
         match self {
             Status::Done => 0,
             Status::Refused => 1,

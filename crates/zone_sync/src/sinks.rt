@@ -1,5 +1,6 @@
 //! Sinks: where the octets of a report go.
 ghost use Rattle.std.specs.Prelude.{◌≡◌, ◌≢◌, ◌<◌, ◌≤◌, ◌++◌, [], min, length, take, option_map, IfOk, IsErr, OnOk, OnErr, IsTrue, ℕ};
+ghost use Rattle.std.specs.Io.KnownBytes.{WriteAppends};
 ghost use Rattle.zone_transfer.specs.Links.{Rose};
 ghost use Rattle.zone_transfer.specs.Calls.{no_calls, fails_next, after_call, after_fault};
 ghost use Rattle.zone_sync.specs.Streams.{with_more};
@@ -102,7 +103,8 @@ impl Sink for MemorySink {
     }
 }
 
-/// A writer as a sink. What it took isn't told; each error is counted, and so is a write that takes nothing.
+/// A writer as a sink. Each call is one write of the writer, which holds what was taken, where it tells that; each error is counted,
+/// and so is a write that takes nothing.
 #[derive(Drop)]
 pub struct StdSink<W: Write + Drop> {
     writer: W,
@@ -125,7 +127,14 @@ impl<W: Write + Drop> Sink for StdSink<W> {
 
     ghost faults = { λ s. s.faults };
 
-    fn write(&mut self, buf: &[u8]) -> Result<usize, Failed> {
+    fn write(&mut self, buf: &[u8]) -> Result<usize, Failed>
+        requires { 0 < length buf.now }
+        ensures some { IfOk result (λ n. 0 < n) }
+        ensures within { IfOk result (λ n. n ≤ length buf.now) }
+        ensures held { WriteAppends (W.contents self.old.writer) (W.contents self.new.writer) result buf.now }
+        ensures failed { OnErr result (Rose self.old.faults self.new.faults) }
+        ensures steady { OnOk result (self.new.faults ≡ self.old.faults) }
+    {
         match self.writer.write(buf) {
             Ok(count) if count > 0 => Ok(count),
             _ => {

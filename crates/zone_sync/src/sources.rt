@@ -1,5 +1,6 @@
 //! Sources: where the octets of a script come from.
 ghost use Rattle.std.specs.Prelude.{◌≡◌, ◌≢◌, ◌<◌, ◌≤◌, ◌++◌, ◌↔◌, [], min, length, take, option_map, IfOk, IfErr, IfSome, IsErr, OnOk, OnErr, IsTrue};
+ghost use Rattle.std.specs.Io.KnownBytes.{ReadConsumes};
 ghost use Rattle.zone_transfer.specs.Links.{Rose};
 ghost use Rattle.zone_transfer.specs.Calls.{no_calls, fails_next, after_call};
 ghost use Rattle.zone_sync.specs.Streams.{with_first};
@@ -94,7 +95,7 @@ impl Source for MemorySource {
     }
 }
 
-/// A reader as a source. What it holds isn't told; each error is counted.
+/// A reader as a source. Each call is one read of the reader; each error is counted.
 #[derive(Drop)]
 pub struct StdSource<R: Read + Drop> {
     reader: R,
@@ -117,7 +118,13 @@ impl<R: Read + Drop> Source for StdSource<R> {
 
     ghost faults = { λ s. s.faults };
 
-    fn read(&mut self, buf: &mut [u8]) -> Result<usize, Failed> {
+    fn read(&mut self, buf: &mut [u8]) -> Result<usize, Failed>
+        requires { 0 < length buf.old }
+        ensures within { IfOk result (λ n. n ≤ length buf.old) }
+        ensures given { ReadConsumes (R.remaining self.old.reader) (R.remaining self.new.reader) result buf.new }
+        ensures failed { OnErr result (Rose self.old.faults self.new.faults) }
+        ensures steady { OnOk result (self.new.faults ≡ self.old.faults) }
+    {
         match self.reader.read(buf) {
             Ok(count) => Ok(count),
             Err(_) => {
