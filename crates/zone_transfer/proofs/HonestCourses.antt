@@ -15,7 +15,7 @@ use Rattle.zone_types.specs.Messages.{read_of}
 use Rattle.zone_types.specs.TransferText.{Mode, Axfr}
 use Rattle.zone_types.specs.Offer.{whole_text, room_of, are_pages, IsCutInto}
 use Rattle.zone_types.specs.Read.{request_fault}
-use Rattle.zone_types.proofs.Folded.{same_name_equiv}
+use Rattle.dns_name.specs.NameOrder.{same_name_equiv}
 use Rattle.zone_types.proofs.Valid.{one_soa}
 use Rattle.zone_types.proofs.WholeText.{whole_is, whole_spells}
 use Rattle.xfr_server.specs.Texts.{transfer_header}
