@@ -86,17 +86,17 @@ impl fmt::Display for Rtype {
 
     fn fmt<W: fmt::Write>(&self, f: &mut fmt::Formatter<W>) -> fmt::Result {
         let value = self.value;
-        match value {
-            1 => write!(f, "A"),
-            2 => write!(f, "NS"),
-            5 => write!(f, "CNAME"),
-            6 => write!(f, "SOA"),
-            28 => write!(f, "AAAA"),
-            43 => write!(f, "DS"),
-            250 => write!(f, "TSIG"),
-            251 => write!(f, "IXFR"),
-            252 => write!(f, "AXFR"),
-            255 => write!(f, "ANY"),
+        match *self {
+            Rtype::A => write!(f, "A"),
+            Rtype::NS => write!(f, "NS"),
+            Rtype::CNAME => write!(f, "CNAME"),
+            Rtype::SOA => write!(f, "SOA"),
+            Rtype::AAAA => write!(f, "AAAA"),
+            Rtype::DS => write!(f, "DS"),
+            Rtype::TSIG => write!(f, "TSIG"),
+            Rtype::IXFR => write!(f, "IXFR"),
+            Rtype::AXFR => write!(f, "AXFR"),
+            Rtype::ANY => write!(f, "ANY"),
             _ => write!(f, "TYPE{value}"),
         }
     }
@@ -148,9 +148,9 @@ impl fmt::Display for Class {
 
     fn fmt<W: fmt::Write>(&self, f: &mut fmt::Formatter<W>) -> fmt::Result {
         let value = self.value;
-        match value {
-            1 => write!(f, "IN"),
-            255 => write!(f, "ANY"),
+        match *self {
+            Class::IN => write!(f, "IN"),
+            Class::ANY => write!(f, "ANY"),
             _ => write!(f, "CLASS{value}"),
         }
     }
@@ -211,12 +211,12 @@ impl fmt::Display for Opcode {
 
     fn fmt<W: fmt::Write>(&self, f: &mut fmt::Formatter<W>) -> fmt::Result {
         let value = self.value;
-        match value {
-            0 => write!(f, "QUERY"),
-            1 => write!(f, "IQUERY"),
-            2 => write!(f, "STATUS"),
-            4 => write!(f, "NOTIFY"),
-            5 => write!(f, "UPDATE"),
+        match *self {
+            Opcode::QUERY => write!(f, "QUERY"),
+            Opcode::IQUERY => write!(f, "IQUERY"),
+            Opcode::STATUS => write!(f, "STATUS"),
+            Opcode::NOTIFY => write!(f, "NOTIFY"),
+            Opcode::UPDATE => write!(f, "UPDATE"),
             _ => write!(f, "OPCODE{value}"),
         }
     }
@@ -295,18 +295,18 @@ impl fmt::Display for Rcode {
 
     fn fmt<W: fmt::Write>(&self, f: &mut fmt::Formatter<W>) -> fmt::Result {
         let value = self.value;
-        match value {
-            0 => write!(f, "NOERROR"),
-            1 => write!(f, "FORMERR"),
-            2 => write!(f, "SERVFAIL"),
-            3 => write!(f, "NXDOMAIN"),
-            4 => write!(f, "NOTIMP"),
-            5 => write!(f, "REFUSED"),
-            6 => write!(f, "YXDOMAIN"),
-            7 => write!(f, "YXRRSET"),
-            8 => write!(f, "NXRRSET"),
-            9 => write!(f, "NOTAUTH"),
-            10 => write!(f, "NOTZONE"),
+        match *self {
+            Rcode::NOERROR => write!(f, "NOERROR"),
+            Rcode::FORMERR => write!(f, "FORMERR"),
+            Rcode::SERVFAIL => write!(f, "SERVFAIL"),
+            Rcode::NXDOMAIN => write!(f, "NXDOMAIN"),
+            Rcode::NOTIMP => write!(f, "NOTIMP"),
+            Rcode::REFUSED => write!(f, "REFUSED"),
+            Rcode::YXDOMAIN => write!(f, "YXDOMAIN"),
+            Rcode::YXRRSET => write!(f, "YXRRSET"),
+            Rcode::NXRRSET => write!(f, "NXRRSET"),
+            Rcode::NOTAUTH => write!(f, "NOTAUTH"),
+            Rcode::NOTZONE => write!(f, "NOTZONE"),
             _ => write!(f, "RCODE{value}"),
         }
     }
@@ -370,13 +370,13 @@ impl fmt::Display for TsigRcode {
 
     fn fmt<W: fmt::Write>(&self, f: &mut fmt::Formatter<W>) -> fmt::Result {
         let value = self.value;
-        match value {
-            0 => write!(f, "NOERROR"),
-            1 => write!(f, "FORMERR"),
-            16 => write!(f, "BADSIG"),
-            17 => write!(f, "BADKEY"),
-            18 => write!(f, "BADTIME"),
-            22 => write!(f, "BADTRUNC"),
+        match *self {
+            TsigRcode::NOERROR => write!(f, "NOERROR"),
+            TsigRcode::FORMERR => write!(f, "FORMERR"),
+            TsigRcode::BADSIG => write!(f, "BADSIG"),
+            TsigRcode::BADKEY => write!(f, "BADKEY"),
+            TsigRcode::BADTIME => write!(f, "BADTIME"),
+            TsigRcode::BADTRUNC => write!(f, "BADTRUNC"),
             _ => write!(f, "RCODE{value}"),
         }
     }
