@@ -13,6 +13,7 @@ ghost use Rattle.zone_types.specs.LawRows as law_rows;
 /// A record that is added: its TTL becomes the set's; what refuses it, first the owner, then equal data, then a second alias below the apex.
 pub fn add_row()
     ensures ttl { add (rows.zone (rows.address rows.t 1 ∷ [])) (rows.with_ttl 60 (rows.address rows.t 2)) ≡ Ok (rows.zone (rows.with_ttl 60 (rows.address rows.t 1) ∷ rows.with_ttl 60 (rows.address rows.t 2) ∷ [])) }
+    ensures longer_ttl { add (rows.zone (rows.with_ttl 60 (rows.address rows.t 1) ∷ [])) (rows.address rows.t 2) ≡ Ok (rows.zone (rows.address rows.t 1 ∷ rows.address rows.t 2 ∷ [])) }
     ensures outside { add rows.empty_zone (rows.address (rows.other (codes "a" ∷ [])) 1) ≡ Err OutOfZone }
     ensures again { add (rows.zone (rows.ns rows.sub rows.sub ∷ [])) (rows.ns rows.loud_sub rows.loud_sub) ≡ Err Incompatible }
     ensures alias { add (rows.zone (rows.alias rows.www rows.a_b ∷ [])) (rows.alias rows.www rows.c_b) ≡ Err InvalidData }
@@ -23,6 +24,7 @@ pub fn add_row()
 /// A record that is deleted goes by its data alone; what is left takes its TTL, and an empty set goes.
 pub fn delete_row()
     ensures ttl { delete (rows.zone (rows.address rows.t 1 ∷ rows.address rows.t 2 ∷ [])) (rows.with_ttl 60 (rows.address rows.t 1)) ≡ Ok (rows.zone (rows.with_ttl 60 (rows.address rows.t 2) ∷ [])) }
+    ensures longer_ttl { delete (rows.zone (rows.with_ttl 60 (rows.address rows.t 1) ∷ rows.with_ttl 60 (rows.address rows.t 2) ∷ [])) (rows.address rows.t 1) ≡ Ok (rows.zone (rows.address rows.t 2 ∷ [])) }
     ensures last { delete (rows.zone (rows.soa 1 ∷ rows.ns rows.sub rows.sub ∷ [])) (rows.with_ttl 60 (rows.ns rows.loud_sub rows.loud_sub)) ≡ Ok (rows.zone (rows.soa 1 ∷ [])) }
     ensures absent { delete (rows.zone (rows.address rows.t 1 ∷ [])) (rows.address rows.t 2) ≡ Err Incompatible }
     ensures outside { delete rows.empty_zone (rows.address (rows.other (codes "a" ∷ [])) 1) ≡ Err OutOfZone }

@@ -1,4 +1,4 @@
-// Worked examples of messages and offers: what a client refuses, and what a primary has to offer, proved by computation.
+// Worked examples of messages, offers and updates: what a client refuses, and what a primary has to offer, proved by computation.
 ghost use Rattle.std.specs.Prelude.{◌≡◌, [], ◌∷◌, map, codes, true, false, Some, None, Ok, Err};
 ghost use Rattle.dns_name.specs.Codes.{type_a, type_axfr, type_ixfr};
 ghost use Rattle.zone_types.specs.TransferText.{Axfr, Ixfr};
@@ -7,6 +7,8 @@ ghost use Rattle.zone_types.specs.Offer as offers;
 ghost use Rattle.zone_types.specs.Offer.{text_of, are_pages, are_single, whole_text};
 ghost use Rattle.zone_types.specs.Read as reads;
 ghost use Rattle.zone_types.specs.Classify as classes;
+ghost use Rattle.zone_types.specs.Updates as updates;
+ghost use Rattle.zone_types.specs.Edits as edits;
 ghost use Rattle.zone_types.specs.ZoneRows as rows;
 
 /// The head of a first transfer message, and what of it refuses the message (RFC 5936, 2.2).
@@ -77,4 +79,15 @@ pub fn opened_row()
     ensures aliases { classes.classify (record { apex = rows.e; class = 1; accepted = rows.alias rows.www rows.a_b ∷ [] }) (rows.alias rows.www rows.c_b) ≡ classes.Rejected classes.MultipleCnames }
     ensures beside_alias { classes.classify (record { apex = rows.e; class = 1; accepted = rows.alias rows.www rows.a_b ∷ [] }) (rows.address rows.www 1) ≡ classes.Rejected (classes.IllegalRecord 5) }
     ensures outside { classes.classify (record { apex = rows.e; class = 1; accepted = [] }) (rows.address (rows.other (codes "a" ∷ [])) 1) ≡ classes.Accepted classes.Outside }
+{}
+
+/// Updates that are refused: a record that is no SOA where one is due, any behind the end, and an edit, behind which data that don't fit end all. Equal data are passed
+/// over once all records were deleted.
+pub fn refusal_row()
+    ensures no_soa { map (updates.apply_update (updates.begin rows.history_1)) (updates.BeginBatchAdd (rows.address rows.t 1) ∷ updates.Finished (rows.address rows.t 1) ∷ []) ≡ Err updates.NotSoaRecord ∷ Err updates.NotSoaRecord ∷ [] }
+    ensures behind { map (updates.apply_update (record (updates.begin rows.history_1) { finished = true })) (updates.DeleteAllRecords ∷ updates.AddRecord (rows.address rows.t 1) ∷ updates.Finished (rows.soa 2) ∷ []) ≡ Err updates.AfterFinish ∷ Err updates.AfterFinish ∷ Err updates.AfterFinish ∷ [] }
+    ensures again { updates.apply_update (updates.begin rows.history_1) (updates.AddRecord (rows.soa 1)) ≡ Err (updates.Edit edits.Incompatible) }
+    ensures passed_over { updates.apply_update (record (updates.begin rows.history_1) { replacing = true }) (updates.AddRecord (rows.soa 1)) ≡ Ok (record (updates.begin rows.history_1) { replacing = true }) }
+    ensures outside { updates.apply_update (record (updates.begin rows.history_1) { replacing = true }) (updates.AddRecord (rows.address (rows.other (codes "a" ∷ [])) 1)) ≡ Err (updates.Edit edits.OutOfZone) }
+    ensures settled { map (λ f. (updates.after_refusal (updates.begin rows.history_1) f).finished) (updates.Edit edits.Incompatible ∷ updates.Edit edits.OutOfZone ∷ updates.Edit edits.InvalidData ∷ updates.NotSoaRecord ∷ []) ≡ true ∷ false ∷ false ∷ false ∷ [] }
 {}
