@@ -98,6 +98,7 @@ impl<'z> WriteZone<'z> {
     pub fn add_record(&mut self, added: StoredRecord) -> Result<(), EditError>
         ensures ok { OnOk result (add self.old.pending added ≡ Ok self.new.pending) }
         ensures refused { IfErr result (λ e. IfSome (refusal_of e) (λ why. add self.old.pending added ≡ Err why)) }
+        ensures memory { (result ≡ Err EditError.Memory) → IsOk (add self.old.pending added) }
         ensures else_same { self.new ≡ with_pending self.old self.new.pending }
         ensures err { OnErr result (self.new ≡ self.old) }
     {
@@ -116,6 +117,7 @@ impl<'z> WriteZone<'z> {
     pub fn delete_record(&mut self, deleted: &StoredRecord) -> Result<(), EditError>
         ensures ok { OnOk result (delete self.old.pending deleted.now ≡ Ok self.new.pending) }
         ensures refused { IfErr result (λ e. IfSome (refusal_of e) (λ why. delete self.old.pending deleted.now ≡ Err why)) }
+        ensures memory { (result ≡ Err EditError.Memory) → IsOk (delete self.old.pending deleted.now) }
         ensures else_same { self.new ≡ with_pending self.old self.new.pending }
         ensures err { OnErr result (self.new ≡ self.old) }
     {
