@@ -1,18 +1,18 @@
 -- What octets that parse say of their counts and sections.
 use Rattle.std.proofs.Common.{subst, ◌≡◌, ℕ, zero, suc, ◌+◌, Bool, true, false, List, [], ◌∷◌, Option, Some, None, length, map, refl, ap, ◌∙◌, sym, arith}
-use Rattle.std.specs.Prelude.{option_map, ◌==◌, nat_le, slice_range, if◌then◌else◌}
+use Rattle.std.specs.Prelude.{option_map, filter_map, ◌==◌, nat_le, slice_range, if◌then◌else◌}
 use Rattle.std.proofs.lemmas.Bool.{eqb-true}
 use Rattle.std.specs.Int.{w16, from_be_bytes}
 use Rattle.dns_name.specs.Octets.{◌>>=◌, u16_at, octets_at}
 use Rattle.dns_wire.specs.Wire.{Header, Counts, header_of, id_in, header_in, header_number, qdcount_in, ancount_in, nscount_in, Question}
-use Rattle.dns_wire.specs.Parse.{items_at, readings, Parsed, parsed, question_at, header_at, counts_at, answer_readings, answers_start, sole_question_in, section_readings}
+use Rattle.dns_wire.specs.Parse.{items_at, readings, reading_then, questions_in, Parsed, parsed, question_at, header_at, counts_at, answer_readings, answers_start, sole_question_in, section_readings}
 use Rattle.dns_rdata.specs.Heads.{raw_record_at, RawRecord}
 use Rattle.zone_types.specs.Messages.{ReadMessage}
 use Rattle.zone_types.specs.Read.{record_item, is_transfer_head, asks_transfer}
 use Rattle.zone_types.specs.Interpreter.{mode_asked}
 use Rattle.zone_types.specs.TransferText.{Axfr, Ixfr}
 use Rattle.xfr_client.specs.Items.{item_in, read_record}
-use Rattle.xfr_client.specs.Interpreting.{as_read_here, read_here, good_header, good_counts}
+use Rattle.xfr_client.specs.Interpreting.{IsReadAs, answer_here, sections_here, as_read_here, read_here, good_header, good_counts}
 
 -- both readings of a pair of readings succeed
 pub record Bound {A B : Type 0} (o : Option A) (f : A → Option B) (y : B) : Type 0 where
@@ -157,9 +157,9 @@ pub reads_answers : (m : List ℕ) (r : Parsed) → Parts m r → answer_reading
 reads_answers m r p = ap (section_readings m 6) (begins_answers m r p) ∙ items_read (raw_record_at m) (ancount_in m) p.answers_from r.answers p.authority_from p.answers
 
 -- the one question
-pub record Sole (m : List ℕ) (r : Parsed) : Type 0 where
+pub record Sole (m : List ℕ) (qs : List Question) : Type 0 where
   pub question : Question
-  pub alone : r.questions ≡ question ∷ []
+  pub alone : qs ≡ question ∷ []
   pub found : sole_question_in m ≡ Some question
 
 empty_list : {X : Type 0} (xs : List X) → length xs ≡ 0 → xs ≡ []
@@ -169,27 +169,18 @@ empty_list (x ∷ xs) e = absurd (omega arith)
 sole_found : (m : List ℕ) (q : Question) (p : ℕ) → qdcount_in m ≡ 1 → question_at m 12 ≡ Some (q, p) → sole_question_in m ≡ Some q
 sole_found m q p one e = rw one (ap (option_map (λ r. r.0)) e)
 
-pub reads_question : (m : List ℕ) (r : Parsed) → Parts m r → qdcount_in m ≡ 1 → Sole m r
-reads_question m r p one =
-    let e : items_at (question_at m) (suc zero) 12 ≡ Some (r.questions, p.answers_from) = ap (λ n. items_at (question_at m) n 12) (sym one) ∙ p.questions in
-    let s = items_split (question_at m) zero 12 r.questions p.answers_from e in
-    let none : s.others ≡ [] = empty_list s.others (items_counted (question_at m) zero s.place s.others p.answers_from s.others_read) in
+pub reads_question : (m : List ℕ) (qs : List Question) (p : ℕ) → items_at (question_at m) (qdcount_in m) 12 ≡ Some (qs, p) → qdcount_in m ≡ 1 → Sole m qs
+reads_question m qs p h one =
+    let e : items_at (question_at m) (suc zero) 12 ≡ Some (qs, p) = ap (λ n. items_at (question_at m) n 12) (sym one) ∙ h in
+    let s = items_split (question_at m) zero 12 qs p e in
+    let none : s.others ≡ [] = empty_list s.others (items_counted (question_at m) zero s.place s.others p s.others_read) in
     record {
       question = s.head;
       alone = s.are ∙ ap (λ l. s.head ∷ l) none;
       found = sole_found m s.head s.place one s.head_read;
     }
 
--- what a message read from octets says of them
-pub record ReadParts (o : List ℕ) (m : ReadMessage) : Type 0 where
-  pub header : m.header ≡ header_in o
-  pub questions : length m.questions ≡ qdcount_in o
-  pub answers : length m.answers ≡ ancount_in o
-  pub authority : m.authority ≡ nscount_in o
-  pub begins : answers_start o ≡ None → ⊥
-  pub items : map (item_in o) (answer_readings o) ≡ map record_item m.answers
-  pub sole : qdcount_in o ≡ 1 → (q : Question) × (m.questions ≡ q ∷ []) × (sole_question_in o ≡ Some q)
-
+-- a message read from octets
 mapped_length : {A B : Type 0} (f : A → B) (xs : List A) → length (map f xs) ≡ length xs
 mapped_length f [] = refl
 mapped_length f (x ∷ xs) = ap suc (mapped_length f xs)
@@ -198,60 +189,107 @@ same_items : (o : List ℕ) (rs : List RawRecord) → map (item_in o) (map Some 
 same_items o [] = refl
 same_items o (r ∷ rs) = ap (λ l. record_item (read_record o r) ∷ l) (same_items o rs)
 
-parts_here : (o : List ℕ) (r : Parsed) → Parts o r → ReadParts o (as_read_here o r)
+parts_here : (o : List ℕ) (r : Parsed) → Parts o r → IsReadAs o (as_read_here o r)
 parts_here o r p = record {
   header = p.header;
   questions = items_counted (question_at o) (qdcount_in o) 12 r.questions p.answers_from p.questions;
-  answers = mapped_length (read_record o) r.answers ∙ items_counted (raw_record_at o) (ancount_in o) p.answers_from r.answers p.authority_from p.answers;
+  answers = ap (λ n. n == 0) (mapped_length (read_record o) r.answers ∙ items_counted (raw_record_at o) (ancount_in o) p.answers_from r.answers p.authority_from p.answers);
   authority = items_counted (raw_record_at o) (nscount_in o) p.authority_from r.authority p.additional_from p.authority;
   begins = λ none. absurd (cc (none, begins_answers o r p));
   items = ap (map (item_in o)) (reads_answers o r p) ∙ same_items o r.answers;
-  sole = λ one. let s = reads_question o r p one in (s.question, s.alone, s.found);
+  sole = λ one. let s = reads_question o r.questions p.answers_from p.questions one in (s.question, s.alone, s.found);
 }
 
-read_from : (o : List ℕ) (m : ReadMessage) (found : Option Parsed) → parsed o ≡ found → option_map (as_read_here o) found ≡ Some m → ReadParts o m
+read_from : (o : List ℕ) (m : ReadMessage) (found : Option Parsed) → parsed o ≡ found → option_map (as_read_here o) found ≡ Some m → IsReadAs o m
 read_from o m None e h = absurd (cc h)
 read_from o m (Some r) e h =
     let same : as_read_here o r ≡ m = cc h in
-    subst (ReadParts o) same (parts_here o r (parts_read o r e))
+    subst (IsReadAs o) same (parts_here o r (parts_read o r e))
 
-pub read_parts : (o : List ℕ) (m : ReadMessage) → read_here o ≡ Some m → ReadParts o m
+pub read_parts : (o : List ℕ) (m : ReadMessage) → read_here o ≡ Some m → IsReadAs o m
 read_parts o m h = read_from o m (parsed o) refl h
 
+-- what octets say whose answer section can be reached
+some_kept : {X : Type 0} (xs : List X) → filter_map (λ q. q) (map Some xs) ≡ xs
+some_kept [] = refl
+some_kept (x ∷ xs) = ap (λ l. x ∷ l) (some_kept xs)
+
+not_empty : {X : Type 0} (x : X) (xs : List X) → (length (x ∷ xs) == 0) ≡ false
+not_empty x xs = grind arith
+
+reading_stands : {X : Type 0} (item : ℕ → Option (X × ℕ)) (n : ℕ) (o : Option (X × ℕ)) → (length (reading_then (readings item n) o) == 0) ≡ false
+reading_stands item n None = refl
+reading_stands item n (Some (x, after)) = not_empty (Some x) (readings item n after)
+
+some_readings : {X : Type 0} (item : ℕ → Option (X × ℕ)) (n p : ℕ) → (length (readings item n p) == 0) ≡ (n == 0)
+unfolding readings
+some_readings item zero p = refl
+some_readings item (suc n) p = reading_stands item n (item p) ∙ sym (not_zero n)
+  where
+    not_zero : (n : ℕ) → (suc n == 0) ≡ false
+    not_zero n = grind arith
+
+answer_items : (o : List ℕ) (xs : List (Option RawRecord)) → map (item_in o) xs ≡ map record_item (map (answer_here o) xs)
+answer_items o [] = refl
+answer_items o (None ∷ xs) = ap (λ l. item_in o None ∷ l) (answer_items o xs)
+answer_items o (Some r ∷ xs) = ap (λ l. item_in o (Some r) ∷ l) (answer_items o xs)
+
+answers_counted : (o : List ℕ) (p : ℕ) → answers_start o ≡ Some p → (length (sections_here o).answers == 0) ≡ (ancount_in o == 0)
+answers_counted o p e =
+    ap (λ n. n == 0) (mapped_length (answer_here o) (answer_readings o))
+    ∙ ap (λ s. length (section_readings o 6 s) == 0) e
+    ∙ some_readings (raw_record_at o) (ancount_in o) p
+
+sections_from : (o : List ℕ) (found : Option (List Question × ℕ)) → items_at (question_at o) (qdcount_in o) 12 ≡ found → (answers_start o ≡ None → ⊥) → IsReadAs o (sections_here o)
+sections_from o None e h = absurd (h (ap (option_map (λ x. x.1)) e))
+sections_from o (Some (qs, p)) e h =
+    let start : answers_start o ≡ Some p = ap (option_map (λ x. x.1)) e in
+    let asked : questions_in o ≡ qs = ap (filter_map (λ q. q)) (items_read (question_at o) (qdcount_in o) 12 qs p e) ∙ some_kept qs in
+    record {
+      header = refl;
+      questions = ap length asked ∙ items_counted (question_at o) (qdcount_in o) 12 qs p e;
+      answers = answers_counted o p start;
+      authority = refl;
+      begins = h;
+      items = answer_items o (answer_readings o);
+      sole = λ one. let s = reads_question o qs p e one in (s.question, asked ∙ s.alone, s.found);
+    }
+
+pub sections_read : (o : List ℕ) → (answers_start o ≡ None → ⊥) → IsReadAs o (sections_here o)
+sections_read o h = sections_from o (items_at (question_at o) (qdcount_in o) 12) refl h
+
 -- header and counts of a message whose header isn't good
-pub head_refused : (o : List ℕ) (m : ReadMessage) (first : Bool) → read_here o ≡ Some m → good_header (header_in o) ≡ false → is_transfer_head first m ≡ false
-head_refused o m first h e = let p = read_parts o m h in rw (p.header, e) refl
+pub head_refused : (o : List ℕ) (m : ReadMessage) (first : Bool) → IsReadAs o m → good_header (header_in o) ≡ false → is_transfer_head first m ≡ false
+head_refused o m first p e = rw (p.header, e) refl
 
 -- .. and of one whose header is
-pub head_counted : (o : List ℕ) (m : ReadMessage) (first : Bool) → read_here o ≡ Some m → good_header (header_in o) ≡ true
+pub head_counted : (o : List ℕ) (m : ReadMessage) (first : Bool) → IsReadAs o m → good_header (header_in o) ≡ true
     → is_transfer_head first m ≡ good_counts first (qdcount_in o) (ancount_in o) (nscount_in o)
-head_counted o m true h e = let p = read_parts o m h in rw (p.header, e, p.questions, p.answers, p.authority) refl
-head_counted o m false h e = let p = read_parts o m h in rw (p.header, e, p.questions, p.answers, p.authority) refl
+head_counted o m true p e = rw (p.header, e, p.questions, p.answers, p.authority) refl
+head_counted o m false p e = rw (p.header, e, p.questions, p.answers, p.authority) refl
 
 -- the first question asked is the one that was found
-pub asked : (o : List ℕ) (m : ReadMessage) (q : Question) → read_here o ≡ Some m → (length m.questions == 1) ≡ true → sole_question_in o ≡ Some q → m.questions ≡ q ∷ []
-asked o m q h one e =
-    let p = read_parts o m h in
+pub asked : (o : List ℕ) (m : ReadMessage) (q : Question) → IsReadAs o m → (length m.questions == 1) ≡ true → sole_question_in o ≡ Some q → m.questions ≡ q ∷ []
+asked o m q p one e =
     let count : qdcount_in o ≡ 1 = sym p.questions ∙ eqb-true _ _ one in
     let s = p.sole count in
     s.1 ∙ ap (λ x. x ∷ []) (let same : s.0 ≡ q = cc (s.2, e) in same)
 
-pub not_asked : (o : List ℕ) (m : ReadMessage) → read_here o ≡ Some m → (length m.questions == 1) ≡ true → sole_question_in o ≡ None → ⊥
-not_asked o m h one e =
-    let p = read_parts o m h in
+pub not_asked : (o : List ℕ) (m : ReadMessage) → IsReadAs o m → (length m.questions == 1) ≡ true → sole_question_in o ≡ None → ⊥
+not_asked o m p one e =
     let count : qdcount_in o ≡ 1 = sym p.questions ∙ eqb-true _ _ one in
     let s = p.sole count in
     absurd (cc (s.2, e))
 
 -- what the question asks for
-pub asks_ixfr : (o : List ℕ) (m : ReadMessage) (q : Question) → read_here o ≡ Some m → (length m.questions == 1) ≡ true → sole_question_in o ≡ Some q → q.qtype ≡ 251
+pub asks_ixfr : (o : List ℕ) (m : ReadMessage) (q : Question) → IsReadAs o m → (length m.questions == 1) ≡ true → sole_question_in o ≡ Some q → q.qtype ≡ 251
     → (asks_transfer m.questions ≡ true) × (mode_asked m.questions ≡ Ixfr)
 asks_ixfr o m q h one e k = let a = asked o m q h one e in rw (a, k) (refl, refl)
 
-pub asks_axfr : (o : List ℕ) (m : ReadMessage) (q : Question) → read_here o ≡ Some m → (length m.questions == 1) ≡ true → sole_question_in o ≡ Some q → q.qtype ≡ 252
+pub asks_axfr : (o : List ℕ) (m : ReadMessage) (q : Question) → IsReadAs o m → (length m.questions == 1) ≡ true → sole_question_in o ≡ Some q → q.qtype ≡ 252
     → (asks_transfer m.questions ≡ true) × (mode_asked m.questions ≡ Axfr)
 asks_axfr o m q h one e k = let a = asked o m q h one e in rw (a, k) (refl, refl)
 
-pub asks_else : (o : List ℕ) (m : ReadMessage) (q : Question) → read_here o ≡ Some m → (length m.questions == 1) ≡ true → sole_question_in o ≡ Some q
+pub asks_else : (o : List ℕ) (m : ReadMessage) (q : Question) → IsReadAs o m → (length m.questions == 1) ≡ true → sole_question_in o ≡ Some q
     → (q.qtype == 251) ≡ false → (q.qtype == 252) ≡ false → asks_transfer m.questions ≡ false
 asks_else o m q h one e k l = let a = asked o m q h one e in rw (a, k, l) refl

@@ -6,16 +6,15 @@ use Rattle.dns_wire.specs.Parse.{answer_readings, answers_start}
 use Rattle.zone_types.specs.Messages.{ReadMessage}
 use Rattle.zone_types.specs.Read.{Item, record_item}
 use Rattle.xfr_client.specs.Items.{NextItem, item_in}
-use Rattle.xfr_client.specs.Interpreting.{read_here}
-use Rattle.xfr_client.proofs.MessageParts.{read_parts}
+use Rattle.xfr_client.specs.Interpreting.{IsReadAs}
 
 -- it begins somewhere
-pub items_begin : (o : List ℕ) (m : ReadMessage) → read_here o ≡ Some m → answers_start o ≡ None → ⊥
-items_begin o m h e = (read_parts o m h).begins e
+pub items_begin : (o : List ℕ) (m : ReadMessage) → IsReadAs o m → answers_start o ≡ None → ⊥
+items_begin o m h e = h.begins e
 
 -- .. and its items are the answer records
-pub items_are : (o : List ℕ) (m : ReadMessage) → read_here o ≡ Some m → map (item_in o) (answer_readings o) ≡ map record_item m.answers
-items_are o m h = (read_parts o m h).items
+pub items_are : (o : List ℕ) (m : ReadMessage) → IsReadAs o m → map (item_in o) (answer_readings o) ≡ map record_item m.answers
+items_are o m h = h.items
 
 -- behind the first item the others are left
 pub left_behind : {E : Type 0} (old new : List Item) (res : Option (Result Record E)) (x : Option Record) (xs : List (Option Record)) → NextItem old res new

@@ -5,18 +5,20 @@ use Rattle.dns_rdata.specs.Records.{Record}
 use Rattle.dns_wire.specs.Parse.{SectionIn}
 use Rattle.zone_types.specs.Messages.{ReadMessage}
 use Rattle.zone_types.specs.Updates.{Update}
-use Rattle.zone_types.specs.Read.{Item, Good, first_fault, record_item, is_transfer_head}
+use Rattle.zone_types.specs.Read.{Item, Good, first_fault, record_item, is_transfer_head, message_fault}
 use Rattle.zone_types.specs.TransferText.{Mode, Axfr, Ixfr}
 use Rattle.zone_types.specs.Interpreter.{mode_asked}
 use Rattle.zone_types.specs.Machine.{Run, went, then_run, first_step, run_items}
 use Rattle.zone_types.specs.Machine as machine
 use Rattle.xfr_client.specs.declared.place.Place.{Place}
 use Rattle.xfr_client.specs.declared.place.Place.TheVariants.{AtSecond, InWhole, InDeletes, InAdds, AtEnd}
+use Rattle.xfr_client.specs.declared.protocol.Error.{Error}
+use Rattle.xfr_client.specs.declared.protocol.Error.TheVariants as error
 use Rattle.xfr_client.specs.declared.update.ZoneUpdate.{ZoneUpdate}
 use Rattle.xfr_client.specs.Places.{place_of, is_at_second}
 use Rattle.xfr_client.specs.Items.{items_left}
 use Rattle.xfr_client.specs.Rest.{Rest, rest_of, asks_again, updates_in_hand}
-use Rattle.xfr_client.specs.Interpreting.{Begins, Taken, told_first, Interprets, interpreting_of, is_over}
+use Rattle.xfr_client.specs.Interpreting.{Interpreting, Begins, Taken, told_first, Interprets, IsFault, Refuses, interpreting_of, is_over}
 use Rattle.xfr_client.proofs.Places.{is_begun, any_mode, signal_told}
 use Rattle.xfr_client.proofs.FirstMessage.{faultless_later}
 
@@ -79,3 +81,15 @@ pub interprets : (place : Option Place) (before signalled : Bool) (m : ReadMessa
     → Interprets (interpreting_of place before) m rest (interpreting_of (Some to) signalled)
 interprets None before signalled m rest to o t = record { open_still = o; faultless = t.faultless; tells = t.tells; stands = rw (t.stands, t.signals) refl }
 interprets (Some p) before signalled m rest to o t = record { open_still = o; faultless = t.faultless; tells = t.tells; stands = rw (t.stands, t.signals) refl }
+
+-- .. and one that isn't taken is refused for its fault
+as_refusal : (i : Interpreting) (m : ReadMessage) (e : Error) → is_over i ≡ false → IsFault (message_fault (not i.begun) m) e → Refuses i m e
+as_refusal i m error.Finished o f = absurd f
+as_refusal i m error.NotValidXfrResponse o f = (o, f)
+as_refusal i m error.Malformed o f = (o, f)
+as_refusal i m error.ParseError o f = absurd f
+
+pub refuses : (place : Option Place) (before : Bool) (m : ReadMessage) (e : Error) → is_over (interpreting_of place before) ≡ false
+    → IsFault (message_fault (is_none place) m) e → Refuses (interpreting_of place before) m e
+refuses None before m e o f = as_refusal (interpreting_of None before) m e o f
+refuses (Some p) before m e o f = as_refusal (interpreting_of (Some p) before) m e o f

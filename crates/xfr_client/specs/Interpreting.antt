@@ -1,7 +1,8 @@
 -- What an interpreter keeps, and what one message makes of it.
-use Rattle.std.specs.Prelude.{◌≡◌, ℕ, Bool, true, false, ◌||◌, ◌&&◌, ◌==◌, not, nat_le, if◌then◌else◌, List, [], ◌∷◌, map, Option, Some, None, option_map, Result, Ok, Err}
-use Rattle.dns_wire.specs.Wire.{Header}
-use Rattle.dns_wire.specs.Parse.{Parsed, parsed}
+use Rattle.std.specs.Prelude.{◌≡◌, ℕ, Bool, true, false, ◌||◌, ◌&&◌, ◌==◌, not, nat_le, if◌then◌else◌, List, [], ◌∷◌, length, map, Option, Some, None, option_map, Result, Ok, Err}
+use Rattle.dns_wire.specs.Wire.{Header, Question, header_in, qdcount_in, ancount_in, nscount_in}
+use Rattle.dns_wire.specs.Parse.{Parsed, parsed, questions_in, sole_question_in, answers_start, answer_readings}
+use Rattle.dns_rdata.specs.Heads.{RawRecord}
 use Rattle.zone_types.specs.Messages.{ReadMessage, as_read}
 use Rattle.zone_types.specs.Read.{Fault, NotValid, Malformed, message_fault, record_item, asks_transfer}
 use Rattle.zone_types.specs.TransferText.{Axfr, Ixfr, is_soa}
@@ -14,7 +15,7 @@ use Rattle.xfr_client.specs.declared.place.Place.{Place}
 use Rattle.xfr_client.specs.declared.protocol.Error.{Error}
 use Rattle.xfr_client.specs.declared.protocol.Error.TheVariants as error
 use Rattle.xfr_client.specs.Places.{place_of, is_at_second}
-use Rattle.xfr_client.specs.Items.{read_record}
+use Rattle.xfr_client.specs.Items.{read_record, item_in}
 use Rattle.xfr_client.specs.Rest.{Rest, asks_again}
 
 -- whether a message was taken, the place in the text, and whether the first message asked for another way of transfer
@@ -39,6 +40,25 @@ as_read_here octets p = record (as_read octets p) { answers = map (read_record o
 abbrev pub read_here : List ℕ → Option ReadMessage
 read_here octets = option_map (as_read_here octets) (parsed octets)
 
+-- an answer record as it is read; None where none can be read
+abbrev pub answer_here : List ℕ → Option RawRecord → Option Record
+answer_here octets None = None
+answer_here octets (Some raw) = read_record octets raw
+
+-- what octets say up to the end of their answers, whatever stands behind those: the records up to the first place where none stands
+abbrev pub sections_here : List ℕ → ReadMessage
+sections_here octets = record { header = header_in octets; questions = questions_in octets; answers = map (answer_here octets) (answer_readings octets); authority = nscount_in octets }
+
+-- a message that these octets say, as far as a reader of the answers sees it
+pub record IsReadAs (octets : List ℕ) (m : ReadMessage) : Type 0 where
+  pub header : m.header ≡ header_in octets
+  pub questions : length m.questions ≡ qdcount_in octets
+  pub answers : (length m.answers == 0) ≡ (ancount_in octets == 0)
+  pub authority : m.authority ≡ nscount_in octets
+  pub begins : answers_start octets ≡ None → ⊥
+  pub items : map (item_in octets) (answer_readings octets) ≡ map record_item m.answers
+  pub sole : qdcount_in octets ≡ 1 → (q : Question) × (m.questions ≡ q ∷ []) × (sole_question_in octets ≡ Some q)
+
 -- the run that a message without a fault makes
 abbrev pub run_from : Interpreting → ReadMessage → Run
 run_from i m = run_items (mode_asked m.questions) i.place (map record_item m.answers)
@@ -57,6 +77,17 @@ good_header h = h.qr && (h.opcode == 0) && not h.tc && (h.rcode == 0)
 -- the counts of a transfer's reply (RFC 5936, 2.2)
 abbrev pub good_counts : Bool → ℕ → ℕ → ℕ → Bool
 good_counts first questions answers authority = not (answers == 0) && (authority == 0) && (if first then questions == 1 else nat_le questions 1)
+
+-- whether header and counts of octets are those of a transfer's reply
+abbrev pub good_head : Bool → List ℕ → Bool
+good_head first octets = good_header (header_in octets) && good_counts first (qdcount_in octets) (ancount_in octets) (nscount_in octets)
+
+-- why octets aren't taken whose answer section can't be reached
+abbrev pub unreached_fault : Bool → List ℕ → Error
+unreached_fault first octets = if good_head first octets then error.ParseError else error.NotValidXfrResponse
+
+abbrev pub unreached : Interpreting → List ℕ → Error
+unreached i octets = if is_over i then error.Finished else unreached_fault (not i.begun) octets
 
 -- why a message isn't taken
 abbrev pub Refuses : Interpreting → ReadMessage → Error → Type 0

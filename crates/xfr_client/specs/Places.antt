@@ -1,5 +1,6 @@
 -- The places that the interpreter's code keeps, as places of the machine.
-use Rattle.std.specs.Prelude.{Bool, true, false}
+use Rattle.std.specs.Prelude.{ℕ, Bool, true, false, Option, Some, None}
+use Rattle.dns_rdata.specs.Soa.{serial_of}
 use Rattle.zone_types.specs.Machine as machine
 use Rattle.xfr_client.specs.declared.place.Place.{Place}
 use Rattle.xfr_client.specs.declared.place.Place.TheVariants.{AtSecond, InWhole, InDeletes, InAdds, AtEnd}
@@ -19,3 +20,12 @@ is_at_second (machine.InWhole s) = false
 is_at_second (machine.InDeletes s) = false
 is_at_second (machine.InAdds s) = false
 is_at_second machine.AtEnd = false
+
+-- the serial of the text's first SOA record, up to the end
+abbrev pub first_serial : machine.Place → Option ℕ
+first_serial machine.AtStart = None
+first_serial (machine.AtSecond s) = Some (serial_of s.fields)
+first_serial (machine.InWhole s) = Some (serial_of s.fields)
+first_serial (machine.InDeletes s) = Some (serial_of s.fields)
+first_serial (machine.InAdds s) = Some (serial_of s.fields)
+first_serial machine.AtEnd = None

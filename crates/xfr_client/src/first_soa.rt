@@ -1,5 +1,6 @@
 // The SOA record that a transfer begins with, kept without memory of its own.
 ghost use Rattle.std.specs.Prelude.{◌≡◌, IfSome, IfNone, true, false};
+ghost use Rattle.dns_rdata.specs.Soa.{serial_of};
 ghost use Rattle.zone_types.specs.TransferText.{is_soa, is_same_soa};
 
 use dns_name::{KeyName, Labelled, Serial};
@@ -62,7 +63,9 @@ pub fn is_same_soa(first: &FirstSoa, found: &ReadRecord<'_>) -> bool
     }
 }
 
-/// The serial.
-pub fn serial_of(first: &FirstSoa) -> Serial {
+/// The serial (RFC 1035, 3.3.13).
+pub fn serial_of(first: &FirstSoa) -> Serial
+    ensures { result ≡ serial_of first.now.fields }
+{
     first.data().serial()
 }

@@ -5,11 +5,12 @@ ghost use Rattle.zone_types.specs.Messages.{ReadMessage};
 ghost use Rattle.zone_types.specs.TransferText.{Axfr};
 ghost use Rattle.zone_types.specs.Read.{first_fault, is_transfer_head, record_item};
 ghost use Rattle.zone_types.specs.Machine.{run_items, AtStart};
-ghost use Rattle.xfr_client.specs.declared.protocol.Error.TheVariants.{Finished};
-ghost use Rattle.xfr_client.specs.Places.{place_of, is_at_second};
+ghost use Rattle.xfr_client.specs.declared.protocol.Error.TheVariants.{Finished, ParseError};
+ghost use Rattle.dns_wire.specs.Parse.{answers_start};
+ghost use Rattle.xfr_client.specs.Places.{place_of, is_at_second, first_serial};
 ghost use Rattle.xfr_client.specs.Items.{items_left};
 ghost use Rattle.xfr_client.specs.Rest.{updates_in_hand};
-ghost use Rattle.xfr_client.specs.Interpreting.{Interprets, Refuses, interpreting_of, is_over, TakenOr, told_first, read_here, good_header, good_counts, Asks, BeginsAt, IsPlaceAt};
+ghost use Rattle.xfr_client.specs.Interpreting.{Interprets, Refuses, interpreting_of, is_over, TakenOr, told_first, read_here, sections_here, IsReadAs, good_header, good_counts, good_head, unreached_fault, unreached, Asks, BeginsAt, IsPlaceAt};
 
 use crate::first_soa::{first_soa, serial_of};
 use crate::iterator::XfrZoneUpdateIterator;
@@ -66,7 +67,9 @@ impl XfrResponseInterpreter {
     }
 
     /// The serial of the transfer's first SOA record, up to the end.
-    pub fn initial_serial(&self) -> Option<Serial> {
+    pub fn initial_serial(&self) -> Option<Serial>
+        ensures { result ≡ first_serial self.now.place }
+    {
         match &self.place {
             Some(place) => place.initial_serial(),
             None => None,
@@ -85,6 +88,10 @@ impl XfrResponseInterpreter {
     ) -> Result<XfrZoneUpdateIterator<'m>, Error>
         ensures ok { (m : ReadMessage) → read_here message.now ≡ Some m → IfOk result (λ rest. Interprets self.old m rest self.new) }
         ensures refused { (m : ReadMessage) → read_here message.now ≡ Some m → IfErr result (λ e. Refuses self.old m e) }
+        // So it is with any octets whose answer section can be reached, whatever stands behind that.
+        ensures sections_ok { (answers_start message.now ≡ None → ⊥) → IfOk result (λ rest. Interprets self.old (sections_here message.now) rest self.new) }
+        ensures sections_refused { (answers_start message.now ≡ None → ⊥) → IfErr result (λ e. Refuses self.old (sections_here message.now) e) }
+        ensures unreached { answers_start message.now ≡ None → result ≡ Err (unreached self.old message.now) }
         ensures over { is_over self.old ≡ true → result ≡ Err Finished }
         ensures err { OnErr result (self.new ≡ self.old) }
     {
@@ -103,7 +110,8 @@ fn taken<'m>(
     place: &Option<Place>,
     message: &'m MessageBuf,
 ) -> Result<(XfrZoneUpdateIterator<'m>, Place, bool), Error>
-    ensures { (m : ReadMessage) → read_here message.now ≡ Some m → TakenOr (is_none place.now) (interpreting_of place.now false).place m result }
+    ensures read { (m : ReadMessage) → IsReadAs message.now m → TakenOr (is_none place.now) (interpreting_of place.now false).place m result }
+    ensures unreached { answers_start message.now ≡ None → result ≡ Err (unreached_fault (is_none place.now) message.now) }
 {
     match place {
         None => begin(message),
@@ -113,7 +121,8 @@ fn taken<'m>(
 
 // A first message.
 fn begin<'m>(message: &'m MessageBuf) -> Result<(XfrZoneUpdateIterator<'m>, Place, bool), Error>
-    ensures { (m : ReadMessage) → read_here message.now ≡ Some m → TakenOr true AtStart m result }
+    ensures read { (m : ReadMessage) → IsReadAs message.now m → TakenOr true AtStart m result }
+    ensures unreached { answers_start message.now ≡ None → result ≡ Err (unreached_fault true message.now) }
 {
     let place = first_place(message)?;
     let ahead = behind_first(message)?;
@@ -130,7 +139,8 @@ fn go_on<'m>(
     place: &Place,
     message: &'m MessageBuf,
 ) -> Result<(XfrZoneUpdateIterator<'m>, Place, bool), Error>
-    ensures { (m : ReadMessage) → read_here message.now ≡ Some m → TakenOr false (place_of place.now) m result }
+    ensures read { (m : ReadMessage) → IsReadAs message.now m → TakenOr false (place_of place.now) m result }
+    ensures unreached { answers_start message.now ≡ None → result ≡ Err (unreached_fault false message.now) }
 {
     if !is_transfer_head(message, false) {
         return Err(Error::NotValidXfrResponse);
@@ -163,7 +173,8 @@ fn asks_again(behind: &Place, has_bad: bool) -> bool
 // The answer section.
 #[tactic(auto, using(crate::proofs::Sections::items_begin, crate::proofs::Sections::items_are))]
 fn answers(message: &MessageBuf) -> Result<RecordSection<'_>, Error>
-    ensures { (m : ReadMessage) → read_here message.now ≡ Some m → IsOkAnd result (λ s. items_left s ≡ map record_item m.answers) }
+    ensures read { (m : ReadMessage) → IsReadAs message.now m → IsOkAnd result (λ s. items_left s ≡ map record_item m.answers) }
+    ensures unreached { answers_start message.now ≡ None → result ≡ Err ParseError }
 {
     match message.answer() {
         Ok(section) => Ok(section),
@@ -173,7 +184,7 @@ fn answers(message: &MessageBuf) -> Result<RecordSection<'_>, Error>
 
 // The answer section behind its first record.
 fn behind_first(message: &MessageBuf) -> Result<RecordSection<'_>, Error>
-    ensures { (m : ReadMessage) (x : Option Record) (xs : List (Option Record)) → read_here message.now ≡ Some m → m.answers ≡ x ∷ xs → IsOkAnd result (λ s. items_left s ≡ map record_item xs) }
+    ensures { (m : ReadMessage) (x : Option Record) (xs : List (Option Record)) → IsReadAs message.now m → m.answers ≡ x ∷ xs → IsOkAnd result (λ s. items_left s ≡ map record_item xs) }
 {
     let mut section = answers(message)?;
     let _ = next_found(&mut section);
@@ -204,7 +215,8 @@ fn has_good_counts(counts: HeaderCounts, is_first: bool) -> bool
 // Whether header and counts are those of a transfer's reply.
 #[tactic(auto, using(crate::proofs::MessageParts::head_refused, crate::proofs::MessageParts::head_counted))]
 fn is_transfer_head(message: &MessageBuf, is_first: bool) -> bool
-    ensures { (m : ReadMessage) → read_here message.now ≡ Some m → result ≡ is_transfer_head is_first m }
+    ensures read { (m : ReadMessage) → IsReadAs message.now m → result ≡ is_transfer_head is_first m }
+    ensures octets { result ≡ good_head is_first message.now }
 {
     if !is_good_header(message.header()) {
         return false;
@@ -214,7 +226,8 @@ fn is_transfer_head(message: &MessageBuf, is_first: bool) -> bool
 
 // Where a first message stands behind its first record.
 fn first_place(message: &MessageBuf) -> Result<Place, Error>
-    ensures { (m : ReadMessage) → read_here message.now ≡ Some m → BeginsAt m result }
+    ensures read { (m : ReadMessage) → IsReadAs message.now m → BeginsAt m result }
+    ensures unreached { answers_start message.now ≡ None → result ≡ Err (unreached_fault true message.now) }
 {
     if !is_transfer_head(message, true) {
         return Err(Error::NotValidXfrResponse);
@@ -245,7 +258,7 @@ fn place_at(asks_changes: bool, found: &ReadRecord<'_>) -> Result<Place, Error>
 // Whether the question asks for changes alone, where it asks for a transfer.
 #[tactic(auto, using(crate::proofs::MessageParts::asked, crate::proofs::MessageParts::not_asked))]
 fn asks_changes(message: &MessageBuf) -> Result<bool, Error>
-    ensures { (m : ReadMessage) → read_here message.now ≡ Some m → IsTrue (length m.questions == 1) → Asks m result }
+    ensures { (m : ReadMessage) → IsReadAs message.now m → IsTrue (length m.questions == 1) → Asks m result }
 {
     let Ok(question) = message.sole_question() else {
         return Err(Error::Malformed);

@@ -2,8 +2,8 @@
 // (RFC 5936, 2.2; RFC 1995, 4).
 ghost use Rattle.std.specs.Prelude.{◌≡◌};
 ghost use Rattle.zone_types.specs.TransferText.{Mode, is_soa};
-ghost use Rattle.zone_types.specs.Machine.{step, end_or_batch, is_at_end};
-ghost use Rattle.xfr_client.specs.Places.{place_of, is_at_second};
+ghost use Rattle.zone_types.specs.Machine.{step, end_or_batch, is_at_end, AtSecond, InWhole, InDeletes, InAdds};
+ghost use Rattle.xfr_client.specs.Places.{place_of, is_at_second, first_serial};
 ghost use Rattle.xfr_client.specs.Told.{run_of, EndsBefore};
 
 use crate::first_soa::{FirstSoa, duplicate, is_same_soa, serial_of};
@@ -61,7 +61,9 @@ impl Place {
     }
 
     /// The serial of the first SOA record, which is forgotten at the end.
-    pub fn initial_serial(&self) -> Option<Serial> {
+    pub fn initial_serial(&self) -> Option<Serial>
+        ensures { result ≡ first_serial (place_of self.now) }
+    {
         match self {
             Place::AtSecond(first) => Some(serial_of(first)),
             Place::InWhole(first) => Some(serial_of(first)),
@@ -89,47 +91,71 @@ pub fn step<'m>(place: Place, found: ReadRecord<'m>) -> (Place, Told<'m>)
     ensures ends { EndsBefore result.0 result.1 }
 {
     match place {
-        Place::AtSecond(first) => {
-            if is_soa(&found) {
-                end_or_batch(first, found)
-            } else {
-                (Place::InWhole(first), Told::Whole(found))
-            }
-        }
-        Place::InWhole(first) => {
-            if is_same_soa(&first, &found) {
-                (Place::AtEnd, Told::One(ZoneUpdate::Finished(found)))
-            } else {
-                (
-                    Place::InWhole(first),
-                    Told::One(ZoneUpdate::AddRecord(found)),
-                )
-            }
-        }
-        Place::InDeletes(first) => {
-            if is_soa(&found) {
-                (
-                    Place::InAdds(first),
-                    Told::One(ZoneUpdate::BeginBatchAdd(found)),
-                )
-            } else {
-                (
-                    Place::InDeletes(first),
-                    Told::One(ZoneUpdate::DeleteRecord(found)),
-                )
-            }
-        }
-        Place::InAdds(first) => {
-            if is_soa(&found) {
-                end_or_batch(first, found)
-            } else {
-                (
-                    Place::InAdds(first),
-                    Told::One(ZoneUpdate::AddRecord(found)),
-                )
-            }
-        }
+        Place::AtSecond(first) => at_second(first, found),
+        Place::InWhole(first) => in_whole(first, found),
+        Place::InDeletes(first) => in_deletes(first, found),
+        Place::InAdds(first) => in_adds(first, found),
         Place::AtEnd => (Place::AtEnd, Told::AfterEnd),
+    }
+}
+
+// The second record tells which form the answer has (RFC 1995, 4).
+fn at_second<'m>(first: FirstSoa, found: ReadRecord<'m>) -> (Place, Told<'m>)
+    ensures says { (mode : Mode) → run_of result.0 result.1 ≡ step mode (AtSecond first) found.entry }
+    ensures ends { EndsBefore result.0 result.1 }
+{
+    if is_soa(&found) {
+        end_or_batch(first, found)
+    } else {
+        (Place::InWhole(first), Told::Whole(found))
+    }
+}
+
+// A record of a whole zone is added, up to the first SOA's like (RFC 5936, 2.2).
+fn in_whole<'m>(first: FirstSoa, found: ReadRecord<'m>) -> (Place, Told<'m>)
+    ensures says { (mode : Mode) → run_of result.0 result.1 ≡ step mode (InWhole first) found.entry }
+    ensures ends { EndsBefore result.0 result.1 }
+{
+    if is_same_soa(&first, &found) {
+        (Place::AtEnd, Told::One(ZoneUpdate::Finished(found)))
+    } else {
+        (
+            Place::InWhole(first),
+            Told::One(ZoneUpdate::AddRecord(found)),
+        )
+    }
+}
+
+// A record among deletes goes, up to the SOA before the adds (RFC 1995, 4).
+fn in_deletes<'m>(first: FirstSoa, found: ReadRecord<'m>) -> (Place, Told<'m>)
+    ensures says { (mode : Mode) → run_of result.0 result.1 ≡ step mode (InDeletes first) found.entry }
+    ensures ends { EndsBefore result.0 result.1 }
+{
+    if is_soa(&found) {
+        (
+            Place::InAdds(first),
+            Told::One(ZoneUpdate::BeginBatchAdd(found)),
+        )
+    } else {
+        (
+            Place::InDeletes(first),
+            Told::One(ZoneUpdate::DeleteRecord(found)),
+        )
+    }
+}
+
+// A record among adds comes in, up to the SOA that ends the batch (RFC 1995, 4).
+fn in_adds<'m>(first: FirstSoa, found: ReadRecord<'m>) -> (Place, Told<'m>)
+    ensures says { (mode : Mode) → run_of result.0 result.1 ≡ step mode (InAdds first) found.entry }
+    ensures ends { EndsBefore result.0 result.1 }
+{
+    if is_soa(&found) {
+        end_or_batch(first, found)
+    } else {
+        (
+            Place::InAdds(first),
+            Told::One(ZoneUpdate::AddRecord(found)),
+        )
     }
 }
 

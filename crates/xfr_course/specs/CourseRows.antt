@@ -65,3 +65,11 @@ bare_header = replicate 12 0
 
 abbrev pub two_octets : List ℕ
 two_octets = 1 ∷ 2 ∷ []
+
+-- a header less its last octet
+abbrev pub eleven_octets : List ℕ
+eleven_octets = replicate 11 0
+
+-- a header that counts one question, and nothing behind it
+abbrev pub lacks_question : List ℕ
+lacks_question = 0 ∷ 0 ∷ 0 ∷ 0 ∷ 0 ∷ 1 ∷ replicate 6 0

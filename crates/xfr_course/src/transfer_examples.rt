@@ -25,6 +25,7 @@ pub fn outcome_row()
     ensures made { outcomes.made (examples.course Ixfr type_ixfr rows.history_1 (examples.reply type_ixfr rows.history_text ∷ [])) ≡ rows.history_1 ∷ rows.history_2 ∷ rows.history_3 ∷ [] }
     ensures up_to_date { outcomes.outcome (examples.course Ixfr type_ixfr (rows.zone (rows.soa 1 ∷ [])) (examples.reply type_ixfr (rows.soa 1 ∷ []) ∷ [])) ≡ outcomes.UpToDate }
     ensures signal { outcomes.outcome (examples.course Ixfr type_ixfr (rows.zone (rows.soa 2 ∷ [])) (examples.reply type_ixfr (rows.soa 1 ∷ []) ∷ [])) ≡ outcomes.RetrySignal }
+    ensures no_serial { outcomes.outcome (examples.course Ixfr type_ixfr (rows.zone []) (examples.reply type_ixfr (rows.soa 0 ∷ []) ∷ [])) ≡ outcomes.RetrySignal }
     ensures after_end { outcomes.outcome (examples.course Axfr type_axfr rows.history_1 (examples.reply type_axfr (rows.soa 2 ∷ rows.address rows.nezu 1 ∷ rows.soa 2 ∷ rows.address rows.nezu 1 ∷ []) ∷ [])) ≡ outcomes.Reading reads.AfterEnd }
     ensures unfinished { outcomes.outcome (examples.course Axfr type_axfr rows.history_1 (examples.reply type_axfr (rows.soa 2 ∷ []) ∷ [])) ≡ outcomes.Ended }
     ensures unsigned { outcomes.outcome (examples.course Axfr type_axfr rows.history_1 (examples.reply type_axfr (rows.soa 2 ∷ []) ∷ record (examples.reply type_axfr (rows.soa 2 ∷ [])) { signed = false } ∷ examples.reply type_axfr (rows.address rows.nezu 1 ∷ []) ∷ [])) ≡ outcomes.Tsig ValidationError.TooManyUnsigned }
@@ -50,6 +51,16 @@ pub fn granting_row()
     ensures whole { same_version rows.cut_zone rows.cut_zone ≡ true }
 {}
 
+/// They fail where the clocks are 301 seconds apart, a signature is too short, the request too long, or a number lacks.
+pub fn unmet_row()
+    ensures late { granting.IsGranting (record examples.small_ends { at_secondary = 1301 }) → ⊥ }
+    ensures early { granting.IsGranting (record examples.small_ends { at_primary = 1601 }) → ⊥ }
+    ensures short_request_mac { granting.IsGranting (record examples.small_ends { primary_wants = 33 }) → ⊥ }
+    ensures short_answer_mac { granting.IsGranting (record examples.small_ends { secondary_wants = 33 }) → ⊥ }
+    ensures long_request { granting.IsGranting (record examples.small_ends { request_len = 65536 }) → ⊥ }
+    ensures no_number { granting.IsGranting (record examples.small_ends { number = 18446744073709551613 }) → ⊥ }
+{}
+
 /// From octets to an outcome: a whole zone in one signed answer; the same with another octet, too late, unsigned, too short, or not there.
 pub fn course_row()
     ensures updated { outcomes.outcome (courses.course_of (examples.handed 1000 outcomes.Ended (examples.whole_reply ∷ [])) rows.empty_zone 0) ≡ outcomes.Updated }
@@ -67,9 +78,17 @@ pub fn success_row()
     ensures { CarrySent examples.small_ends 1000 examples.small_carrier [] }
 {}
 
+/// A checked message: whether it was signed itself; and one that doesn't parse, whose answers can't be read.
+pub fn message_row()
+    ensures signed { (courses.checked_message examples.whole_reply).signed ≡ true }
+    ensures unsigned { (courses.checked_message bare_reply).signed ≡ false }
+    ensures unreadable { (courses.read_message examples.lacks_question).answers ≡ None ∷ [] }
+{}
+
 /// Replies: those before the first without a header are taken, and at most so many; a fault of a signature comes before a short reply, and that before too many.
 pub fn reply_row()
     ensures before_short { courses.replies_taken (examples.bare_header ∷ examples.two_octets ∷ examples.bare_header ∷ []) ≡ examples.bare_header ∷ [] }
+    ensures eleven { courses.replies_taken (examples.eleven_octets ∷ []) ≡ [] }
     ensures signature { courses.stop_after outcomes.Ended (examples.two_octets ∷ []) (Some ValidationError.BadSig) ≡ outcomes.Tsig ValidationError.BadSig }
     ensures short { courses.stop_after outcomes.Ended (examples.two_octets ∷ replicate 65536 examples.bare_header) None ≡ outcomes.Short }
     ensures too_many { courses.stop_after outcomes.Ended (replicate 65536 examples.bare_header) None ≡ outcomes.TooManyMessages }

@@ -8,9 +8,9 @@ use Rattle.xfr_client.specs.Interpreting.{Taken}
 use Rattle.xfr_client.proofs.Taking.{taken_first}
 use Rattle.xfr_client.proofs.interpreter.begin.Goals as goal
 
-pub returns : goal.returns
-returns c m h =
-    let s = c.in_ok-place.ensures m h in
+pub returns-clause-read : goal.returns-clause-read
+returns-clause-read c m h =
+    let s = c.in_ok-place.ensures.read m h in
     let a = c.in_ok-ahead.ensures m (Some s.first) s.others h s.answers in
     let b = c.in_ok-section.ensures m (Some s.first) s.others h s.answers in
     let P : Rest → Type 0 = λ r. Taken true AtStart m r c.run_over-behind.result.0 c.asks_again-has_signalled.result in
@@ -19,8 +19,8 @@ returns c m h =
     (c.run_over-behind.ensures.place ∙ ap (λ p. (run_items Axfr (place_of p) (items_left c.in_ok-ahead.ahead)).place) c.duplicate.ensures)
     c.run_over-behind.ensures.bad c.first_told-in_hand.ensures c.asks_again-has_signalled.ensures)
 
-pub returns-in_err-ahead : goal.returns-in_err-ahead
-returns-in_err-ahead c m h = let s = c.in_ok-place.ensures m h in absurd (c.in_err-ahead.ensures m (Some s.first) s.others h s.answers)
+pub returns-in_err-ahead-clause-read : goal.returns-in_err-ahead-clause-read
+returns-in_err-ahead-clause-read c m h = let s = c.in_ok-place.ensures.read m h in absurd (c.in_err-ahead.ensures m (Some s.first) s.others h s.answers)
 
-pub returns-in_err-section : goal.returns-in_err-section
-returns-in_err-section c m h = let s = c.in_ok-place.ensures m h in absurd (c.in_err-section.ensures m (Some s.first) s.others h s.answers)
+pub returns-in_err-section-clause-read : goal.returns-in_err-section-clause-read
+returns-in_err-section-clause-read c m h = let s = c.in_ok-place.ensures.read m h in absurd (c.in_err-section.ensures m (Some s.first) s.others h s.answers)
