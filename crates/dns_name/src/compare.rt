@@ -23,7 +23,8 @@ pub fn is_spelled_under(a: &KeyName, base: &KeyName) -> bool
     end.as_slice() == name.without_first(more).as_slice()
 }
 
-/// The order of the names by their labels from the right, each as a string of octets, a missing label first.
+/// The order of the names by their labels from the right, each as a string of octets, a missing label first. Of names in lower case
+/// this is canonical order (RFC 4034, 6.1).
 pub fn compare_spelling(a: &KeyName, b: &KeyName) -> Ordering
     ensures { result ≡ spelling_cmp a.now b.now }
 {

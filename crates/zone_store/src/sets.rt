@@ -6,7 +6,7 @@ ghost use Rattle.dns_rdata.specs.Records.{same_data};
 ghost use Rattle.dns_rdata.specs.ZoneData.{data_fields};
 ghost use Rattle.zone_types.specs.Version.{key_cmp};
 
-use dns_name::{KeyName, Labelled, Rtype, ToName, Ttl};
+use dns_name::{KeyName, Labelled, Rtype, Ttl, compare_spelling};
 use dns_rdata::StoredRecordData;
 use std::alloc::{AllocError, Global};
 use std::cmp::Ordering;
@@ -161,11 +161,15 @@ pub(crate) struct SetKey {
 }
 
 impl Model for SetKey {
+    ghost use Rattle.std.specs.Prelude.{◌≡◌};
+    ghost use Rattle.dns_name.specs.Names.{fold};
     ghost use Rattle.zone_types.specs.Version.{Key};
 
     ghost Value = { Key };
 
     ghost view = { λ k. (k.owner, k.rtype) };
+
+    ghost invariant = { λ k. fold k.owner ≡ k.owner };
 }
 
 impl SetKey {
@@ -256,8 +260,6 @@ impl Ord for SetKey {
     ghost matches_eq = { λ k l. refl };
 
     fn cmp(&self, other: &SetKey) -> Ordering {
-        self.owner
-            .name_cmp(&other.owner)
-            .then(self.rtype.cmp(&other.rtype))
+        compare_spelling(&self.owner, &other.owner).then(self.rtype.cmp(&other.rtype))
     }
 }
