@@ -1,198 +1,250 @@
 // Messages built and read back; limits; octets that aren't messages.
 
-use crate::{Header, Message, MessageBuf, MessageBuilder, PushError, Question};
+use crate::{
+    AnswerBuilder, Header, Message, MessageBuf, MessageBuilder, PushError, Question, RecordSection,
+};
 use dns_name::{Class, Labelled, Name, NameRef, Rcode, Rtype, Ttl};
-use dns_rdata::{A, Record, ZoneRecordData};
+use dns_rdata::{A, ParsedRecord, Record, ZoneRecordData};
 use std::alloc::Global;
-use std::test::Fail;
+use std::process::Abort;
 
 const EXAMPLE: [u8; 9] = *b"\x07example\x00";
 
 const AXFR_QUERY: [u8; 25] =
     *b"\x03\xe8\x00\x00\x00\x01\x00\x00\x00\x00\x00\x00\x07example\x00\x00\xfc\x00\x01";
 
-fn name(octets: &[u8]) -> Result<NameRef<'_>, Fail> {
-    Ok(Name::from_octets(octets)?)
+fn name<'o, R: Abort>(rt: &R, octets: &'o [u8]) -> NameRef<'o> {
+    Name::from_octets(octets).expect(rt, "a name")
 }
 
-fn axfr_query(alloc: Global) -> Result<MessageBuf, Fail> {
-    let mut message = MessageBuilder::new(alloc)?;
+fn builder<R: Abort>(rt: &R, alloc: Global) -> MessageBuilder {
+    MessageBuilder::new(alloc).expect(rt, "memory")
+}
+
+fn axfr_question<'o, R: Abort>(rt: &R) -> Question<NameRef<'o>> {
+    Question::new(name(rt, EXAMPLE.as_slice()), Rtype::AXFR, Class::IN)
+}
+
+fn axfr_query<R: Abort>(rt: &R, alloc: Global) -> MessageBuf {
+    let mut message = builder(rt, alloc);
     message.set_header(Header::new(1000));
     let mut questions = message.question();
-    questions.push(&Question::new(name(&EXAMPLE)?, Rtype::AXFR, Class::IN))?;
-    Ok(questions.finish())
+    questions.push(&axfr_question(rt)).expect(rt, "a question");
+    questions.finish()
 }
 
-fn root_address<'a>() -> Result<Record<NameRef<'a>, ZoneRecordData<NameRef<'a>>>, Fail> {
+fn root_address<'a, R: Abort>(rt: &R) -> Record<NameRef<'a>, ZoneRecordData<NameRef<'a>>> {
     let address = ZoneRecordData::A(A::new([192, 0, 2, 1]));
-    Ok(Record::new(name(&[0])?, Class::IN, Ttl::from_int(3600), address))
+    Record::new(
+        name(rt, b"\0".as_slice()),
+        Class::IN,
+        Ttl::from_int(3600),
+        address,
+    )
+}
+
+/// An answer to the query, with that rcode.
+fn answer<R: Abort>(rt: &R, alloc: Global, rcode: Rcode) -> AnswerBuilder {
+    let query = axfr_query(rt, alloc);
+    let started = builder(rt, alloc).start_answer(&query.as_message(), rcode);
+    started.expect(rt, "an answer")
+}
+
+/// The next record of a section, which has one that can be read.
+fn next<'m, R: Abort>(rt: &R, section: &mut RecordSection<'m>) -> ParsedRecord<'m> {
+    section
+        .next_record()
+        .expect(rt, "a record")
+        .expect(rt, "no error")
 }
 
 #[test]
-fn eleven_octets(rt: HostRuntime) -> Result<(), Fail> {
+fn eleven_octets(rt: HostRuntime) {
     assert!(rt; Message::from_octets(&[0; 11]).is_err());
     assert!(rt; Message::from_octets(&[0; 12]).is_ok());
-    assert!(rt; MessageBuf::from_octets(vec![in rt.alloc(); 0; 11]?).is_err());
-    Ok(())
+    let octets = vec![in rt.alloc(); 0; 11].expect(&rt, "memory");
+    assert!(rt; MessageBuf::from_octets(octets).is_err());
 }
 
 #[test]
-fn query_reads_back(rt: HostRuntime) -> Result<(), Fail> {
-    let query = axfr_query(rt.alloc())?;
+fn query_reads_back(rt: HostRuntime) {
+    let query = axfr_query(&rt, rt.alloc());
     assert_eq!(rt; query.as_slice(), AXFR_QUERY.as_slice());
     assert_eq!(rt; query.header(), Header::new(1000));
     assert_eq!(rt; query.counts().qdcount, 1);
-    let question = query.sole_question()?;
+    let question = query.sole_question().expect(&rt, "a question");
     assert_eq!(rt; question.qtype(), Rtype::AXFR);
     assert_eq!(rt; question.qclass(), Class::IN);
     let mut spelled = Vec::new(rt.alloc());
-    question.qname().compose(&mut spelled)?;
+    let composed = question.qname().compose(&mut spelled);
+    composed.expect(&rt, "memory");
     assert_eq!(rt; spelled.as_slice(), EXAMPLE.as_slice());
-    assert_eq!(rt; query.as_message().end()?, 25);
-    Ok(())
+    let end = query.as_message().end().expect(&rt, "a message");
+    assert_eq!(rt; end, 25);
 }
 
 #[test]
-fn push_limit(rt: HostRuntime) -> Result<(), Fail> {
-    let mut answers = MessageBuilder::new(rt.alloc())?.answer();
+fn push_limit(rt: HostRuntime) {
+    let mut answers = builder(&rt, rt.alloc()).answer();
+    let address = root_address(&rt);
     answers.set_push_limit(26);
-    assert_eq!(rt; answers.push(&root_address()?), Err(PushError::ShortBuf));
+    let refused = answers.push(&address);
+    assert_eq!(rt; refused, Err(PushError::ShortBuf));
     assert_eq!(rt; answers.as_slice(), [0; 12].as_slice());
     answers.set_push_limit(27);
-    assert_eq!(rt; answers.push(&root_address()?), Ok(()));
+    let added = answers.push(&address);
+    assert_eq!(rt; added, Ok(()));
     assert_eq!(rt; answers.as_slice().len(), 27);
     assert_eq!(rt; answers.counts().ancount, 1);
-    Ok(())
 }
 
 #[test]
-fn answer_to_a_query(rt: HostRuntime) -> Result<(), Fail> {
-    let query = axfr_query(rt.alloc())?;
-    let mut short = MessageBuilder::new(rt.alloc())?;
+fn query_without_room(rt: HostRuntime) {
+    let query = axfr_query(&rt, rt.alloc());
+    let mut short = builder(&rt, rt.alloc());
     short.set_push_limit(24);
     let refused = short.start_answer(&query.as_message(), Rcode::REFUSED);
     assert_eq!(rt; refused.err(), Some(PushError::ShortBuf));
-    let started = MessageBuilder::new(rt.alloc())?;
-    let mut answers = started.start_answer(&query.as_message(), Rcode::NOERROR)?;
+}
+
+#[test]
+fn answer_to_a_query(rt: HostRuntime) {
+    let mut answers = answer(&rt, rt.alloc(), Rcode::NOERROR);
     let mut header = answers.header();
     assert!(rt; header.qr);
     header.aa = true;
     answers.set_header(header);
-    answers.push(&root_address()?)?;
+    answers.push(&root_address(&rt)).expect(&rt, "an answer");
     let mut additional = answers.additional();
-    additional.push(&root_address()?)?;
+    additional.push(&root_address(&rt)).expect(&rt, "a record");
     let mut reply = additional.finish();
     assert_eq!(rt; reply.header(), header);
-    assert!(rt; reply.answer()?.next_record().is_some());
-    assert!(rt; reply.authority()?.next_record().is_none());
+    assert!(rt;
+        reply
+            .answer()
+            .expect(&rt, "answers")
+            .next_record()
+            .is_some()
+    );
+    assert!(rt;
+        reply
+            .authority()
+            .expect(&rt, "a section")
+            .next_record()
+            .is_none()
+    );
     reply.remove_last_additional();
-    assert!(rt; reply.additional()?.next_record().is_none());
+    assert!(rt;
+        reply
+            .additional()
+            .expect(&rt, "a section")
+            .next_record()
+            .is_none()
+    );
     reply.set_id(7);
     assert_eq!(rt; reply.header().id, 7);
     assert_eq!(rt; reply.into_octets().len(), 55);
-    Ok(())
 }
 
+/// A message of these octets.
+fn message<R: Abort>(rt: &R, alloc: Global, octets: &[u8]) -> MessageBuf {
+    let octets = octets.to_vec(alloc).expect(rt, "memory");
+    MessageBuf::from_octets(octets).expect(rt, "a header")
+}
+
+/// Two answer records are announced, and a whole one and the half of one are there.
+const HALF_A_RECORD: &[u8] = b"\x00\x00\x80\x00\x00\x00\x00\x02\x00\x00\x00\x00\
+\x00\x00\x01\x00\x01\x00\x00\x0e\x10\x00\x04\xc0\x00\x02\x01\
+\x00\x00\x01\x00\x01";
+
 #[test]
-fn sections_end_at_an_error(rt: HostRuntime) -> Result<(), Fail> {
-    // two answer records are announced, and a whole one and the half of one are there
-    let mut octets = Vec::new(rt.alloc());
-    octets.extend_from_slice(b"\x00\x00\x80\x00\x00\x00\x00\x02\x00\x00\x00\x00")?;
-    octets.extend_from_slice(b"\x00\x00\x01\x00\x01\x00\x00\x0e\x10\x00\x04\xc0\x00\x02\x01")?;
-    octets.extend_from_slice(b"\x00\x00\x01\x00\x01")?;
-    let message = MessageBuf::from_octets(octets)?;
-    let mut section = message.answer()?;
-    let first = section.next_record().ok_or("a record")??;
+fn sections_end_at_an_error(rt: HostRuntime) {
+    let message = message(&rt, rt.alloc(), HALF_A_RECORD);
+    let mut section = message.answer().expect(&rt, "a section");
+    let first = next(&rt, &mut section);
     assert_eq!(rt; first.rtype(), Rtype::A);
-    assert!(rt; section.next_record().ok_or("an error")?.is_err());
+    let second = section.next_record().expect(&rt, "an error");
+    assert!(rt; second.is_err());
     assert!(rt; section.next_record().is_none());
     assert!(rt; message.authority().is_err());
     assert!(rt; message.sole_question().is_err());
     assert_eq!(rt; message.as_message().question().count(), 0);
-    Ok(())
 }
 
 #[test]
-fn records_are_counted(rt: HostRuntime) -> Result<(), Fail> {
-    let mut answers = MessageBuilder::new(rt.alloc())?.answer();
-    answers.push(&root_address()?)?;
+fn records_are_counted(rt: HostRuntime) {
+    let mut answers = builder(&rt, rt.alloc()).answer();
+    answers.push(&root_address(&rt)).expect(&rt, "an answer");
     let message = answers.finish();
-    assert_eq!(rt; message.answer()?.count(), 1);
-    Ok(())
+    let section = message.answer().expect(&rt, "a section");
+    assert_eq!(rt; section.count(), 1);
 }
 
 #[test]
-fn questions_taken_back(rt: HostRuntime) -> Result<(), Fail> {
-    let mut questions = MessageBuilder::new(rt.alloc())?.question();
-    questions.push(&Question::new(name(&EXAMPLE)?, Rtype::AXFR, Class::IN))?;
+fn questions_taken_back(rt: HostRuntime) {
+    let mut questions = builder(&rt, rt.alloc()).question();
+    questions
+        .push(&axfr_question(&rt))
+        .expect(&rt, "a question");
     questions.rewind();
     assert_eq!(rt; questions.as_slice(), [0; 12].as_slice());
-    Ok(())
 }
 
 #[test]
-fn answers_taken_back(rt: HostRuntime) -> Result<(), Fail> {
-    let query = axfr_query(rt.alloc())?;
-    let started = MessageBuilder::new(rt.alloc())?;
-    let mut answers = started.start_answer(&query.as_message(), Rcode::NOERROR)?;
-    answers.push(&root_address()?)?;
+fn answers_taken_back(rt: HostRuntime) {
+    let mut answers = answer(&rt, rt.alloc(), Rcode::NOERROR);
+    answers.push(&root_address(&rt)).expect(&rt, "an answer");
     answers.rewind();
     assert_eq!(rt; answers.as_slice().len(), 25);
     assert_eq!(rt; answers.counts().ancount, 0);
-    Ok(())
 }
 
 #[test]
-fn later_sections_taken_back(rt: HostRuntime) -> Result<(), Fail> {
-    let mut answers = MessageBuilder::new(rt.alloc())?.answer();
-    answers.push(&root_address()?)?;
+fn later_sections_taken_back(rt: HostRuntime) {
+    let address = root_address(&rt);
+    let mut answers = builder(&rt, rt.alloc()).answer();
+    answers.push(&address).expect(&rt, "an answer");
     let mut authority = answers.authority();
-    authority.push(&root_address()?)?;
+    authority.push(&address).expect(&rt, "an authority record");
     authority.rewind();
     let mut additional = authority.additional();
-    additional.push(&root_address()?)?;
+    additional
+        .push(&address)
+        .expect(&rt, "an additional record");
     additional.rewind();
     assert_eq!(rt; additional.as_slice().len(), 27);
-    Ok(())
 }
 
-// a question for `e`, an answer record whose owner points to it, and two octets behind the last counted item
-fn compressed(alloc: Global) -> Result<MessageBuf, Fail> {
-    let mut octets = Vec::new(alloc);
-    octets.extend_from_slice(b"\x00\x07\x80\x00\x00\x01\x00\x01\x00\x00\x00\x00")?;
-    octets.extend_from_slice(b"\x01e\x00\x00\x01\x00\x01")?;
-    octets.extend_from_slice(b"\xc0\x0c\x00\x01\x00\x01\x00\x00\x0e\x10\x00\x04\xc0\x00\x02\x01")?;
-    octets.extend_from_slice(b"\xff\xff")?;
-    Ok(MessageBuf::from_octets(octets)?)
-}
+/// A question for `e`, an answer record whose owner points to it, and two octets behind the last counted item.
+const COMPRESSED: &[u8] = b"\x00\x07\x80\x00\x00\x01\x00\x01\x00\x00\x00\x00\
+\x01e\x00\x00\x01\x00\x01\
+\xc0\x0c\x00\x01\x00\x01\x00\x00\x0e\x10\x00\x04\xc0\x00\x02\x01\
+\xff\xff";
 
 #[test]
-fn owner_points_to_the_question(rt: HostRuntime) -> Result<(), Fail> {
-    let message = compressed(rt.alloc())?;
-    let record = message.answer()?.next_record().ok_or("a record")??;
+fn owner_points_to_the_question(rt: HostRuntime) {
+    let message = message(&rt, rt.alloc(), COMPRESSED);
+    let mut section = message.answer().expect(&rt, "a section");
+    let record = next(&rt, &mut section);
     let mut spelled = Vec::new(rt.alloc());
-    record.owner().compose(&mut spelled)?;
+    let composed = record.owner().compose(&mut spelled);
+    composed.expect(&rt, "memory");
     assert_eq!(rt; spelled.as_slice(), b"\x01e\x00".as_slice());
-    Ok(())
 }
 
 #[test]
-fn octets_behind_are_unread(rt: HostRuntime) -> Result<(), Fail> {
-    let message = compressed(rt.alloc())?;
+fn octets_behind_are_unread(rt: HostRuntime) {
+    let message = message(&rt, rt.alloc(), COMPRESSED);
     assert_eq!(rt; message.as_slice().len(), 37);
-    assert_eq!(rt; message.end()?, 35);
-    Ok(())
+    let end = message.end().expect(&rt, "a message");
+    assert_eq!(rt; end, 35);
 }
 
 #[test]
-fn type_and_error(rt: HostRuntime) -> Result<(), Fail> {
-    let query = axfr_query(rt.alloc())?;
+fn type_and_error(rt: HostRuntime) {
+    let query = axfr_query(&rt, rt.alloc());
     assert_eq!(rt; query.qtype(), Some(Rtype::AXFR));
     assert!(rt; !query.is_error());
-    let started = MessageBuilder::new(rt.alloc())?;
-    let refused = started
-        .start_answer(&query.as_message(), Rcode::REFUSED)?
-        .finish();
+    let refused = answer(&rt, rt.alloc(), Rcode::REFUSED).finish();
     assert!(rt; refused.is_error());
-    Ok(())
 }
