@@ -1,11 +1,11 @@
 // A signed exchange, vectors from outside, and the texts of errors.
 use crate::{
-    Algorithm, ClientSequence, Hmac, Key, KeyStore, NewKeyError, ServerSequence, Time48,
-    ValidationError,
+    Algorithm, ClientSequence, Hmac, Key, NewKeyError, ServerSequence, Time48, ValidationError,
 };
-use dns_name::{Class, KeyName, NameOctets, Opcode, Rtype};
+use dns_name::{Class, KeyName, NameOctets, Rtype};
 use dns_wire::{AdditionalBuilder, Header, MessageBuf, MessageBuilder, Question};
-use std::test::Fail;
+use std::alloc::Global;
+use std::process::Abort;
 
 /// The MAC of the signed request, computed by another program.
 const REQUEST_MAC: [u8; 32] = [
@@ -13,34 +13,39 @@ const REQUEST_MAC: [u8; 32] = [
     0x26, 0x2e, 0x46, 0x1f, 0x38, 0xb7, 0x6b, 0x83, 0x3c, 0x64, 0xeb, 0x9e, 0x91, 0xa9, 0xbe, 0x01,
 ];
 
-fn name(wire: &[u8]) -> Result<KeyName, Fail> {
+fn name<R: Abort>(rt: &R, wire: &[u8]) -> KeyName {
     let mut octets = NameOctets::new();
-    octets.append(wire)?;
-    Ok(KeyName::from_octets(octets)?)
+    octets.append(wire).expect(rt, "no more than 255 octets");
+    KeyName::from_octets(octets).expect(rt, "a name")
 }
 
-fn key() -> Result<Key, Fail> {
-    Ok(Key::new(
-        Algorithm::Sha256,
-        &[0, 1, 2],
-        name(b"\x03key\0")?,
-        None,
-        None,
-    )?)
+fn key<R: Abort>(rt: &R) -> Key {
+    let name = name(rt, b"\x03key\0");
+    Key::new(Algorithm::Sha256, &[0, 1, 2], name, None, None).expect(rt, "a key")
 }
 
 /// A message with the question for the whole zone `example.`; a reply where `qr` is set.
-fn message(rt: &HostRuntime, qr: bool) -> Result<AdditionalBuilder, Fail> {
-    let mut builder = MessageBuilder::new(rt.alloc())?;
+fn message<R: Abort>(rt: &R, alloc: Global, qr: bool) -> AdditionalBuilder {
+    let mut builder = MessageBuilder::new(alloc).expect(rt, "memory");
     let mut header = Header::new(1000);
     header.qr = qr;
     builder.set_header(header);
     let mut questions = builder.question();
-    let question = Question::new(name(b"\x07example\0")?, Rtype::AXFR, Class::IN);
-    if questions.push(&question).is_err() {
-        return Err(Fail::from("no room"));
-    }
-    Ok(questions.answer().additional())
+    let question = Question::new(name(rt, b"\x07example\0"), Rtype::AXFR, Class::IN);
+    questions.push(&question).expect(rt, "room");
+    questions.answer().additional()
+}
+
+/// A reply that the server signs at the moment.
+fn signed_reply<R: Abort>(
+    rt: &R,
+    alloc: Global,
+    server: &mut ServerSequence<Key>,
+    now: Time48,
+) -> MessageBuf {
+    let mut reply = message(rt, alloc, true);
+    server.answer(&mut reply, now).expect(rt, "room");
+    reply.finish()
 }
 
 /// RFC 2202, 3, case 1; RFC 4231, 4.2 and 4.7, whose key is longer than a block.
@@ -82,9 +87,9 @@ fn hmac_by_a_long_key(rt: HostRuntime) {
 }
 
 #[test]
-fn record_length(rt: HostRuntime) -> Result<(), Fail> {
-    assert_eq!(rt; key()?.compose_len(), 76);
-    Ok(())
+fn record_length(rt: HostRuntime) {
+    let key = key(&rt);
+    assert_eq!(rt; key.compose_len(), 76);
 }
 
 #[test]
@@ -108,73 +113,72 @@ fn moments(rt: HostRuntime) {
 }
 
 #[test]
-fn signed_exchange(rt: HostRuntime) -> Result<(), Fail> {
+fn signed_exchange(rt: HostRuntime) {
     let now = Time48::from_u64(1000);
-    let mut request = message(&rt, false)?;
-    let Ok(mut client) = ClientSequence::request(key()?, &mut request, now) else {
-        return Err(Fail::from("not signed"));
-    };
+    let alloc = rt.alloc();
+    let key = key(&rt);
+    let mut request = message(&rt, alloc, false);
+    let signed = ClientSequence::request(key.duplicate(), &mut request, now);
+    let mut client = signed.expect(&rt, "signed");
     let octets = request.as_slice();
     assert_eq!(rt; octets.len(), 101);
     assert_eq!(rt; &octets[63..95], REQUEST_MAC.as_slice());
     let mut received = request.finish();
-    let Ok(Some(mut server)) = ServerSequence::request(&key()?, &mut received, now) else {
-        return Err(Fail::from("not accepted"));
-    };
+    let accepted = ServerSequence::request(&key, &mut received, now);
+    let found = accepted.ok().expect(&rt, "accepted");
+    let mut server = found.expect(&rt, "a TSIG");
     assert_eq!(rt; received.counts().arcount, 0);
     for _ in 0..3 {
-        let mut reply = message(&rt, true)?;
-        if server.answer(&mut reply, now).is_err() {
-            return Err(Fail::from("no room"));
-        }
-        let mut reply = reply.finish();
-        assert_eq!(rt; client.answer(&mut reply, now), Ok(()));
+        let mut reply = signed_reply(&rt, alloc, &mut server, now);
+        let taken = client.answer(&mut reply, now);
+        assert_eq!(rt; taken, Ok(()));
     }
     assert_eq!(rt; client.unsigned(), 0);
-    let mut bare = message(&rt, true)?.finish();
-    assert_eq!(rt;
-        client.answer(&mut bare, now),
-        Err(ValidationError::TooManyUnsigned)
-    );
-    assert_eq!(rt; client.done(), Ok(()));
-    Ok(())
+    let mut bare = message(&rt, alloc, true).finish();
+    let taken = client.answer(&mut bare, now);
+    assert_eq!(rt; taken, Err(ValidationError::TooManyUnsigned));
+    let done = client.done();
+    assert_eq!(rt; done, Ok(()));
 }
 
 #[test]
-fn refusals(rt: HostRuntime) -> Result<(), Fail> {
+fn refusals(rt: HostRuntime) {
     let now = Time48::from_u64(1000);
-    let mut request = message(&rt, false)?;
-    let Ok(mut client) = ClientSequence::request(key()?, &mut request, now) else {
-        return Err(Fail::from("not signed"));
-    };
+    let alloc = rt.alloc();
+    let key = key(&rt);
+    let mut request = message(&rt, alloc, false);
+    let signed = ClientSequence::request(key.duplicate(), &mut request, now);
+    let mut client = signed.expect(&rt, "signed");
     let mut received = request.finish();
-    match ServerSequence::request(&key()?, &mut received, Time48::from_u64(1301)) {
-        Err(refusal) => assert_eq!(rt; refusal.error().to_int(), 18),
-        Ok(_) => return Err(Fail::from("accepted too late")),
-    }
-    let mut bare = message(&rt, true)?.finish();
-    assert_eq!(rt;
-        client.answer(&mut bare, now),
-        Err(ValidationError::ServerUnsigned)
-    );
-    let Ok(None) = ServerSequence::request(&key()?, &mut bare, now) else {
-        return Err(Fail::from("unsigned request"));
-    };
-    let short = Key::new(Algorithm::Sha256, &[0], name(b"\0")?, Some(15), None);
-    assert_eq!(rt; short.err(), Some(NewKeyError::BadMinMacLen));
-    Ok(())
+    let late = ServerSequence::request(&key, &mut received, Time48::from_u64(1301));
+    let refusal = late.err().expect(&rt, "too late");
+    assert_eq!(rt; refusal.error().to_int(), 18);
+    let mut bare = message(&rt, alloc, true).finish();
+    let taken = client.answer(&mut bare, now);
+    assert_eq!(rt; taken, Err(ValidationError::ServerUnsigned));
+    let unsigned = ServerSequence::request(&key, &mut bare, now);
+    let found = unsigned.ok().expect(&rt, "no refusal");
+    assert!(rt; found.is_none());
 }
 
 #[test]
-fn texts(rt: HostRuntime) -> Result<(), Fail> {
-    assert_eq!(rt;
-        ValidationError::BadSig.to_string(rt.alloc())?.as_str(),
-        "bad signature"
-    );
-    assert_eq!(rt;
-        NewKeyError::BadSigningLen.to_string(rt.alloc())?.as_str(),
-        "created signature length out of bounds"
-    );
-    assert_eq!(rt; key()?.to_string(rt.alloc())?.as_str(), "key");
-    Ok(())
+fn short_macs(rt: HostRuntime) {
+    let root = name(&rt, b"\0");
+    let short = Key::new(Algorithm::Sha256, &[0], root, Some(15), None);
+    assert_eq!(rt; short.err(), Some(NewKeyError::BadMinMacLen));
+}
+
+#[test]
+fn texts(rt: HostRuntime) {
+    let alloc = rt.alloc();
+    let text = ValidationError::BadSig
+        .to_string(alloc)
+        .expect(&rt, "memory");
+    assert_eq!(rt; text.as_str(), "bad signature");
+    let text = NewKeyError::BadSigningLen
+        .to_string(alloc)
+        .expect(&rt, "memory");
+    assert_eq!(rt; text.as_str(), "created signature length out of bounds");
+    let text = key(&rt).to_string(alloc).expect(&rt, "memory");
+    assert_eq!(rt; text.as_str(), "key");
 }
