@@ -225,3 +225,49 @@ fn deletes_the_last_data_of_a_set(rt: HostRuntime) {
     let zone = session.handle().expect(&rt, "memory");
     assert!(rt; zone.rrset_at(&owner, Rtype::A).is_none());
 }
+
+/// Whether a version has addresses of a name.
+fn has_addresses(zone: &ReadZone, owner: &[u8]) -> bool {
+    match NameRef::from_octets(owner) {
+        Ok(owner) => zone.rrset_at(&owner, Rtype::A).is_some(),
+        Err(_) => false,
+    }
+}
+
+/// The number of the session's current version, and whether it has addresses of these two names.
+fn current_of<R: Abort>(
+    rt: &R,
+    session: &mut WriteZone<'_>,
+    first: &[u8],
+    second: &[u8],
+) -> (u64, bool, bool) {
+    let zone = session.handle().expect(rt, "memory");
+    let has_first = has_addresses(&zone, first);
+    (zone.version(), has_first, has_addresses(&zone, second))
+}
+
+/// With memory a record is added and committed, and then all are removed. An edit or a commit that is refused an allocation
+/// (`tools/refused-memory`) leaves what is pending and what is current as they were.
+#[test]
+fn stays_as_it_was_in_want_of_memory(rt: HostRuntime) {
+    let alloc = rt.alloc();
+    let (old, new) = (b"\x01a\x07example\x00", b"\x01b\x07example\x00");
+    let same = address(&rt, alloc, new, 3);
+    let added = address(&rt, alloc, new, 3);
+    let mut zone = filled(&rt, alloc);
+    let mut session = zone.write(alloc);
+    let is_added = session.add_record(added).is_ok();
+    let has_added = session.has_data(&same);
+    assert_eq!(rt; has_added, is_added);
+    let current = current_of(&rt, &mut session, old, new);
+    assert_eq!(rt; current, (1, true, false));
+    let number = if session.commit().is_ok() { 2 } else { 1 };
+    let is_current = is_added && number == 2;
+    let current = current_of(&rt, &mut session, old, new);
+    assert_eq!(rt; current, (number, true, is_current));
+    let is_cleared = session.clear_all().is_ok();
+    let has_added = session.has_data(&same);
+    assert_eq!(rt; has_added, is_added && !is_cleared);
+    let current = current_of(&rt, &mut session, old, new);
+    assert_eq!(rt; current, (number, true, is_current));
+}
