@@ -8,9 +8,9 @@ use dns_name::{Class, Labelled, Name, Rtype, Serial, StoredName, Ttl};
 use dns_rdata::{A, Ns, Record, Soa, StoredRecord, StoredRecordData, ZoneRecordData};
 use dns_wire::{AdditionalBuilder, Header, MessageBuf, MessageBuilder, Question};
 use std::alloc::Global;
-use std::test::Fail;
+use std::process::Abort;
 use tsig_port::{Algorithm, ClientSequence, Key, Time48};
-use zone_store::{ReadZone, ZoneApex};
+use zone_store::{ReadZone, WriteZone, ZoneApex};
 
 type Primary = PrimaryStack<RefuseSvc, HistoryProvider, Key>;
 
@@ -23,13 +23,19 @@ const NS_EXAMPLE: &[u8] = b"\x02ns\x07example\0";
 /// `key.`
 const KEY: &[u8] = b"\x03key\0";
 
-fn stored(alloc: Global, octets: &[u8]) -> Result<StoredName, Fail> {
-    Ok(Name::from_octets(Bytes::copy_from_slice(alloc, octets)?)?)
+fn stored<R: Abort>(rt: &R, alloc: Global, octets: &[u8]) -> StoredName {
+    let octets = Bytes::copy_from_slice(alloc, octets).expect(rt, "memory");
+    Name::from_octets(octets).expect(rt, "a name")
 }
 
-fn new_record(alloc: Global, owner: &[u8], rdata: StoredRecordData) -> Result<StoredRecord, Fail> {
-    let owner = stored(alloc, owner)?;
-    Ok(Record::new(owner, Class::IN, Ttl::from_int(3600), rdata))
+fn new_record<R: Abort>(
+    rt: &R,
+    alloc: Global,
+    owner: &[u8],
+    rdata: StoredRecordData,
+) -> StoredRecord {
+    let owner = stored(rt, alloc, owner);
+    Record::new(owner, Class::IN, Ttl::from_int(3600), rdata)
 }
 
 fn soa() -> StoredRecordData {
@@ -45,41 +51,51 @@ fn soa() -> StoredRecordData {
     ))
 }
 
-fn example_zone(alloc: Global) -> Result<ReadZone, Fail> {
-    let mut zone = ZoneApex::new(alloc, stored(alloc, EXAMPLE)?, Class::IN)?;
-    let mut session = zone.write(alloc);
-    let server = ZoneRecordData::Ns(Ns::new(stored(alloc, NS_EXAMPLE)?));
-    session.add_record(new_record(alloc, EXAMPLE, soa())?)?;
-    session.add_record(new_record(alloc, EXAMPLE, server)?)?;
+fn fill<R: Abort>(rt: &R, alloc: Global, session: &mut WriteZone<'_>) {
+    let soa = new_record(rt, alloc, EXAMPLE, soa());
+    session.add_record(soa).expect(rt, "an SOA");
+    let server = ZoneRecordData::Ns(Ns::new(stored(rt, alloc, NS_EXAMPLE)));
+    let server = new_record(rt, alloc, EXAMPLE, server);
+    session.add_record(server).expect(rt, "a server");
     for last in [1, 2] {
         let address = ZoneRecordData::A(A::new([192, 0, 2, last]));
-        session.add_record(new_record(alloc, NS_EXAMPLE, address)?)?;
+        let address = new_record(rt, alloc, NS_EXAMPLE, address);
+        session.add_record(address).expect(rt, "an address");
     }
-    session.commit()?;
-    Ok(session.handle()?)
+    session.commit().expect(rt, "a version");
 }
 
-fn shared_key(alloc: Global) -> Result<Key, Fail> {
-    let name = stored(alloc, KEY)?.to_key_name();
-    Ok(Key::new(Algorithm::Sha256, &[0, 1, 2], name, None, None)?)
+fn example_zone<R: Abort>(rt: &R, alloc: Global) -> ReadZone {
+    let apex = stored(rt, alloc, EXAMPLE);
+    let mut zone = ZoneApex::new(alloc, apex, Class::IN).expect(rt, "memory");
+    let mut session = zone.write(alloc);
+    fill(rt, alloc, &mut session);
+    session.handle().expect(rt, "memory")
 }
 
-fn primary(alloc: Global, grants: bool) -> Result<Primary, Fail> {
-    let mut provider = HistoryProvider::new(alloc, example_zone(alloc)?);
-    let key = shared_key(alloc)?;
+fn shared_key<R: Abort>(rt: &R, alloc: Global) -> Key {
+    let name = stored(rt, alloc, KEY).to_key_name();
+    Key::new(Algorithm::Sha256, &[0, 1, 2], name, None, None).expect(rt, "a key")
+}
+
+fn primary<R: Abort>(rt: &R, alloc: Global, grants: bool) -> Primary {
+    let mut provider = HistoryProvider::new(alloc, example_zone(rt, alloc));
+    let key = shared_key(rt, alloc);
     if grants {
-        provider.grant(key.name().duplicate(), key.algorithm())?;
+        let name = key.name().duplicate();
+        provider.grant(name, key.algorithm()).expect(rt, "memory");
     }
     let transfers = XfrMiddlewareSvc::new(RefuseSvc, provider);
-    Ok(TsigMiddlewareSvc::new(transfers, key))
+    TsigMiddlewareSvc::new(transfers, key)
 }
 
-fn axfr_question(alloc: Global, class: Class) -> Result<AdditionalBuilder, Fail> {
-    let mut builder = MessageBuilder::new(alloc)?;
+fn axfr_question<R: Abort>(rt: &R, alloc: Global, class: Class) -> AdditionalBuilder {
+    let mut builder = MessageBuilder::new(alloc).expect(rt, "memory");
     builder.set_header(Header::new(1000));
-    let mut question = builder.question();
-    question.push(&Question::new(stored(alloc, EXAMPLE)?, Rtype::AXFR, class))?;
-    Ok(question.additional())
+    let mut section = builder.question();
+    let question = Question::new(stored(rt, alloc, EXAMPLE), Rtype::AXFR, class);
+    section.push(&question).expect(rt, "room");
+    section.additional()
 }
 
 fn at() -> Time48 {
@@ -87,28 +103,72 @@ fn at() -> Time48 {
 }
 
 /// All items that the primary gives in answer.
-fn items(alloc: Global, primary: &Primary, message: MessageBuf) -> Result<Vec<CallResult>, Fail> {
+fn items<R: Abort>(
+    rt: &R,
+    alloc: Global,
+    primary: &Primary,
+    message: MessageBuf,
+) -> Vec<CallResult> {
     let request = Request::new(message, TransportSpecificContext::NonUdp, at(), ());
-    let mut stream = primary.call(alloc, request)?;
+    let mut stream = primary.call(alloc, request).expect(rt, "replies");
     let mut items = Vec::new(alloc);
     for _ in 0..9u8 {
         let Some(item) = stream.next_item() else {
-            return Ok(items);
+            return items;
         };
-        items.push(item?)?;
+        let item = item.expect(rt, "an item");
+        items.push(item).expect(rt, "memory");
     }
-    Ok(items)
+    items
+}
+
+/// The octets of an item's reply.
+fn reply_octets<R: Abort>(rt: &R, alloc: Global, item: &CallResult) -> Vec<u8> {
+    let reply = item.response().expect(rt, "a reply");
+    reply.as_slice().to_vec(alloc).expect(rt, "memory")
 }
 
 /// The octets of the only item, which is a reply without feedback.
-fn only_reply(alloc: Global, items: Vec<CallResult>) -> Result<Vec<u8>, Fail> {
+fn only_reply<R: Abort>(rt: &R, alloc: Global, items: Vec<CallResult>) -> Vec<u8> {
     let mut items = items;
-    let item = items.pop().ok_or("no item")?;
-    if !items.is_empty() || item.feedback().is_some() {
-        Err("more than one reply")?;
+    let item = items.pop().expect(rt, "an item");
+    assert!(rt; items.is_empty());
+    assert!(rt; item.feedback().is_none());
+    reply_octets(rt, alloc, &item)
+}
+
+/// What the primary answers to a signed question, and the sequence that takes its replies.
+fn signed_items<R: Abort>(
+    rt: &R,
+    alloc: Global,
+    grants: bool,
+    class: Class,
+) -> (Vec<CallResult>, ClientSequence<Key>) {
+    let mut question = axfr_question(rt, alloc, class);
+    let key = shared_key(rt, alloc);
+    let client = ClientSequence::request(key, &mut question, at()).expect(rt, "a signature");
+    let primary = primary(rt, alloc, grants);
+    let items = items(rt, alloc, &primary, question.finish());
+    (items, client)
+}
+
+/// The reply as the sequence takes it.
+fn taken<R: Abort>(rt: &R, client: &mut ClientSequence<Key>, reply: Vec<u8>) -> MessageBuf {
+    let mut message = MessageBuf::from_octets(reply).expect(rt, "a header");
+    client
+        .answer(&mut message, at())
+        .expect(rt, "a good signature");
+    message
+}
+
+/// The types of a message's answers.
+fn answer_types<R: Abort>(rt: &R, alloc: Global, message: &MessageBuf) -> Vec<u16> {
+    let mut types = Vec::new(alloc);
+    for head in message.answer().expect(rt, "an answer section") {
+        let head = head.expect(rt, "a record");
+        types.push(head.rtype().to_int()).expect(rt, "memory");
     }
-    let reply = item.response().ok_or("no reply")?;
-    Ok(reply.as_slice().to_vec(alloc)?)
+    types
 }
 
 fn question_octets(class: u8) -> [u8; 13] {
@@ -118,66 +178,50 @@ fn question_octets(class: u8) -> [u8; 13] {
 }
 
 #[test]
-fn unsigned_request_is_refused_without_tsig(rt: HostRuntime) -> Result<(), Fail> {
+fn unsigned_request_is_refused_without_tsig(rt: HostRuntime) {
     let alloc = rt.alloc();
-    let request = axfr_question(alloc, Class::IN)?.finish();
-    let reply = only_reply(alloc, items(alloc, &primary(alloc, true)?, request)?)?;
+    let request = axfr_question(&rt, alloc, Class::IN).finish();
+    let primary = primary(&rt, alloc, true);
+    let items = items(&rt, alloc, &primary, request);
+    let reply = only_reply(&rt, alloc, items);
     assert_eq!(rt; reply.len(), 25);
     assert!(rt; reply[..12] == [3, 232, 128, 5, 0, 1, 0, 0, 0, 0, 0, 0]);
     assert!(rt; reply[12..] == question_octets(1)[..]);
-    Ok(())
 }
 
 #[test]
-fn another_class_is_not_authoritative(rt: HostRuntime) -> Result<(), Fail> {
+fn another_class_is_not_authoritative(rt: HostRuntime) {
     let alloc = rt.alloc();
-    let mut question = axfr_question(alloc, Class::from_int(3))?;
-    let mut client = ClientSequence::request(shared_key(alloc)?, &mut question, at())?;
-    let reply = only_reply(
-        alloc,
-        items(alloc, &primary(alloc, true)?, question.finish())?,
-    )?;
+    let (items, mut client) = signed_items(&rt, alloc, true, Class::from_int(3));
+    let reply = only_reply(&rt, alloc, items);
     assert_eq!(rt; reply.len(), 25 + 76);
     assert!(rt; reply[..12] == [3, 232, 128, 9, 0, 1, 0, 0, 0, 0, 0, 1]);
     assert!(rt; reply[12..25] == question_octets(3)[..]);
-    client.answer(&mut MessageBuf::from_octets(reply)?, at())?;
-    Ok(())
+    let _ = taken(&rt, &mut client, reply);
 }
 
 #[test]
-fn key_that_is_not_granted_is_refused(rt: HostRuntime) -> Result<(), Fail> {
+fn key_that_is_not_granted_is_refused(rt: HostRuntime) {
     let alloc = rt.alloc();
-    let mut question = axfr_question(alloc, Class::IN)?;
-    let mut client = ClientSequence::request(shared_key(alloc)?, &mut question, at())?;
-    let reply = only_reply(
-        alloc,
-        items(alloc, &primary(alloc, false)?, question.finish())?,
-    )?;
+    let (items, mut client) = signed_items(&rt, alloc, false, Class::IN);
+    let reply = only_reply(&rt, alloc, items);
     assert_eq!(rt; reply.len(), 25 + 76);
     assert!(rt; reply[..12] == [3, 232, 128, 5, 0, 1, 0, 0, 0, 0, 0, 1]);
-    client.answer(&mut MessageBuf::from_octets(reply)?, at())?;
-    Ok(())
+    let _ = taken(&rt, &mut client, reply);
 }
 
 #[test]
-fn granted_key_gets_the_zone_in_one_signed_message(rt: HostRuntime) -> Result<(), Fail> {
+fn granted_key_gets_the_zone_in_one_signed_message(rt: HostRuntime) {
     let alloc = rt.alloc();
-    let mut question = axfr_question(alloc, Class::IN)?;
-    let mut client = ClientSequence::request(shared_key(alloc)?, &mut question, at())?;
-    let items = items(alloc, &primary(alloc, true)?, question.finish())?;
+    let (items, mut client) = signed_items(&rt, alloc, true, Class::IN);
     assert_eq!(rt; items.len(), 3);
     assert!(rt; items[0].feedback() == Some(ServiceFeedback::BeginTransaction));
     assert!(rt; items[2].feedback() == Some(ServiceFeedback::EndTransaction));
-    let reply = items[1].response().ok_or("no reply")?;
-    let mut message = MessageBuf::from_octets(reply.as_slice().to_vec(alloc)?)?;
-    client.answer(&mut message, at())?;
+    let reply = reply_octets(&rt, alloc, &items[1]);
+    let message = taken(&rt, &mut client, reply);
     let octets = message.as_slice();
     assert_eq!(rt; octets.len() > 12, true);
     assert!(rt; octets[..12] == [3, 232, 132, 0, 0, 1, 0, 5, 0, 0, 0, 0]);
-    let mut types = Vec::new(alloc);
-    for head in message.answer()? {
-        types.push(head?.rtype().to_int())?;
-    }
+    let types = answer_types(&rt, alloc, &message);
     assert_eq!(rt; types.as_slice(), [6, 2, 1, 1, 6].as_slice());
-    Ok(())
 }
