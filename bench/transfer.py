@@ -1,0 +1,287 @@
+#!/usr/bin/env python3
+"""Time and peak memory of `zonesync axfr` against the number of records, and where the time goes.
+
+usage: python3 bench/transfer.py [--program FILE] [--runs N] [--shape WORD]
+
+It makes scripts (docs/SCRIPT.md) with a primary's zone of so many records beside its SOA, and runs the program that `rt run` built in
+crates/zonesync on each. The secondary begins without records, so that each record is read from the script, put into the primary's zone,
+written, signed, checked, read, put into the secondary's zone and reported.
+
+It prints, for each shape of zone:
+
+- time, resident memory and heap at their peaks, for 1, 100, 1,000 and the most records that fit one message, each less those of a zone of
+  the SOA alone, and per record, beside the least per record;
+- how time, heap and instructions grow where the number of records doubles: about 2.0 says in proportion to it, 4.0 by its square;
+- the share of each step in the instructions, and the functions that take most.
+
+Time is the processor's, the least of the runs. Heap and instructions come from valgrind, and are left out where there is none. What is
+printed holds for one machine and one build: only ratios say something elsewhere. A whole run takes some minutes.
+"""
+
+import argparse
+import collections
+import os
+import re
+import shutil
+import subprocess
+import sys
+import tempfile
+
+TOP = os.path.dirname(os.path.dirname(os.path.abspath(__file__)))
+
+APEX = b"\x07example\0"
+SOA_DATA = b"\0\0" + (1).to_bytes(4, "big") + bytes(16)
+KEY_NAME = b"\x03key\0"
+ALGORITHM = b"\x0bhmac-sha256\0"
+
+A, NS, SOA, TSIG = 1, 2, 6, 250
+
+HAS_VALGRIND = shutil.which("valgrind") is not None
+
+
+def record(owner, rtype, data):
+    """A record in wire form, of class IN."""
+    return owner + rtype.to_bytes(2, "big") + b"\0\1\0\0\x0e\x10" + len(data).to_bytes(2, "big") + data
+
+
+def owners(number):
+    """One address for each owner."""
+    return record(b"\x04" + b"%04x" % number + APEX, A, b"\xc0\0\2\1")
+
+
+def addresses(number):
+    """All addresses of one owner: one set."""
+    return record(b"\x04host" + APEX, A, (0x0A000000 + number).to_bytes(4, "big"))
+
+
+def servers(number):
+    """All servers of the apex: one set, whose data are names."""
+    return record(APEX, NS, b"\x04" + b"%04x" % number + APEX)
+
+
+def cuts(number):
+    """One delegation for each owner, to one server."""
+    return record(b"\x04" + b"%04x" % number + APEX, NS, b"\x02ns\x05other\0")
+
+
+SHAPES = {"owners": owners, "cuts": cuts, "addresses": addresses, "servers": servers}
+
+
+def script(shape, count):
+    """A script whose primary has so many records beside its SOA."""
+    lines = [
+        f"zone {APEX.hex()} 1",
+        f"key {KEY_NAME.hex()} hmac-sha256 000102 - -",
+        "at 1000 1000",
+        f"p {record(APEX, SOA, SOA_DATA).hex()}",
+    ]
+    lines += [f"p {shape(it).hex()}" for it in range(count)]
+    return "\n".join(lines).encode() + b"\n"
+
+
+def most_records(shape):
+    """How many records fit a message of 65,535 octets beside header, question, two SOA records and TSIG (RFC 8945, 4.2)."""
+    question = len(APEX) + 4
+    soas = 2 * len(record(APEX, SOA, SOA_DATA))
+    # Algorithm, time, fudge, MAC behind its length, original id, error, and no other octets behind their length.
+    tsig = len(record(KEY_NAME, TSIG, ALGORITHM + bytes(6 + 2 + 2 + 32 + 2 + 2 + 2)))
+    return (65535 - 12 - question - soas - tsig) // len(shape(0))
+
+
+def run(program, given):
+    """The output of one run, its status and its peak memory in KB."""
+    with open(given, "rb") as file:
+        how = ["/usr/bin/time", "-f", "%M", program, "axfr"]
+        done = subprocess.run(how, stdin=file, capture_output=True)
+    return done.stdout, done.returncode, int(done.stderr.split()[-1])
+
+
+def processor_time(program, given):
+    """The processor time in seconds of one run."""
+    with open(given, "rb") as file, open(os.devnull, "wb") as nowhere:
+        child = subprocess.Popen([program, "axfr"], stdin=file, stdout=nowhere)
+        _, _, usage = os.wait4(child.pid, 0)
+        child.returncode = 0
+    return usage.ru_utime + usage.ru_stime
+
+
+class Bench:
+    """Runs of the program on scripts of one shape."""
+
+    def __init__(self, program, folder, runs):
+        self.program = program
+        self.folder = folder
+        self.runs = runs
+
+    def given(self, name, count):
+        path = f"{self.folder}/{name}-{count}"
+        if not os.path.exists(path):
+            with open(path, "wb") as it:
+                it.write(script(SHAPES[name], count))
+        return path
+
+    def checked(self, name, count, fits=True):
+        """Peak memory in KB of a run, whose answer is looked at."""
+        out, status, peak = run(self.program, self.given(name, count))
+        lines = out.splitlines()
+        wanted = (0, b"updated 1", count + 2) if fits else (1, b"refused not-valid", 1)
+        if (status, lines[:1], len(lines)) != (wanted[0], [wanted[1]], wanted[2]):
+            sys.exit(f"{name}, {count} records: status {status}, {len(lines)} lines, first {lines[:1]}")
+        return peak
+
+    def time(self, name, count):
+        path = self.given(name, count)
+        return min(processor_time(self.program, path) for _ in range(self.runs))
+
+    def heap(self, name, count):
+        """The octets of heap at the moment when they are most, by valgrind; 0 without it."""
+        if not HAS_VALGRIND:
+            return 0
+        how = ["valgrind", "--tool=dhat", "--dhat-out-file=/dev/null", self.program, "axfr"]
+        with open(self.given(name, count), "rb") as file:
+            said = subprocess.run(how, stdin=file, stdout=subprocess.DEVNULL, stderr=subprocess.PIPE, text=True).stderr
+        return int(re.search(r"At t-gmax: ([\d,]+) bytes", said)[1].replace(",", ""))
+
+    def measured(self, name, count):
+        """Time, heap and instructions."""
+        instructions = sum(self.counted(name, count, 0).values()) if HAS_VALGRIND else 0
+        return self.time(name, count), self.heap(name, count), instructions
+
+    def counted(self, name, count, callers):
+        """The instructions of a run, by the chain of functions that they were counted in, innermost first."""
+        out = f"{self.folder}/counts"
+        how = ["valgrind", "--tool=callgrind", f"--callgrind-out-file={out}", f"--separate-callers={callers}", self.program, "axfr"]
+        with open(self.given(name, count), "rb") as file:
+            subprocess.run(how, stdin=file, stdout=subprocess.DEVNULL, stderr=subprocess.DEVNULL, check=True)
+        return self_counts(out)
+
+
+def self_counts(path):
+    """Reads a file of callgrind's: what each function counted itself."""
+    names, counts = {}, collections.Counter()
+    current, is_call = None, False
+    with open(path, encoding="utf-8", errors="replace") as file:
+        for line in file:
+            found = re.match(r"fn=\((\d+)\)(?: (.*))?$", line)
+            if found:
+                if found[2]:
+                    names[found[1]] = found[2]
+                current = names[found[1]]
+                continue
+            found = re.match(r"cfn=\((\d+)\) (.*)$", line)
+            if found:
+                names[found[1]] = found[2]
+                continue
+            if line.startswith("calls="):
+                is_call = True
+                continue
+            found = re.match(r"[+*-]?\d* ?(\d+)$", line)
+            if found and re.match(r"[+*\d-]", line):
+                if not is_call:
+                    counts[current] += int(line.split()[1])
+                is_call = False
+    return counts
+
+
+# The steps, by what stands in a chain of functions, innermost first; the first that fits tells. Where a function is inlined in its caller,
+# the callee that is left tells: only an insertion asks for `ends_with` and `flatten` there.
+STEPS = [
+    ("HMAC", r"\bsha2::|\btsig_port::digests"),
+    ("giving memory back", r"::destroy\b|\bdrop\b"),
+    ("insertion, primary", r"\bzone_script::opening"),
+    ("insertion, secondary", r"(\bzone_store::|\bstd_collections::|::ends_with\b|::flatten\b).*\bzone_transfer::client"),
+    ("walk, to write", r"\bzone_store::.*\bxfr_server::"),
+    ("walk, to report", r"\bzone_store::walk.*\bzone_sync::program"),
+    ("reading the script", r"\bzone_script::"),
+    ("writing the message", r"\bxfr_server::"),
+    ("reading the message", r"\bzone_transfer::client|\bzone_transfer::sync::take_replies|\btsig_port::"),
+    ("report and link", r"\bzone_sync::program"),
+    ("reading the script", r"\bzonesync::main"),
+]
+
+
+def step_of(chain):
+    for name, pattern in STEPS:
+        if re.search(pattern, chain):
+            return name
+    return "start and end"
+
+
+def ratio(value, least):
+    return f"{value / least:6.2f}" if least > 0 else "     -"
+
+
+def sizes(bench, name):
+    most = most_records(SHAPES[name])
+    least_peak, least_time, least_heap = bench.checked(name, 0), bench.time(name, 0), bench.heap(name, 0)
+    rows = []
+    for count in [1, 100, 1000, most]:
+        peak = bench.checked(name, count) - least_peak
+        rows.append((count, bench.time(name, count) - least_time, peak, bench.heap(name, count) - least_heap))
+    bench.checked(name, most + 1, fits=False)
+    print(f"the SOA alone: {least_time * 1e3:.2f} ms, {least_peak} KB, of it {least_heap} octets of heap")
+    print(f"{most} records fit one message, {most + 1} don't")
+    print(f"{'records':>8} {'ms':>9} {'us/record':>10} {'ratio':>6} {'KB':>8} {'heap, octets':>13} {'heap/record':>12} {'ratio':>6}")
+    # The time of one record is less than a run's noise: ratios are to the least of the others.
+    least = min(it[1] / it[0] for it in rows[1:])
+    least_memory = min(it[3] / it[0] for it in rows)
+    for count, time, peak, heap in rows:
+        timed = "noise" if count == 1 else ratio(time / count, least)
+        print(
+            f"{count:>8} {time * 1e3:>9.2f} {time / count * 1e6:>10.2f} {timed:>6}"
+            f" {peak:>8} {heap:>13} {heap / count:>12.1f} {ratio(heap / count, least_memory):>6}"
+        )
+
+
+def doublings(bench, name, counts):
+    print(f"{'records':>8} {'ms':>9} {'growth':>7} {'heap, octets':>13} {'growth':>7} {'instructions':>13} {'growth':>7}")
+    base = bench.measured(name, 0)
+    before = None
+    for count in counts:
+        now = [a - b for a, b in zip(bench.measured(name, count), base)]
+        grown = [f"{a / b:7.2f}" if b > 0 else "      -" for a, b in zip(now, before)] if before else [" " * 7] * 3
+        print(f"{count:>8} {now[0] * 1e3:>9.2f} {grown[0]} {now[1]:>13} {grown[1]} {now[2]:>13} {grown[2]}", flush=True)
+        before = now
+
+
+def shares(bench, name, count):
+    if not HAS_VALGRIND:
+        print("no valgrind: no shares")
+        return
+    counts = bench.counted(name, count, 40)
+    total = sum(counts.values())
+    steps, functions = collections.Counter(), collections.Counter()
+    for chain, cost in counts.items():
+        steps[step_of(chain)] += cost
+        functions[(step_of(chain), chain.split("'")[0])] += cost
+    print(f"{'step':<24} {'share':>6} {'instructions/record':>20}")
+    for step, cost in steps.most_common():
+        print(f"{step:<24} {100 * cost / total:>5.1f}% {cost / count:>20.0f}")
+    print("the functions that take most, by step")
+    for (step, function), cost in functions.most_common(12):
+        print(f"{100 * cost / total:>6.1f}%  {step:<22} {function}")
+
+
+def main():
+    parser = argparse.ArgumentParser(description=__doc__, formatter_class=argparse.RawDescriptionHelpFormatter)
+    parser.add_argument("--program", default=f"{TOP}/crates/zonesync/out/zonesync")
+    parser.add_argument("--runs", type=int, default=15, help="runs for each time, of which the least counts")
+    parser.add_argument("--shape", choices=sorted(SHAPES), action="append", help="only zones of this shape")
+    asked = parser.parse_args()
+    if not os.path.exists(asked.program):
+        sys.exit(f"no {asked.program}: run rt run in crates/zonesync first")
+    if not os.path.exists("/usr/bin/time"):
+        sys.exit("no /usr/bin/time")
+    with tempfile.TemporaryDirectory(prefix="bench-") as folder:
+        bench = Bench(asked.program, folder, asked.runs)
+        for name in asked.shape or SHAPES:
+            print(f"\n== {name}: {SHAPES[name].__doc__}")
+            sizes(bench, name)
+            print()
+            doublings(bench, name, [120, 240, 480, 960, 1920])
+            print()
+            shares(bench, name, 1000)
+
+
+if __name__ == "__main__":
+    main()
