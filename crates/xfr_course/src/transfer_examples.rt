@@ -79,6 +79,7 @@ pub fn success_row()
 {}
 
 /// A checked message: whether it was signed itself; and one that doesn't parse, whose answers can't be read.
+#[tactic(auto, unfolding(crate::proofs::OnLiterals::course_on_literals))]
 pub fn message_row()
     ensures signed { (courses.checked_message examples.whole_reply).signed ≡ true }
     ensures unsigned { (courses.checked_message bare_reply).signed ≡ false }
