@@ -32,7 +32,7 @@ impl Model for XfrData {
 }
 
 impl XfrData {
-    /// This version; in compatibility mode each message holds one record (RFC 5936, 7).
+    /// This version, and whether each message is to hold one record (RFC 5936, 7), which the transfer service doesn't heed yet.
     pub fn new(zone: ReadZone, compatibility_mode: bool) -> XfrData
         ensures { result ≡ record { version = zone.version; differences = []; compatibility = compatibility_mode } }
     {
@@ -56,7 +56,7 @@ impl XfrData {
         self.zone
     }
 
-    /// Whether each message holds one record.
+    /// Whether each message is to hold one record.
     pub fn compatibility_mode(&self) -> bool
         ensures { result ≡ self.now.compatibility }
     {
@@ -180,7 +180,7 @@ impl HistoryProvider {
         }
     }
 
-    /// Lets those who sign with a key of this name and algorithm have the zone.
+    /// Lets those who sign with a key of this name and algorithm have the zone (RFC 5936, 5).
     pub fn grant(&mut self, name: KeyName, algorithm: Algorithm) -> Result<(), AllocError>
         ensures ok { OnOk result (self.new ≡ record self.old { grants = self.old.grants ++ (name, algorithm_number algorithm) ∷ [] }) }
         ensures err { OnErr result (self.new ≡ self.old) }
@@ -189,7 +189,7 @@ impl HistoryProvider {
         Ok(())
     }
 
-    /// Whether each message is to hold one record (RFC 5936, 7).
+    /// Whether each message is to hold one record (RFC 5936, 7), which the transfer service doesn't heed yet.
     pub fn set_compatibility(&mut self, compatibility_mode: bool)
         ensures { self.new ≡ record self.old { compatibility = compatibility_mode } }
     {
