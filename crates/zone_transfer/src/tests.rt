@@ -7,7 +7,7 @@ use crate::memory_link::MemoryLink;
 use crate::outcome::{SyncError, SyncOk};
 use crate::sync::{Moments, sync_zone};
 use dns_name::{Class, Labelled, NameRef};
-use dns_rdata::{RecordData, record_from_octets};
+use dns_rdata::{RecordData, StoredRecord, record_from_octets};
 use dns_wire::{AdditionalBuilder, Header, MessageBuilder, Question};
 use std::alloc::Global;
 use std::process::Abort;
@@ -16,7 +16,7 @@ use xfr_client::{protocol, update};
 use xfr_server::{
     CallResult, Replies, Request, Service, ServiceError, ServiceFeedback, TsigMiddlewareSvc,
 };
-use zone_store::{ReadZone, WalkItem, ZoneApex};
+use zone_store::{ReadZone, WalkItem, WriteZone, ZoneApex};
 
 /// `example.`
 const EXAMPLE: &[u8] = b"\x07example\0";
@@ -46,8 +46,10 @@ const SECOND: &[u8] = b"\x04host\x07example\0\0\x01\0\x01\0\0\x0e\x10\0\x04\xc0\
 
 const OUTSIDE: &[u8] = b"\x07another\0\0\x01\0\x01\0\0\x0e\x10\0\x04\xc0\0\x02\x01";
 
-/// The version of number 1, as it stands before its records in `Case::committed`.
+/// The versions of the numbers 1 and 2, as they stand before their records in `Case::committed`.
 const VERSION_1: &[u8] = b"version 1:";
+
+const VERSION_2: &[u8] = b"version 2:";
 
 /// A reply: its question, if any, and its answers.
 type Reply = (&'static [u8], &'static [&'static [u8]]);
@@ -279,17 +281,28 @@ fn zone<R: Abort>(rt: &R, alloc: Global) -> ZoneApex {
     ZoneApex::new(alloc, apex, Class::IN).expect(rt, "memory")
 }
 
-/// What a secondary answers to the replies of a case; the versions are added to `made`.
+/// What a secondary without records answers to the replies of a case; the versions are added to `made`.
 fn answer_to<R: Abort>(
     rt: &R,
     alloc: Global,
     case: usize,
     made: &mut Vec<ReadZone>,
 ) -> Result<SyncOk, SyncError> {
-    let key = key(rt);
-    let primary = TsigMiddlewareSvc::new(Sender { case }, key.duplicate());
     let mut zone = zone(rt, alloc);
     let mut session = zone.write(alloc);
+    answer_in(rt, alloc, case, &mut session, made)
+}
+
+/// The same of the secondary that a session is of.
+fn answer_in<R: Abort>(
+    rt: &R,
+    alloc: Global,
+    case: usize,
+    session: &mut WriteZone<'_>,
+    made: &mut Vec<ReadZone>,
+) -> Result<SyncOk, SyncError> {
+    let key = key(rt);
+    let primary = TsigMiddlewareSvc::new(Sender { case }, key.duplicate());
     let mut link = MemoryLink::new(alloc, 65_535, Vec::new(alloc));
     let moments = Moments {
         at_primary: Time48::from_u64(1000),
@@ -298,7 +311,7 @@ fn answer_to<R: Abort>(
     sync_zone(
         alloc,
         &primary,
-        &mut session,
+        session,
         &key,
         XfrMode::Axfr,
         &mut link,
@@ -317,4 +330,75 @@ fn what_is_committed_and_answered(rt: HostRuntime) {
         let committed = joined(&rt, rt.alloc(), case.committed);
         assert_eq!(rt; walks, committed, "case {number}");
     }
+}
+
+/// The versions of a zone without records that gets the first case, and behind it the second.
+const VERSIONS: [&[&[u8]]; 3] = [
+    &[b"version 0:"],
+    &[VERSION_1, SOA, FIRST, SECOND],
+    &[VERSION_2, SOA],
+];
+
+/// The versions from the first up to the second of these numbers.
+fn versions<R: Abort>(rt: &R, alloc: Global, first: usize, last: usize) -> Vec<u8> {
+    let mut all = Vec::new(alloc);
+    for (number, version) in VERSIONS.iter().enumerate() {
+        if first <= number && number <= last {
+            let text = joined(rt, alloc, version);
+            all.extend_from_slice(text.as_slice()).expect(rt, "memory");
+        }
+    }
+    all
+}
+
+/// The answer to the replies of the first case, and where it is Ok to those of the second.
+fn answers<R: Abort>(
+    rt: &R,
+    alloc: Global,
+    session: &mut WriteZone<'_>,
+    made: &mut Vec<ReadZone>,
+) -> Result<SyncOk, SyncError> {
+    match answer_in(rt, alloc, 0, session, made) {
+        Ok(_) => answer_in(rt, alloc, 1, session, made),
+        Err(error) => Err(error),
+    }
+}
+
+/// The number and the records of the current version.
+fn current_of<R: Abort>(rt: &R, alloc: Global, session: &mut WriteZone<'_>) -> Vec<u8> {
+    let mut handles = Vec::new(alloc);
+    let handle = session.handle().expect(rt, "memory");
+    handles.push(handle).expect(rt, "memory");
+    walks_of(rt, alloc, handles.as_slice())
+}
+
+/// A record, stored.
+fn stored<R: Abort>(rt: &R, alloc: Global, octets: &[u8]) -> StoredRecord {
+    let found = record_from_octets(octets).expect(rt, "a record");
+    found.flatten(alloc).expect(rt, "memory")
+}
+
+/// With memory two versions are made. Where an allocation is refused (`tools/refused-memory`), a first part of them is, whose last one
+/// is current, and nothing is pending.
+#[test]
+fn makes_a_first_part_in_want_of_memory(rt: HostRuntime) {
+    let alloc = rt.alloc();
+    let first = stored(&rt, alloc, FIRST);
+    let mut zone = zone(&rt, alloc);
+    let mut session = zone.write(alloc);
+    let mut made = Vec::new(alloc);
+    let answer = answers(&rt, alloc, &mut session, &mut made);
+    let count = made.len();
+    if answer != Err(SyncError::Memory) {
+        assert_eq!(rt; answer, Ok(SyncOk::Updated));
+        assert_eq!(rt; count, 2);
+    }
+    let walks = walks_of(&rt, alloc, made.as_slice());
+    let expected = versions(&rt, alloc, 1, count);
+    assert_eq!(rt; walks, expected);
+    let current = current_of(&rt, alloc, &mut session);
+    let expected = versions(&rt, alloc, count, count);
+    assert_eq!(rt; current, expected);
+    let has_first = session.has_data(&first);
+    assert_eq!(rt; has_first, count == 1);
 }
