@@ -1,12 +1,9 @@
 -- What several appends make, and that what was there before stays in front.
-use Rattle.std.proofs.Common.{◌≡◌, ℕ, List, ◌++◌, length, take, refl}
-use Rattle.std.proofs.lemmas.List.{take_at, append_assoc}
+use Rattle.std.proofs.Common.{◌≡◌, ℕ, List, ◌++◌}
+use Rattle.std.proofs.lemmas.List.{append_assoc}
 use Rattle.dns_name.specs.Names.{name_wire}
-use Rattle.dns_rdata.specs.Records.{Record, record_wire, data_wire}
+use Rattle.rdata_types.specs.Records.{Record, record_wire, data_wire}
 use Rattle.dns_rdata.specs.RecordHead.{head_wire}
-
-pub begins : (a b : List ℕ) → take (length a) (a ++ b) ≡ a
-begins a b = take_at a b (length a) refl
 
 -- a record is its owner, its head and its data
 pub record_parts : (before : List ℕ) (r : Record) → before ++ name_wire r.owner ++ head_wire r ++ data_wire r.fields ≡ before ++ record_wire r

@@ -3,12 +3,13 @@ pub use Rattle.dns_name.specs.Codes
 pub use Rattle.dns_name.specs.Names
 pub use Rattle.dns_name.specs.Compression
 pub use Rattle.dns_name.specs.Serial
-pub mod Records
-pub mod Soa
+pub use Rattle.rdata_types.specs.Records
+pub use Rattle.rdata_types.specs.Soa
+pub use Rattle.rdata_types.specs.DataValues
+pub use Rattle.rdata_types.specs.DataFields
+pub use Rattle.rdata_types.specs.SameData
 pub mod Heads
 pub mod RecordRows
-pub mod DataFields
 pub mod ZoneData
-pub mod SameData
 pub mod SameZoneData
 pub mod RecordHead

@@ -1,8 +1,6 @@
 // Records as they are read: first the head by RDLENGTH alone, then the data.
-ghost use Rattle.std.specs.Prelude.{◌≡◌, ◌≤◌, ◌+◌, IfOk, OnOk, OnErr, IsTrue, Some, None, length, slice_range};
+ghost use Rattle.std.specs.Prelude.{◌≡◌, ◌≤◌, ◌+◌, IfOk, OnErr, Some, None, length, slice_range};
 ghost use Rattle.dns_rdata.specs.Heads.{raw_record_at, readable, record_in};
-ghost use Rattle.dns_rdata.specs.Records.{Record as RecordOf};
-ghost use Rattle.dns_rdata.specs.ZoneData.{is_known_type};
 
 use crate::record::{ReadRecord, Record};
 use crate::zone_data::ParsedRecordData;
@@ -126,22 +124,20 @@ impl<'m> ParsedRecord<'m> {
         &message[self.rdata..self.rdata + usize::from(self.rdlength)]
     }
 
-    /// The record with its data. An error where its type isn't known, or where the data don't have the pieces of the type or don't
-    /// fill RDLENGTH.
+    /// The record with its data. An error where the data don't have the pieces of the type or don't fill RDLENGTH.
     pub fn to_record(&self) -> Result<ReadRecord<'m>, ParseError>
         ensures found { IfOk result (λ r. readable self.now.message self.now.raw ≡ Some r) }
-        ensures known { OnOk result (IsTrue (is_known_type self.now.raw.rtype)) }
-        ensures none { OnErr result (IsTrue (is_known_type self.now.raw.rtype) → readable self.now.message self.now.raw ≡ None) }
+        ensures none { OnErr result (readable self.now.message self.now.raw ≡ None) }
     {
         let fields = ParsedRecordData::parse(self.rtype, self.message, self.rdata, self.rdlength)?;
         Ok(Record::new(self.owner.duplicate(), self.class, self.ttl, fields))
     }
 }
 
-/// The record that the octets spell, all of them and without a pointer. An error where they spell none, or one of a type that isn't known.
+/// The record that the octets spell, all of them and without a pointer. An error where they spell none.
 pub fn record_from_octets(octets: &[u8]) -> Result<ReadRecord<'_>, ParseError>
     ensures found { IfOk result (λ r. record_in octets.now ≡ Some r) }
-    ensures none { OnErr result ((r : RecordOf) → record_in octets.now ≡ Some r → IsTrue (is_known_type r.rtype) → ⊥) }
+    ensures none { OnErr result (record_in octets.now ≡ None) }
 {
     let (head, _) = ParsedRecord::parse(octets, 0)?;
     let record = head.to_record()?;

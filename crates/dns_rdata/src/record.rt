@@ -1,13 +1,12 @@
 // Records.
 ghost use Rattle.std.specs.Prelude.{◌≡◌, ◌++◌, ◌+◌, IfOk, OnOk, OnErr, length, take};
 ghost use Rattle.std.specs.Str.{bytes_eq};
-ghost use Rattle.dns_rdata.specs.Records.{Record as RecordOf, record_wire};
+ghost use Rattle.rdata_types.specs.Records.{Record as RecordOf, record_wire};
 ghost use Rattle.dns_rdata.specs.RecordHead.{head_wire};
 
-use crate::data::RecordData;
-use crate::spelling::{after_front, after_name};
 use crate::zone_data::{ParsedRecordData, StoredRecordData};
 use dns_name::{Class, Labelled, ParsedName, Rtype, StoredName, Ttl};
+use rdata_types::{RecordData, after_front, after_name};
 use std::alloc::{AllocError, Global};
 use std::marker::Model;
 
@@ -27,7 +26,7 @@ pub type StoredRecord = Record<StoredName, StoredRecordData>;
 pub type ReadRecord<'m> = Record<ParsedName<'m>, ParsedRecordData<'m>>;
 
 impl<N: Labelled + Drop, D: RecordData + Drop> Model for Record<N, D> {
-    ghost use Rattle.dns_rdata.specs.Records.{Record as RecordOf};
+    ghost use Rattle.rdata_types.specs.Records.{Record as RecordOf};
 
     ghost Value = { RecordOf };
 
@@ -122,7 +121,7 @@ impl<N: Labelled + Drop, D: RecordData + Drop> Record<N, D> {
         [a, b, c, d, e, f, g, h, i, j]
     }
 
-    #[tactic(auto, using(crate::proofs::Writing::begins, crate::proofs::Writing::record_parts, std::proofs::lemmas::List::append_assoc))]
+    #[tactic(auto, using(rdata_types::proofs::Writing::begins, crate::proofs::Writing::record_parts, std::proofs::lemmas::List::append_assoc))]
     fn compose_parts(&self, out: &mut Vec<u8>) -> Result<(), AllocError>
         ensures ok { OnOk result (out.new.items ≡ out.old.items ++ record_wire self.now) }
         ensures begins { take (length out.old.items) out.new.items ≡ out.old.items }
@@ -148,7 +147,7 @@ impl<'m> Record<ParsedName<'m>, ParsedRecordData<'m>> {
     }
 
     /// Whether the octets are those of the record as it is sent, without compression.
-    #[tactic(auto, using(crate::proofs::Fronts::both_fronts, crate::proofs::Fronts::wrong_second, crate::proofs::Fronts::wrong_front, crate::proofs::Writing::record_regrouped))]
+    #[tactic(auto, using(rdata_types::proofs::Fronts::both_fronts, rdata_types::proofs::Fronts::wrong_second, rdata_types::proofs::Fronts::wrong_front, crate::proofs::Writing::record_regrouped))]
     pub fn is_spelled(&self, octets: &[u8]) -> bool
         ensures { result ≡ bytes_eq (record_wire self.now) octets.now }
     {
@@ -178,7 +177,7 @@ impl Clone for Record<StoredName, StoredRecordData> {
 /// What is sent as a record.
 pub trait ComposeRecord {
     ghost use Rattle.std.specs.Prelude.{◌≡◌, ◌++◌, OnOk, OnErr};
-    ghost use Rattle.dns_rdata.specs.Records.{Record as RecordOf, record_wire};
+    ghost use Rattle.rdata_types.specs.Records.{Record as RecordOf, record_wire};
 
     ghost record_of: { Self → RecordOf };
 

@@ -1,95 +1,262 @@
-// The data of a record of any known type.
-ghost use Rattle.std.specs.Prelude.{◌≡◌, ◌+◌, IfOk, OnOk, OnErr, IsTrue, Some, None};
+// The data of a record of any type.
+ghost use Rattle.std.specs.Prelude.{◌≡◌, ◌+◌, IfOk, OnErr, Some, None};
 ghost use Rattle.std.specs.Str.{bytes_eq};
-ghost use Rattle.dns_rdata.specs.Records.{data_wire, fields_at, parts};
-ghost use Rattle.dns_rdata.specs.ZoneData.{rtype_of, fields_of, data_fields, is_known_type, same_zone_data};
+ghost use Rattle.rdata_types.specs.Records.{data_wire, fields_at, parts};
+ghost use Rattle.dns_rdata.specs.ZoneData.{rtype_of, fields_of, data_fields, same_zone_data};
 
-use crate::data::{A, Ns, RecordData, Soa};
+use bytes::Bytes;
 use dns_name::{Labelled, ParseError, ParsedName, Rtype, StoredName, ToName};
+use rdata_types::{
+    A, Aaaa, Cname, Ds, Mb, Md, Mf, Mg, Minfo, Mr, Mx, Ns, Ptr, RecordData, Soa, Srv, Txt,
+    UnknownRecordData, is_known_type,
+};
 use std::alloc::{AllocError, Global};
+use std::convert::AsSlice;
 
-/// Data of a known type.
+/// Data of any type: of a known one piece by piece, and of any other as octets (RFC 1035, 3.3; RFC 3597, 3).
 #[derive(Drop)]
-pub enum ZoneRecordData<N: Labelled + Drop> {
+pub enum ZoneRecordData<O: AsSlice<u8> + Drop, N: Labelled + Drop> {
     A(A),
+    Aaaa(Aaaa),
     Ns(Ns<N>),
+    Md(Md<N>),
+    Mf(Mf<N>),
+    Mb(Mb<N>),
+    Mg(Mg<N>),
+    Mr(Mr<N>),
+    Cname(Cname<N>),
+    Ptr(Ptr<N>),
+    Minfo(Minfo<N>),
+    Mx(Mx<N>),
+    Srv(Srv<N>),
     Soa(Soa<N>),
+    Txt(Txt<O>),
+    Ds(Ds<O>),
+    Unknown(UnknownRecordData<O>),
 }
 
 /// Data in memory of their own.
-pub type StoredRecordData = ZoneRecordData<StoredName>;
+pub type StoredRecordData = ZoneRecordData<Bytes, StoredName>;
 
 /// Data within a message.
-pub type ParsedRecordData<'m> = ZoneRecordData<ParsedName<'m>>;
+pub type ParsedRecordData<'m> = ZoneRecordData<&'m [u8], ParsedName<'m>>;
 
-impl<N: Labelled + Drop> RecordData for ZoneRecordData<N> {
+impl<O: AsSlice<u8> + Drop, N: Labelled + Drop> RecordData for ZoneRecordData<O, N> {
     ghost rtype = { rtype_of };
 
     ghost fields = { fields_of N.labels };
 
     fn rtype(&self) -> Rtype {
         match self {
-            ZoneRecordData::A(a) => a.rtype(),
-            ZoneRecordData::Ns(ns) => ns.rtype(),
-            ZoneRecordData::Soa(soa) => soa.rtype(),
+            ZoneRecordData::A(d) => d.rtype(),
+            ZoneRecordData::Aaaa(d) => d.rtype(),
+            ZoneRecordData::Ns(d) => d.rtype(),
+            ZoneRecordData::Md(d) => d.rtype(),
+            ZoneRecordData::Mf(d) => d.rtype(),
+            ZoneRecordData::Mb(d) => d.rtype(),
+            ZoneRecordData::Mg(d) => d.rtype(),
+            ZoneRecordData::Mr(d) => d.rtype(),
+            ZoneRecordData::Cname(d) => d.rtype(),
+            ZoneRecordData::Ptr(d) => d.rtype(),
+            ZoneRecordData::Minfo(d) => d.rtype(),
+            ZoneRecordData::Mx(d) => d.rtype(),
+            ZoneRecordData::Srv(d) => d.rtype(),
+            ZoneRecordData::Soa(d) => d.rtype(),
+            ZoneRecordData::Txt(d) => d.rtype(),
+            ZoneRecordData::Ds(d) => d.rtype(),
+            ZoneRecordData::Unknown(d) => d.rtype(),
         }
     }
 
     fn rdlen(&self) -> u16 {
         match self {
-            ZoneRecordData::A(a) => a.rdlen(),
-            ZoneRecordData::Ns(ns) => ns.rdlen(),
-            ZoneRecordData::Soa(soa) => soa.rdlen(),
+            ZoneRecordData::A(d) => d.rdlen(),
+            ZoneRecordData::Aaaa(d) => d.rdlen(),
+            ZoneRecordData::Ns(d) => d.rdlen(),
+            ZoneRecordData::Md(d) => d.rdlen(),
+            ZoneRecordData::Mf(d) => d.rdlen(),
+            ZoneRecordData::Mb(d) => d.rdlen(),
+            ZoneRecordData::Mg(d) => d.rdlen(),
+            ZoneRecordData::Mr(d) => d.rdlen(),
+            ZoneRecordData::Cname(d) => d.rdlen(),
+            ZoneRecordData::Ptr(d) => d.rdlen(),
+            ZoneRecordData::Minfo(d) => d.rdlen(),
+            ZoneRecordData::Mx(d) => d.rdlen(),
+            ZoneRecordData::Srv(d) => d.rdlen(),
+            ZoneRecordData::Soa(d) => d.rdlen(),
+            ZoneRecordData::Txt(d) => d.rdlen(),
+            ZoneRecordData::Ds(d) => d.rdlen(),
+            ZoneRecordData::Unknown(d) => d.rdlen(),
         }
     }
 
     fn compose_rdata(&self, out: &mut Vec<u8>) -> Result<(), AllocError> {
         match self {
-            ZoneRecordData::A(a) => a.compose_rdata(out),
-            ZoneRecordData::Ns(ns) => ns.compose_rdata(out),
-            ZoneRecordData::Soa(soa) => soa.compose_rdata(out),
+            ZoneRecordData::A(d) => d.compose_rdata(out),
+            ZoneRecordData::Aaaa(d) => d.compose_rdata(out),
+            ZoneRecordData::Ns(d) => d.compose_rdata(out),
+            ZoneRecordData::Md(d) => d.compose_rdata(out),
+            ZoneRecordData::Mf(d) => d.compose_rdata(out),
+            ZoneRecordData::Mb(d) => d.compose_rdata(out),
+            ZoneRecordData::Mg(d) => d.compose_rdata(out),
+            ZoneRecordData::Mr(d) => d.compose_rdata(out),
+            ZoneRecordData::Cname(d) => d.compose_rdata(out),
+            ZoneRecordData::Ptr(d) => d.compose_rdata(out),
+            ZoneRecordData::Minfo(d) => d.compose_rdata(out),
+            ZoneRecordData::Mx(d) => d.compose_rdata(out),
+            ZoneRecordData::Srv(d) => d.compose_rdata(out),
+            ZoneRecordData::Soa(d) => d.compose_rdata(out),
+            ZoneRecordData::Txt(d) => d.compose_rdata(out),
+            ZoneRecordData::Ds(d) => d.compose_rdata(out),
+            ZoneRecordData::Unknown(d) => d.compose_rdata(out),
         }
     }
 }
 
-impl<N: Labelled + Drop> ZoneRecordData<N> {
+impl<O: AsSlice<u8> + Drop, N: Labelled + Drop> ZoneRecordData<O, N> {
     /// The same data in memory of their own.
     pub fn flatten(&self, alloc: Global) -> Result<StoredRecordData, AllocError>
         ensures rtype { IfOk result (λ d. rtype_of d ≡ rtype_of self.now) }
         ensures fields { IfOk result (λ d. data_fields d ≡ fields_of N.labels self.now) }
     {
         match self {
-            ZoneRecordData::A(a) => Ok(ZoneRecordData::A(*a)),
-            ZoneRecordData::Ns(ns) => Ok(ZoneRecordData::Ns(ns.flatten(alloc)?)),
-            ZoneRecordData::Soa(soa) => Ok(ZoneRecordData::Soa(soa.flatten(alloc)?)),
+            ZoneRecordData::A(d) => Ok(ZoneRecordData::A(*d)),
+            ZoneRecordData::Aaaa(d) => Ok(ZoneRecordData::Aaaa(*d)),
+            ZoneRecordData::Ns(d) => Ok(ZoneRecordData::Ns(d.flatten(alloc)?)),
+            ZoneRecordData::Md(d) => Ok(ZoneRecordData::Md(d.flatten(alloc)?)),
+            ZoneRecordData::Mf(d) => Ok(ZoneRecordData::Mf(d.flatten(alloc)?)),
+            ZoneRecordData::Mb(d) => Ok(ZoneRecordData::Mb(d.flatten(alloc)?)),
+            ZoneRecordData::Mg(d) => Ok(ZoneRecordData::Mg(d.flatten(alloc)?)),
+            ZoneRecordData::Mr(d) => Ok(ZoneRecordData::Mr(d.flatten(alloc)?)),
+            ZoneRecordData::Cname(d) => Ok(ZoneRecordData::Cname(d.flatten(alloc)?)),
+            ZoneRecordData::Ptr(d) => Ok(ZoneRecordData::Ptr(d.flatten(alloc)?)),
+            ZoneRecordData::Minfo(d) => Ok(ZoneRecordData::Minfo(d.flatten(alloc)?)),
+            ZoneRecordData::Mx(d) => Ok(ZoneRecordData::Mx(d.flatten(alloc)?)),
+            ZoneRecordData::Srv(d) => Ok(ZoneRecordData::Srv(d.flatten(alloc)?)),
+            ZoneRecordData::Soa(d) => Ok(ZoneRecordData::Soa(d.flatten(alloc)?)),
+            ZoneRecordData::Txt(d) => Ok(ZoneRecordData::Txt(d.flatten(alloc)?)),
+            ZoneRecordData::Ds(d) => Ok(ZoneRecordData::Ds(d.flatten(alloc)?)),
+            ZoneRecordData::Unknown(d) => Ok(ZoneRecordData::Unknown(d.flatten(alloc)?)),
+        }
+    }
+
+    /// Whether the octets are those of the data as they are sent, without RDLENGTH and without compression.
+    pub fn is_spelled(&self, octets: &[u8]) -> bool
+        ensures { result ≡ bytes_eq (data_wire (fields_of N.labels self.now)) octets.now }
+    {
+        match self {
+            ZoneRecordData::A(d) => d.octets.as_slice() == octets,
+            ZoneRecordData::Aaaa(d) => d.octets.as_slice() == octets,
+            ZoneRecordData::Ns(d) => d.is_spelled(octets),
+            ZoneRecordData::Md(d) => d.is_spelled(octets),
+            ZoneRecordData::Mf(d) => d.is_spelled(octets),
+            ZoneRecordData::Mb(d) => d.is_spelled(octets),
+            ZoneRecordData::Mg(d) => d.is_spelled(octets),
+            ZoneRecordData::Mr(d) => d.is_spelled(octets),
+            ZoneRecordData::Cname(d) => d.is_spelled(octets),
+            ZoneRecordData::Ptr(d) => d.is_spelled(octets),
+            ZoneRecordData::Minfo(d) => d.is_spelled(octets),
+            ZoneRecordData::Mx(d) => d.is_spelled(octets),
+            ZoneRecordData::Srv(d) => d.is_spelled(octets),
+            ZoneRecordData::Soa(d) => d.is_spelled(octets),
+            ZoneRecordData::Txt(d) => d.is_spelled(octets),
+            ZoneRecordData::Ds(d) => d.is_spelled(octets),
+            ZoneRecordData::Unknown(d) => d.is_spelled(octets),
         }
     }
 }
 
-impl<N: ToName + Drop> ZoneRecordData<N> {
+impl<O: AsSlice<u8> + Drop, N: ToName + Drop> ZoneRecordData<O, N> {
     /// Whether the data are equal: of one type, names equal ASCII case aside, and all else octet for octet (RFC 2181, 5).
-    pub fn data_eq<M: Labelled + Drop>(&self, other: &ZoneRecordData<M>) -> bool
+    pub fn data_eq<P: AsSlice<u8> + Drop, M: Labelled + Drop>(
+        &self,
+        other: &ZoneRecordData<P, M>,
+    ) -> bool
         ensures { result ≡ same_zone_data N.labels M.labels self.now other.now }
     {
         match self {
             ZoneRecordData::A(a) => match other {
                 ZoneRecordData::A(b) => a.data_eq(b),
+                ZoneRecordData::Unknown(b) => b.is_known(),
+                _ => false,
+            },
+            ZoneRecordData::Aaaa(a) => match other {
+                ZoneRecordData::Aaaa(b) => a.data_eq(b),
+                ZoneRecordData::Unknown(b) => b.is_known(),
                 _ => false,
             },
             ZoneRecordData::Ns(a) => match other {
                 ZoneRecordData::Ns(b) => a.data_eq(b),
                 _ => false,
             },
+            ZoneRecordData::Md(a) => match other {
+                ZoneRecordData::Md(b) => a.data_eq(b),
+                _ => false,
+            },
+            ZoneRecordData::Mf(a) => match other {
+                ZoneRecordData::Mf(b) => a.data_eq(b),
+                _ => false,
+            },
+            ZoneRecordData::Mb(a) => match other {
+                ZoneRecordData::Mb(b) => a.data_eq(b),
+                _ => false,
+            },
+            ZoneRecordData::Mg(a) => match other {
+                ZoneRecordData::Mg(b) => a.data_eq(b),
+                _ => false,
+            },
+            ZoneRecordData::Mr(a) => match other {
+                ZoneRecordData::Mr(b) => a.data_eq(b),
+                _ => false,
+            },
+            ZoneRecordData::Cname(a) => match other {
+                ZoneRecordData::Cname(b) => a.data_eq(b),
+                _ => false,
+            },
+            ZoneRecordData::Ptr(a) => match other {
+                ZoneRecordData::Ptr(b) => a.data_eq(b),
+                _ => false,
+            },
+            ZoneRecordData::Minfo(a) => match other {
+                ZoneRecordData::Minfo(b) => a.data_eq(b),
+                _ => false,
+            },
+            ZoneRecordData::Mx(a) => match other {
+                ZoneRecordData::Mx(b) => a.data_eq(b),
+                _ => false,
+            },
+            ZoneRecordData::Srv(a) => match other {
+                ZoneRecordData::Srv(b) => a.data_eq(b),
+                _ => false,
+            },
             ZoneRecordData::Soa(a) => match other {
                 ZoneRecordData::Soa(b) => a.data_eq(b),
+                _ => false,
+            },
+            ZoneRecordData::Txt(a) => match other {
+                ZoneRecordData::Txt(b) => a.data_eq(b),
+                ZoneRecordData::Unknown(b) => b.is_known(),
+                _ => false,
+            },
+            ZoneRecordData::Ds(a) => match other {
+                ZoneRecordData::Ds(b) => a.data_eq(b),
+                ZoneRecordData::Unknown(b) => b.is_known(),
+                _ => false,
+            },
+            ZoneRecordData::Unknown(a) => match other {
+                ZoneRecordData::Unknown(b) => a.rtype() == b.rtype() && a.data_eq(b),
+                ZoneRecordData::A(_) => a.is_known(),
+                ZoneRecordData::Aaaa(_) => a.is_known(),
+                ZoneRecordData::Txt(_) => a.is_known(),
+                ZoneRecordData::Ds(_) => a.is_known(),
                 _ => false,
             },
         }
     }
 }
 
-impl<'m> ZoneRecordData<ParsedName<'m>> {
-    /// The data of that type in the `len` octets at place `pos` of a message, which they fill exactly; an error for a type that isn't known.
+impl<'m> ZoneRecordData<&'m [u8], ParsedName<'m>> {
+    /// The data of that type in the `len` octets at place `pos` of a message, which they fill exactly; else an error.
     pub fn parse(
         rtype: Rtype,
         message: &'m [u8],
@@ -98,32 +265,35 @@ impl<'m> ZoneRecordData<ParsedName<'m>> {
     ) -> Result<ParsedRecordData<'m>, ParseError>
         ensures rtype { IfOk result (λ d. rtype_of d ≡ rtype) }
         ensures found { IfOk result (λ d. fields_at (parts rtype) message.now (pos + len) pos ≡ Some (data_fields d)) }
-        ensures known { OnOk result (IsTrue (is_known_type rtype)) }
-        ensures none { OnErr result (IsTrue (is_known_type rtype) → fields_at (parts rtype) message.now (pos + len) pos ≡ None) }
+        ensures none { OnErr result (fields_at (parts rtype) message.now (pos + len) pos ≡ None) }
     {
+        if !is_known_type(rtype) {
+            return Ok(ZoneRecordData::Unknown(UnknownRecordData::<&[u8]>::parse(
+                rtype, message, pos, len,
+            )?));
+        }
         match rtype.to_int() {
             1 => Ok(ZoneRecordData::A(A::parse(message, pos, len)?)),
             2 => Ok(ZoneRecordData::Ns(Ns::<ParsedName>::parse(message, pos, len)?)),
+            3 => Ok(ZoneRecordData::Md(Md::<ParsedName>::parse(message, pos, len)?)),
+            4 => Ok(ZoneRecordData::Mf(Mf::<ParsedName>::parse(message, pos, len)?)),
+            5 => Ok(ZoneRecordData::Cname(Cname::<ParsedName>::parse(message, pos, len)?)),
             6 => Ok(ZoneRecordData::Soa(Soa::<ParsedName>::parse(message, pos, len)?)),
-            _ => Err(ParseError),
+            7 => Ok(ZoneRecordData::Mb(Mb::<ParsedName>::parse(message, pos, len)?)),
+            8 => Ok(ZoneRecordData::Mg(Mg::<ParsedName>::parse(message, pos, len)?)),
+            9 => Ok(ZoneRecordData::Mr(Mr::<ParsedName>::parse(message, pos, len)?)),
+            12 => Ok(ZoneRecordData::Ptr(Ptr::<ParsedName>::parse(message, pos, len)?)),
+            14 => Ok(ZoneRecordData::Minfo(Minfo::<ParsedName>::parse(message, pos, len)?)),
+            15 => Ok(ZoneRecordData::Mx(Mx::<ParsedName>::parse(message, pos, len)?)),
+            16 => Ok(ZoneRecordData::Txt(Txt::<&[u8]>::parse(message, pos, len)?)),
+            28 => Ok(ZoneRecordData::Aaaa(Aaaa::parse(message, pos, len)?)),
+            33 => Ok(ZoneRecordData::Srv(Srv::<ParsedName>::parse(message, pos, len)?)),
+            _ => Ok(ZoneRecordData::Ds(Ds::<&[u8]>::parse(message, pos, len)?)),
         }
     }
 }
 
-impl<N: Labelled + Drop> ZoneRecordData<N> {
-    /// Whether the octets are those of the data as they are sent, without RDLENGTH and without compression.
-    pub fn is_spelled(&self, octets: &[u8]) -> bool
-        ensures { result ≡ bytes_eq (data_wire (fields_of N.labels self.now)) octets.now }
-    {
-        match self {
-            ZoneRecordData::A(a) => a.octets.as_slice() == octets,
-            ZoneRecordData::Ns(ns) => ns.nsdname.to_key_name().as_slice() == octets,
-            ZoneRecordData::Soa(soa) => soa.is_spelled(octets),
-        }
-    }
-}
-
-impl<N: ToName + Drop> PartialEq for ZoneRecordData<N> {
+impl<O: AsSlice<u8> + Drop, N: ToName + Drop> PartialEq for ZoneRecordData<O, N> {
     ghost use Rattle.dns_rdata.specs.ZoneData.{same_zone_data};
     ghost use Rattle.dns_rdata.specs.SameZoneData.{same_zone_data_partial};
 
@@ -131,25 +301,39 @@ impl<N: ToName + Drop> PartialEq for ZoneRecordData<N> {
 
     ghost laws = { same_zone_data_partial N.labels };
 
-    fn eq(&self, other: &ZoneRecordData<N>) -> bool {
+    fn eq(&self, other: &ZoneRecordData<O, N>) -> bool {
         self.data_eq(other)
     }
 }
 
-impl<N: ToName + Drop> Eq for ZoneRecordData<N> {
+impl<O: AsSlice<u8> + Drop, N: ToName + Drop> Eq for ZoneRecordData<O, N> {
     ghost use Rattle.dns_rdata.specs.SameZoneData.{same_zone_data_equiv};
 
     ghost laws = { same_zone_data_equiv N.labels };
 }
 
-impl Clone for ZoneRecordData<StoredName> {
+impl Clone for ZoneRecordData<Bytes, StoredName> {
     ghost is_clone = { λ d copy. copy ≡ d };
 
     fn clone(&self) -> Result<StoredRecordData, AllocError> {
         match self {
-            ZoneRecordData::A(a) => Ok(ZoneRecordData::A(*a)),
-            ZoneRecordData::Ns(ns) => Ok(ZoneRecordData::Ns(ns.clone()?)),
-            ZoneRecordData::Soa(soa) => Ok(ZoneRecordData::Soa(soa.clone()?)),
+            ZoneRecordData::A(d) => Ok(ZoneRecordData::A(*d)),
+            ZoneRecordData::Aaaa(d) => Ok(ZoneRecordData::Aaaa(*d)),
+            ZoneRecordData::Ns(d) => Ok(ZoneRecordData::Ns(d.clone()?)),
+            ZoneRecordData::Md(d) => Ok(ZoneRecordData::Md(d.clone()?)),
+            ZoneRecordData::Mf(d) => Ok(ZoneRecordData::Mf(d.clone()?)),
+            ZoneRecordData::Mb(d) => Ok(ZoneRecordData::Mb(d.clone()?)),
+            ZoneRecordData::Mg(d) => Ok(ZoneRecordData::Mg(d.clone()?)),
+            ZoneRecordData::Mr(d) => Ok(ZoneRecordData::Mr(d.clone()?)),
+            ZoneRecordData::Cname(d) => Ok(ZoneRecordData::Cname(d.clone()?)),
+            ZoneRecordData::Ptr(d) => Ok(ZoneRecordData::Ptr(d.clone()?)),
+            ZoneRecordData::Minfo(d) => Ok(ZoneRecordData::Minfo(d.clone()?)),
+            ZoneRecordData::Mx(d) => Ok(ZoneRecordData::Mx(d.clone()?)),
+            ZoneRecordData::Srv(d) => Ok(ZoneRecordData::Srv(d.clone()?)),
+            ZoneRecordData::Soa(d) => Ok(ZoneRecordData::Soa(d.clone()?)),
+            ZoneRecordData::Txt(d) => Ok(ZoneRecordData::Txt(d.clone()?)),
+            ZoneRecordData::Ds(d) => Ok(ZoneRecordData::Ds(d.clone()?)),
+            ZoneRecordData::Unknown(d) => Ok(ZoneRecordData::Unknown(d.clone()?)),
         }
     }
 }

@@ -1,9 +1,9 @@
 use Rattle.std.proofs.Common.{◌≡◌, List, ℕ, ◌++◌, sym, ap, ◌∙◌, bytes_eq}
 use Rattle.dns_name.specs.Names.{Name, name_wire}
-use Rattle.dns_rdata.specs.Records.{Record as RecordOf, data_wire}
+use Rattle.rdata_types.specs.Records.{Record as RecordOf, data_wire}
 use Rattle.dns_rdata.specs.RecordHead.{head_wire}
 use Rattle.dns_rdata.proofs.Writing.{record_regrouped}
-use Rattle.dns_rdata.proofs.Fronts.{both_fronts, wrong_front, wrong_second}
+use Rattle.rdata_types.proofs.Fronts.{both_fronts, wrong_front, wrong_second}
 use Rattle.dns_rdata.proofs.record.Record+ParsedName+ParsedRecordData.is_spelled.Goals as goal
 
 pub returns : goal.returns

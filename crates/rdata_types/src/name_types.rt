@@ -1,0 +1,104 @@
+// The types whose data are one domain name.
+
+use dns_name::Rtype;
+
+/// A type whose data are one domain name.
+pub trait NameType {
+    ghost use Rattle.std.specs.Prelude.{◌≡◌, ℕ, IsTrue};
+    ghost use Rattle.rdata_types.specs.Records.{is_one_name};
+
+    ghost number: { ℕ };
+
+    /// The type.
+    fn rtype() -> Rtype
+        ensures value { result ≡ number }
+        ensures one_name { IsTrue (is_one_name number) };
+}
+
+/// NS (RFC 1035, 3.3.11).
+pub struct NsType;
+
+impl NameType for NsType {
+    ghost number = { 2 };
+
+    fn rtype() -> Rtype {
+        Rtype::NS
+    }
+}
+
+/// MD (RFC 1035, 3.3.4).
+pub struct MdType;
+
+impl NameType for MdType {
+    ghost number = { 3 };
+
+    fn rtype() -> Rtype {
+        Rtype::from_int(3)
+    }
+}
+
+/// MF (RFC 1035, 3.3.5).
+pub struct MfType;
+
+impl NameType for MfType {
+    ghost number = { 4 };
+
+    fn rtype() -> Rtype {
+        Rtype::from_int(4)
+    }
+}
+
+/// CNAME (RFC 1035, 3.3.1).
+pub struct CnameType;
+
+impl NameType for CnameType {
+    ghost number = { 5 };
+
+    fn rtype() -> Rtype {
+        Rtype::CNAME
+    }
+}
+
+/// MB (RFC 1035, 3.3.3).
+pub struct MbType;
+
+impl NameType for MbType {
+    ghost number = { 7 };
+
+    fn rtype() -> Rtype {
+        Rtype::from_int(7)
+    }
+}
+
+/// MG (RFC 1035, 3.3.6).
+pub struct MgType;
+
+impl NameType for MgType {
+    ghost number = { 8 };
+
+    fn rtype() -> Rtype {
+        Rtype::from_int(8)
+    }
+}
+
+/// MR (RFC 1035, 3.3.8).
+pub struct MrType;
+
+impl NameType for MrType {
+    ghost number = { 9 };
+
+    fn rtype() -> Rtype {
+        Rtype::from_int(9)
+    }
+}
+
+/// PTR (RFC 1035, 3.3.12).
+pub struct PtrType;
+
+impl NameType for PtrType {
+    ghost number = { 12 };
+
+    fn rtype() -> Rtype {
+        Rtype::from_int(12)
+    }
+}

@@ -1,0 +1,170 @@
+// Where a service is.
+ghost use Rattle.std.specs.Prelude.{◌≡◌, ◌≤◌, ◌+◌, ◌++◌, IfOk, OnOk, OnErr, Some, None, length, take};
+ghost use Rattle.std.specs.Str.{bytes_eq};
+ghost use Rattle.rdata_types.specs.Records.{data_wire, fields_at, parts, same_data};
+ghost use Rattle.rdata_types.specs.DataFields.{srv_fields, srv_numbers};
+
+use crate::fields::{RecordData, ends_at};
+use crate::spelling::after_front;
+use dns_name::{Labelled, ParseError, ParsedName, Rtype, StoredName, ToName, parse_octets};
+use std::alloc::{AllocError, Global};
+
+/// A host and port that offer a service (SRV; RFC 2782).
+#[derive(Clone, Debug, Drop)]
+pub struct Srv<N: Labelled + Drop> {
+    pub priority: u16,
+    pub weight: u16,
+    pub port: u16,
+    pub target: N,
+}
+
+impl<N: Labelled + Drop> Srv<N> {
+    /// The data of this priority, weight, port and host.
+    pub fn new(priority: u16, weight: u16, port: u16, target: N) -> Srv<N>
+        ensures { result ≡ record { priority = priority; weight = weight; port = port; target = target } }
+    {
+        Srv {
+            priority,
+            weight,
+            port,
+            target,
+        }
+    }
+
+    /// Where the host stands among those of the owner; lower ones are tried first.
+    pub fn priority(&self) -> u16
+        ensures { result ≡ self.now.priority }
+    {
+        self.priority
+    }
+
+    /// The host's share among those of one priority.
+    pub fn weight(&self) -> u16
+        ensures { result ≡ self.now.weight }
+    {
+        self.weight
+    }
+
+    /// The port of the service at the host.
+    pub fn port(&self) -> u16
+        ensures { result ≡ self.now.port }
+    {
+        self.port
+    }
+
+    /// The host; the root name where the service isn't offered.
+    pub fn target(&self) -> &N
+        ensures { result.now ≡ self.now.target }
+    {
+        &self.target
+    }
+
+    /// The data of this host, and of the three numbers in six octets as they are sent.
+    #[tactic(auto, unfolding(crate::specs::DataFields::srv_numbers))]
+    fn of_numbers(numbers: &[u8], target: N) -> Srv<N>
+        requires { length numbers.now ≡ 6 }
+        ensures numbers { srv_numbers result ≡ numbers.now }
+        ensures target { result.target ≡ target }
+    {
+        Srv {
+            priority: u16::from_be_bytes([numbers[0], numbers[1]]),
+            weight: u16::from_be_bytes([numbers[2], numbers[3]]),
+            port: u16::from_be_bytes([numbers[4], numbers[5]]),
+            target,
+        }
+    }
+
+    /// Priority, weight and port in six octets, as they are sent.
+    #[tactic(auto, unfolding(crate::specs::DataFields::srv_numbers))]
+    pub fn numbers(&self) -> [u8; 6]
+        ensures { result ≡ srv_numbers self.now }
+    {
+        let [a, b] = self.priority.to_be_bytes();
+        let [c, d] = self.weight.to_be_bytes();
+        let [e, f] = self.port.to_be_bytes();
+        [a, b, c, d, e, f]
+    }
+
+    /// The same data in memory of their own.
+    #[tactic(auto, unfolding(crate::specs::DataFields::srv_numbers))]
+    pub fn flatten(&self, alloc: Global) -> Result<Srv<StoredName>, AllocError>
+        ensures { IfOk result (λ d. srv_fields (λ n. n) d ≡ srv_fields N.labels self.now) }
+    {
+        Ok(Srv {
+            priority: self.priority,
+            weight: self.weight,
+            port: self.port,
+            target: self.target.to_stored(alloc)?,
+        })
+    }
+
+    /// Whether the octets are those of the data as they are sent, without compression.
+    #[tactic(auto, using(crate::proofs::Fronts::one_front, crate::proofs::Fronts::wrong_front))]
+    pub fn is_spelled(&self, octets: &[u8]) -> bool
+        ensures { result ≡ bytes_eq (data_wire (srv_fields N.labels self.now)) octets.now }
+    {
+        let Some(rest) = after_front(octets, &self.numbers()) else {
+            return false;
+        };
+        self.target.to_key_name().as_slice() == rest
+    }
+
+    #[tactic(auto, using(crate::proofs::Writing::begins, std::proofs::lemmas::List::append_assoc))]
+    fn compose_parts(&self, out: &mut Vec<u8>) -> Result<(), AllocError>
+        ensures ok { OnOk result (out.new.items ≡ out.old.items ++ data_wire (srv_fields N.labels self.now)) }
+        ensures begins { take (length out.old.items) out.new.items ≡ out.old.items }
+    {
+        out.extend_from_slice(&self.numbers())?;
+        self.target.compose(out)?;
+        Ok(())
+    }
+}
+
+impl<N: ToName + Drop> Srv<N> {
+    /// Whether the numbers are equal, and the names ASCII case aside.
+    pub fn data_eq<M: Labelled + Drop>(&self, other: &Srv<M>) -> bool
+        ensures { result ≡ same_data (srv_fields N.labels self.now) (srv_fields M.labels other.now) }
+    {
+        self.numbers() == other.numbers() && self.target.name_eq(&other.target)
+    }
+}
+
+impl<'m> Srv<ParsedName<'m>> {
+    /// The numbers and the name in the `len` octets at place `pos` of a message, which they fill exactly; else an error.
+    #[tactic(auto, unfolding(crate::specs::Records::fields_at))]
+    pub fn parse(message: &'m [u8], pos: usize, len: u16) -> Result<Srv<ParsedName<'m>>, ParseError>
+        ensures found { IfOk result (λ d. fields_at (parts 33) message.now (pos + len) pos ≡ Some (srv_fields (λ n. n) d)) }
+        ensures none { OnErr result (fields_at (parts 33) message.now (pos + len) pos ≡ None) }
+    {
+        let (numbers, second) = parse_octets(message, pos, 6)?;
+        let (target, after) = ParsedName::parse(message, second)?;
+        if !ends_at(pos, len, after) {
+            return Err(ParseError);
+        }
+        Ok(Srv::of_numbers(numbers, target))
+    }
+}
+
+impl<N: Labelled + Drop> RecordData for Srv<N> {
+    ghost rtype = { λ d. 33 };
+
+    ghost fields = { srv_fields N.labels };
+
+    fn rtype(&self) -> Rtype {
+        Rtype::from_int(33)
+    }
+
+    #[tactic(auto, unfolding(crate::specs::DataFields::srv_numbers))]
+    fn rdlen(&self) -> u16 {
+        6 + self.target.compose_len()
+    }
+
+    fn compose_rdata(&self, out: &mut Vec<u8>) -> Result<(), AllocError> {
+        let start = out.as_slice().len();
+        let composed = self.compose_parts(out);
+        if composed.is_err() {
+            out.truncate(start);
+        }
+        composed
+    }
+}
