@@ -8,6 +8,7 @@ use crate::labels::Labels;
 use crate::name_octets::NameOctets;
 use crate::parsed::{ParsedName, decode};
 use bytes::Bytes;
+use dns_numbers::ParseError;
 use std::alloc::{AllocError, Global};
 use std::convert::AsSlice;
 use std::marker::Model;
@@ -17,6 +18,12 @@ use thiserror::Error;
 #[derive(Clone, Copy, Debug, PartialEq, Eq, Drop, Error)]
 #[error("not a domain name")]
 pub struct NameError;
+
+impl From<NameError> for ParseError {
+    fn from(_: NameError) -> ParseError {
+        ParseError
+    }
+}
 
 /// A domain name in wire form, without a pointer: 1 to 255 octets, the root label last (RFC 1035, 3.1).
 #[derive(Drop)]

@@ -8,8 +8,8 @@ use crate::label::Label;
 use crate::labels::Labels;
 use crate::name::{KeyName, StoredName};
 use crate::name_octets::NameOctets;
-use crate::octets::ParseError;
 use crate::to_name::{Labelled, ToName};
+use dns_numbers::ParseError;
 use std::alloc::{AllocError, Global};
 use std::marker::Model;
 

@@ -4,7 +4,7 @@ use Rattle.std.specs.Prelude.{IsTrue}
 use Rattle.std.proofs.Math.Nat.{mod-eq_of_lt}
 use Rattle.std.proofs.lemmas.Nat.{mod-mul-add}
 use Rattle.std.proofs.lemmas.Bool.{and_parts, le-ltb, cases_lt}
-use Rattle.dns_name.specs.Serial.{serial_lt, serial_add}
+use Rattle.dns_numbers.specs.Serial.{serial_lt, serial_add}
 
 either : (x y : Bool) → (x || y) ≡ true → (x ≡ true) ⊎ (y ≡ true)
 either true y h = inl refl

@@ -1,8 +1,8 @@
 // Numbers that have names.
 ghost use Rattle.std.specs.Prelude.{◌≡◌, ◌%◌, ◌^◌, ◌<◌, ◌==◌, ◌||◌, Some};
 ghost use Rattle.std.specs.Fmt.{decimal};
-ghost use Rattle.dns_name.specs.Codes.{type_a, type_aaaa};
-ghost use Rattle.dns_name.specs.CodeTexts.{rtype_text, class_text, opcode_text, rcode_text, tsig_rcode_text};
+ghost use Rattle.dns_numbers.specs.Codes.{type_a, type_aaaa};
+ghost use Rattle.dns_numbers.specs.CodeTexts.{rtype_text, class_text, opcode_text, rcode_text, tsig_rcode_text};
 
 use std::fmt;
 use std::marker::Model;

@@ -1,7 +1,7 @@
 // Serial numbers (RFC 1982).
 ghost use Rattle.std.specs.Prelude.{◌≡◌, ◌<◌, ◌^◌, Some};
 ghost use Rattle.std.specs.Fmt.{decimal};
-ghost use Rattle.dns_name.specs.Serial.{serial_lt, serial_cmp, serial_add};
+ghost use Rattle.dns_numbers.specs.Serial.{serial_lt, serial_cmp, serial_add};
 
 use std::cmp::Ordering;
 use std::fmt;

@@ -1,5 +1,5 @@
-use Rattle.dns_name.proofs.Serials.{steps_lead_on, steps_between, one_way}
-use Rattle.dns_name.proofs.laws.serials_count_on.Goals as goal
+use Rattle.dns_numbers.proofs.Serials.{steps_lead_on, steps_between, one_way}
+use Rattle.dns_numbers.proofs.laws.serials_count_on.Goals as goal
 
 pub returns-clause-steps : goal.returns-clause-steps
 returns-clause-steps c = steps_lead_on

@@ -1,20 +1,13 @@
 // Numbers and octets at a place of a message (RFC 1035, 2.3.2).
 ghost use Rattle.std.specs.Prelude.{◌≡◌, ◌≤◌, ◌+◌, length, IfOk, OnErr, Some, None};
-ghost use Rattle.dns_name.specs.Octets.{octets_at, u16_at, u32_at, u48_at};
+ghost use Rattle.dns_numbers.specs.Octets.{octets_at, u16_at, u32_at, u48_at};
 
-use crate::name::NameError;
 use thiserror::Error;
 
 /// The octets at a place of the message spell no item there.
 #[derive(Clone, Copy, Debug, PartialEq, Eq, Drop, Error)]
 #[error("unexpected end or malformed item")]
 pub struct ParseError;
-
-impl From<NameError> for ParseError {
-    fn from(_: NameError) -> ParseError {
-        ParseError
-    }
-}
 
 /// The `len` octets at place `pos`, and the place after them.
 pub fn parse_octets<'m>(

@@ -1,0 +1,4 @@
+pub mod Octets
+pub mod Codes
+pub mod Serial
+pub mod CodeTexts
