@@ -3,8 +3,8 @@ use Rattle.std.proofs.Common.{◌≡◌, ℕ, ◌+◌, ◌-◌, ◌≤◌, List,
 use Rattle.std.specs.Prelude.{slice_range, Result}
 use Rattle.std.proofs.lemmas.List.{append_assoc, take-take, drop-take, take-append-drop, take_at, drop_at, drop-append-le, length-take-le, length-append, length-drop}
 use Rattle.dns_name.specs.Octets.{u16_octets}
-use Rattle.dns_wire.specs.Wire.{header_number, with_item}
-use Rattle.dns_wire.specs.Numbers.{with_number}
+use Rattle.dns_message.specs.Wire.{header_number, with_item}
+use Rattle.dns_message.specs.Numbers.{with_number}
 use Rattle.dns_wire.specs.Builds.{Adds, building}
 use Rattle.dns_wire.specs.declared.builder.PushError.{PushError}
 

@@ -1,16 +1,16 @@
 -- Questions added one after another.
 use Rattle.std.proofs.Common.{◌≡◌, ℕ, ◌+◌, ◌-◌, ◌<◌, ◌≤◌, ◌^◌, true, false, List, [], ◌∷◌, ◌++◌, length, take, drop, sym, ap, ◌∙◌, arith, subst}
-use Rattle.std.specs.Prelude.{slice_range, zero, suc, Option, None, Some, Ok, Err, filter_map, replicate}
+use Rattle.std.specs.Prelude.{slice_range, Option, None, Some, Ok, Err, filter_map, replicate}
 use Rattle.std.specs.Int.{w16, from_be_bytes}
 use Rattle.std.proofs.lemmas.Bool.Decides.{nat_tests}
 use Rattle.std.proofs.lemmas.List.{append_assoc, append-nil, drop_at, take_at, length-take-le, length-append, length-take, length-drop}
 use Rattle.std.proofs.lemmas.Nat.{from_be_bytes-to_be_bytes_2}
 use Rattle.dns_name.specs.Octets.{u16_octets}
-use Rattle.dns_wire.specs.Wire.{Building, Question, question_wire, header_in, header_wire, message_wire, header_number, with_item, with_question, fits}
+use Rattle.dns_message.specs.Wire.{Building, Question, question_wire, header_in, header_wire, message_wire, header_number, with_item, with_question, fits}
 use Rattle.dns_wire.specs.Builds.{with_questions, Adds, AddsQuestions, Builds, building}
-use Rattle.dns_wire.specs.Parse.{readings, reading_then, questions_in}
-use Rattle.dns_wire.specs.Reply.{answer_header, answer_with, empty_answer}
-use Rattle.dns_wire.proofs.Pushing.{message_wire-more_questions}
+use Rattle.dns_message.specs.Parse.{questions_in}
+use Rattle.dns_message.specs.Reply.{answer_header, answer_with, empty_answer}
+use Rattle.dns_message.proofs.Pushing.{message_wire-more_questions}
 use Rattle.dns_wire.specs.declared.builder.PushError.{PushError}
 use Rattle.dns_wire.specs.declared.builder.PushError.TheVariants.{ShortBuf, CountOverflow, Memory}
 
@@ -79,17 +79,7 @@ all_questions (q ∷ questions) request rcode done small =
     ∙ all_questions questions request rcode (done ++ q ∷ []) rest
     ∙ ap (λ qs. message_wire (answer_with request rcode qs)) (append_assoc done (q ∷ []) questions)
 
-few_then : {X : Type 0} (rest : ℕ → List (Option X)) (n : ℕ) (r : Option (X × ℕ)) → ((p : ℕ) → length (rest p) ≤ n) → length (reading_then rest r) ≤ suc n
-few_then rest n None few = omega arith
-few_then rest n (Some r) few = omega (arith, few r.1)
-
--- the readings are no more than were counted
-pub few_readings : {X : Type 0} (item : ℕ → Option (X × ℕ)) (n p : ℕ) → length (readings item n p) ≤ n
-unfolding readings
-few_readings item zero p = omega arith
-few_readings item (suc n) p = few_then (readings item n) n (item p) (few_readings item n)
-
--- and the questions no more than the readings
+-- the questions are no more than the readings
 pub few_questions : (left : List (Option Question)) → length (filter_map (λ q. q) left) ≤ length left
 few_questions [] = omega arith
 few_questions (None ∷ left) = omega (arith, few_questions left)

@@ -3,21 +3,19 @@
 ghost use Rattle.std.specs.Prelude.{◌≡◌, ◌+◌, ◌^◌, ◌<◌, ◌≤◌, ◌++◌, length, take, drop, replicate, vec_len, IfOk, IsTrue, Some};
 ghost use Rattle.std.specs.List.{filter_map};
 ghost use Rattle.dns_rdata.specs.Records.{record_wire};
-ghost use Rattle.dns_wire.specs.Wire.{header_in, header_wire, header_number, question_wire, message_wire, fits, Message as MessageOf};
-ghost use Rattle.dns_wire.specs.Numbers.{counts_in};
+ghost use Rattle.dns_message.specs.Wire.{header_in, header_wire, header_number, question_wire, message_wire, fits, Message as MessageOf};
+ghost use Rattle.dns_message.specs.Numbers.{counts_in};
 ghost use Rattle.dns_wire.specs.Builds.{Adds, AddsQuestions, Builds, building, cut_at, rewound};
-ghost use Rattle.dns_wire.specs.Reply.{empty_answer};
-ghost use Rattle.dns_wire.specs.Parse.{parsed, answers_start, authority_start, additional_start};
-ghost use Rattle.dns_wire.specs.Written.{IsMessage, parsed_of};
+ghost use Rattle.dns_message.specs.Reply.{empty_answer};
+ghost use Rattle.dns_message.specs.Parse.{parsed, answers_start, authority_start, additional_start};
+ghost use Rattle.dns_message.specs.Written.{IsMessage, parsed_of};
 
-use crate::header::{Header, HeaderCounts, counts_from, header_from};
-use crate::message::{Message, MessageBuf};
-use crate::numbers::{number_at, set_number};
-use crate::question::Question;
 use crate::section_builders::{
     AdditionalBuilder, AnswerBuilder, AuthorityBuilder, QuestionBuilder,
 };
-use crate::sections::QuestionSection;
+use dns_message::{
+    Header, HeaderCounts, Message, MessageBuf, Question, QuestionSection, number_at, set_number,
+};
 use dns_name::{Labelled, Rcode};
 use dns_rdata::ComposeRecord;
 use std::alloc::{AllocError, Global};
@@ -50,7 +48,7 @@ pub struct MessageBuilder {
 
 impl Model for MessageBuilder {
     ghost use Rattle.std.specs.Prelude.{◌≤◌, length};
-    ghost use Rattle.dns_wire.specs.Wire.{Building};
+    ghost use Rattle.dns_message.specs.Wire.{Building};
 
     ghost Value = { Building };
 
@@ -84,14 +82,14 @@ impl MessageBuilder {
     pub fn header(&self) -> Header
         ensures { result ≡ header_in self.now.octets }
     {
-        header_from(self.octets.as_slice())
+        self.as_message().header()
     }
 
     /// How many items the sections have so far.
     pub fn counts(&self) -> HeaderCounts
         ensures { result ≡ counts_in self.now.octets }
     {
-        counts_from(self.octets.as_slice())
+        self.as_message().counts()
     }
 
     /// Writes id and flags, the first four octets.

@@ -1,17 +1,15 @@
 // A message that is being built, section by section: items are added at its end, so that no section comes behind a later one.
 
 ghost use Rattle.std.specs.Prelude.{◌≡◌, ◌≤◌, ◌<◌, ◌^◌, ◌++◌, List, [], ◌∷◌, drop, length, Some, OnOk};
-ghost use Rattle.dns_wire.specs.Wire.{header_in, header_wire, question_wire, message_wire, in_answer, in_authority, Header as HeaderOf, Question as QuestionOf, Message as MessageOf};
+ghost use Rattle.dns_message.specs.Wire.{header_in, header_wire, question_wire, message_wire, in_answer, in_authority, Header as HeaderOf, Question as QuestionOf, Message as MessageOf};
 ghost use Rattle.dns_rdata.specs.Records.{Record};
-ghost use Rattle.dns_wire.specs.Parse.{parsed, answers_start, authority_start, additional_start};
-ghost use Rattle.dns_wire.specs.Written.{IsMessage, parsed_of};
-ghost use Rattle.dns_wire.specs.Numbers.{counts_in};
+ghost use Rattle.dns_message.specs.Parse.{parsed, answers_start, authority_start, additional_start};
+ghost use Rattle.dns_message.specs.Written.{IsMessage, parsed_of};
+ghost use Rattle.dns_message.specs.Numbers.{counts_in};
 ghost use Rattle.dns_wire.specs.Builds.{Adds, Pushes, cut_at, rewound};
 
 use crate::builder::{MessageBuilder, PushError};
-use crate::header::{Header, HeaderCounts};
-use crate::message::MessageBuf;
-use crate::question::Question;
+use dns_message::{Header, HeaderCounts, MessageBuf, Question};
 use dns_name::Labelled;
 use dns_rdata::ComposeRecord;
 use std::marker::Model;
@@ -23,7 +21,7 @@ pub struct QuestionBuilder {
 }
 
 impl Model for QuestionBuilder {
-    ghost use Rattle.dns_wire.specs.Wire.{Building};
+    ghost use Rattle.dns_message.specs.Wire.{Building};
 
     ghost Value = { Building };
 
@@ -141,7 +139,7 @@ pub struct AnswerBuilder {
 }
 
 impl Model for AnswerBuilder {
-    ghost use Rattle.dns_wire.specs.Wire.{Building};
+    ghost use Rattle.dns_message.specs.Wire.{Building};
 
     ghost Value = { Building };
 
@@ -254,7 +252,7 @@ pub struct AuthorityBuilder {
 }
 
 impl Model for AuthorityBuilder {
-    ghost use Rattle.dns_wire.specs.Wire.{Building};
+    ghost use Rattle.dns_message.specs.Wire.{Building};
 
     ghost Value = { Building };
 
@@ -360,7 +358,7 @@ pub struct AdditionalBuilder {
 }
 
 impl Model for AdditionalBuilder {
-    ghost use Rattle.dns_wire.specs.Wire.{Building};
+    ghost use Rattle.dns_message.specs.Wire.{Building};
 
     ghost Value = { Building };
 

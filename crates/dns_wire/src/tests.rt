@@ -1,10 +1,8 @@
-// Messages built and read back; limits; octets that aren't messages.
+// Messages built and read back; limits; answers to requests.
 
-use crate::{
-    AnswerBuilder, Header, Message, MessageBuf, MessageBuilder, PushError, Question, RecordSection,
-};
+use crate::{AnswerBuilder, Header, Message, MessageBuf, MessageBuilder, PushError, Question};
 use dns_name::{Class, Labelled, Name, NameRef, Rcode, Rtype, Ttl};
-use dns_rdata::{A, ParsedRecord, Record, ZoneRecordData};
+use dns_rdata::{A, Record, ZoneRecordData};
 use std::alloc::Global;
 use std::process::Abort;
 
@@ -50,22 +48,6 @@ fn answer<R: Abort>(rt: &R, alloc: Global, rcode: Rcode) -> AnswerBuilder {
     started.expect(rt, "an answer")
 }
 
-/// The next record of a section, which has one that can be read.
-fn next<'m, R: Abort>(rt: &R, section: &mut RecordSection<'m>) -> ParsedRecord<'m> {
-    section
-        .next_record()
-        .expect(rt, "a record")
-        .expect(rt, "no error")
-}
-
-#[test]
-fn eleven_octets(rt: HostRuntime) {
-    assert!(rt; Message::from_octets(&[0; 11]).is_err());
-    assert!(rt; Message::from_octets(&[0; 12]).is_ok());
-    let octets = vec![in rt.alloc(); 0; 11].expect(&rt, "memory");
-    assert!(rt; MessageBuf::from_octets(octets).is_err());
-}
-
 #[test]
 fn query_reads_back(rt: HostRuntime) {
     let query = axfr_query(&rt, rt.alloc());
@@ -107,6 +89,20 @@ fn query_without_room(rt: HostRuntime) {
     assert_eq!(rt; refused.err(), Some(PushError::ShortBuf));
 }
 
+/// A request that announces one question, and ends within its name.
+const HALF_A_QUESTION: &[u8] = b"\x03\xe8\x00\x00\x00\x01\x00\x00\x00\x00\x00\x00\x07exam";
+
+#[test]
+fn unreadable_question_is_left_out(rt: HostRuntime) {
+    let request = Message::from_octets(HALF_A_QUESTION).expect(&rt, "a header");
+    let started = builder(&rt, rt.alloc()).start_answer(&request, Rcode::FORMERR);
+    let answers = started.expect(&rt, "an answer");
+    let due = *b"\x03\xe8\x80\x01\x00\x00\x00\x00\x00\x00\x00\x00";
+    assert_eq!(rt; answers.as_slice(), due.as_slice());
+    assert_eq!(rt; answers.header().id, 1000);
+    assert_eq!(rt; answers.counts().qdcount, 0);
+}
+
 #[test]
 fn answer_to_a_query(rt: HostRuntime) {
     let mut answers = answer(&rt, rt.alloc(), Rcode::NOERROR);
@@ -144,31 +140,6 @@ fn answer_to_a_query(rt: HostRuntime) {
     reply.set_id(7);
     assert_eq!(rt; reply.header().id, 7);
     assert_eq!(rt; reply.into_octets().len(), 55);
-}
-
-/// A message of these octets.
-fn message<R: Abort>(rt: &R, alloc: Global, octets: &[u8]) -> MessageBuf {
-    let octets = octets.to_vec(alloc).expect(rt, "memory");
-    MessageBuf::from_octets(octets).expect(rt, "a header")
-}
-
-/// Two answer records are announced, and a whole one and the half of one are there.
-const HALF_A_RECORD: &[u8] = b"\x00\x00\x80\x00\x00\x00\x00\x02\x00\x00\x00\x00\
-\x00\x00\x01\x00\x01\x00\x00\x0e\x10\x00\x04\xc0\x00\x02\x01\
-\x00\x00\x01\x00\x01";
-
-#[test]
-fn sections_end_at_an_error(rt: HostRuntime) {
-    let message = message(&rt, rt.alloc(), HALF_A_RECORD);
-    let mut section = message.answer().expect(&rt, "a section");
-    let first = next(&rt, &mut section);
-    assert_eq!(rt; first.rtype(), Rtype::A);
-    let second = section.next_record().expect(&rt, "an error");
-    assert!(rt; second.is_err());
-    assert!(rt; section.next_record().is_none());
-    assert!(rt; message.authority().is_err());
-    assert!(rt; message.sole_question().is_err());
-    assert_eq!(rt; message.as_message().question().count(), 0);
 }
 
 #[test]
@@ -213,31 +184,6 @@ fn later_sections_taken_back(rt: HostRuntime) {
         .expect(&rt, "an additional record");
     additional.rewind();
     assert_eq!(rt; additional.as_slice().len(), 27);
-}
-
-/// A question for `e`, an answer record whose owner points to it, and two octets behind the last counted item.
-const COMPRESSED: &[u8] = b"\x00\x07\x80\x00\x00\x01\x00\x01\x00\x00\x00\x00\
-\x01e\x00\x00\x01\x00\x01\
-\xc0\x0c\x00\x01\x00\x01\x00\x00\x0e\x10\x00\x04\xc0\x00\x02\x01\
-\xff\xff";
-
-#[test]
-fn owner_points_to_the_question(rt: HostRuntime) {
-    let message = message(&rt, rt.alloc(), COMPRESSED);
-    let mut section = message.answer().expect(&rt, "a section");
-    let record = next(&rt, &mut section);
-    let mut spelled = Vec::new(rt.alloc());
-    let composed = record.owner().compose(&mut spelled);
-    composed.expect(&rt, "memory");
-    assert_eq!(rt; spelled.as_slice(), b"\x01e\x00".as_slice());
-}
-
-#[test]
-fn octets_behind_are_unread(rt: HostRuntime) {
-    let message = message(&rt, rt.alloc(), COMPRESSED);
-    assert_eq!(rt; message.as_slice().len(), 37);
-    let end = message.end().expect(&rt, "a message");
-    assert_eq!(rt; end, 35);
 }
 
 #[test]

@@ -4,7 +4,7 @@ use Rattle.std.proofs.lemmas.Bool.{lt-leb}
 use Rattle.dns_wire.specs.declared.builder.PushError.{PushError}
 use Rattle.dns_wire.specs.declared.builder.PushError.TheVariants.{ShortBuf, CountOverflow}
 use Rattle.dns_wire.specs.declared.builder.PushError.TheVariants as push
-use Rattle.dns_wire.specs.declared.message.ShortMessage.{ShortMessage}
+use Rattle.dns_message.specs.declared.message.ShortMessage.{ShortMessage}
 use Rattle.zone_types.specs.Commits.{Commit}
 use Rattle.zone_types.specs.Session.{Session, rolled_back}
 use Rattle.xfr_course.specs.Outcome.{Outcome, Ended, LinkFault, Short, Primary, RequestTooLong}

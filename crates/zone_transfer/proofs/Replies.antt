@@ -3,7 +3,7 @@ use Rattle.std.proofs.Common.{◌≡◌, ℕ, ◌+◌, ◌<◌, ◌≤◌, Bool,
 use Rattle.std.specs.Prelude.{option_map}
 use Rattle.std.specs.List.{list_all}
 use Rattle.std.proofs.lemmas.List.Folds.{list_all-append}
-use Rattle.dns_wire.specs.declared.message.ShortMessage.{ShortMessage}
+use Rattle.dns_message.specs.declared.message.ShortMessage.{ShortMessage}
 use Rattle.zone_types.specs.Commits.{Commit}
 use Rattle.zone_types.specs.Session.{Session}
 use Rattle.xfr_course.specs.Courses.{has_header, most_replies}

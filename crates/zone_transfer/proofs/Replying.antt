@@ -5,7 +5,7 @@ use Rattle.std.specs.List.{list_all}
 use Rattle.std.specs.Option.{option_map_or}
 use Rattle.std.proofs.lemmas.List.{map-append}
 use Rattle.std.proofs.lemmas.List.Folds.{list_all-append}
-use Rattle.dns_wire.specs.declared.message.ShortMessage.{ShortMessage}
+use Rattle.dns_message.specs.declared.message.ShortMessage.{ShortMessage}
 use Rattle.dns_wire.specs.declared.builder.PushError.{PushError}
 use Rattle.zone_types.specs.Version.{Version}
 use Rattle.zone_types.specs.Commits.{Commit}

@@ -3,7 +3,7 @@ use Rattle.std.specs.Prelude.{◌≡◌, ℕ, ◌<◌, ◌⊎◌, true, false, L
 use Rattle.std.specs.List.{list_all}
 use Rattle.dns_wire.specs.declared.builder.PushError.{PushError}
 use Rattle.dns_wire.specs.declared.builder.PushError.TheVariants.{ShortBuf}
-use Rattle.dns_wire.specs.declared.message.ShortMessage.{ShortMessage}
+use Rattle.dns_message.specs.declared.message.ShortMessage.{ShortMessage}
 use Rattle.xfr_course.specs.Courses.{has_header}
 use Rattle.zone_transfer.specs.Standing.{ClientState, Stands}
 use Rattle.zone_types.specs.Version.{Version}

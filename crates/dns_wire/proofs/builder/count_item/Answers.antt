@@ -1,6 +1,6 @@
 use Rattle.std.proofs.Common.{◌≡◌, ◌+◌, ◌≤◌, ℕ, List, length, ap, sym, ◌∙◌, arith, le-leb}
-use Rattle.dns_wire.specs.Wire.{header_number}
-use Rattle.dns_wire.specs.Numbers.{with_number}
+use Rattle.dns_message.specs.Wire.{header_number}
+use Rattle.dns_message.specs.Numbers.{with_number}
 use Rattle.dns_wire.specs.Builds.{building}
 use Rattle.dns_wire.proofs.Counting.{number_front, counted, length-counted}
 use Rattle.dns_wire.proofs.builder.count_item.Goals as goal

@@ -1,4 +1,4 @@
-use Rattle.dns_wire.proofs.Pushing.{additional_listed}
+use Rattle.dns_wire.proofs.Listing.{additional_listed}
 use Rattle.dns_wire.proofs.section_builders.AdditionalBuilder.push.Goals as goal
 
 pub returns-clause-listed : goal.returns-clause-listed

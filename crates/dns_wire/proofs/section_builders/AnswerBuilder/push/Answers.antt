@@ -1,4 +1,4 @@
-use Rattle.dns_wire.proofs.Pushing.{answer_listed}
+use Rattle.dns_wire.proofs.Listing.{answer_listed}
 use Rattle.dns_wire.proofs.section_builders.AnswerBuilder.push.Goals as goal
 
 pub returns-clause-listed : goal.returns-clause-listed

@@ -1,4 +1,4 @@
-use Rattle.dns_wire.proofs.Pushing.{authority_listed}
+use Rattle.dns_wire.proofs.Listing.{authority_listed}
 use Rattle.dns_wire.proofs.section_builders.AuthorityBuilder.push.Goals as goal
 
 pub returns-clause-listed : goal.returns-clause-listed

@@ -1,4 +1,4 @@
-use Rattle.dns_wire.proofs.Pushing.{question_listed}
+use Rattle.dns_wire.proofs.Listing.{question_listed}
 use Rattle.dns_wire.proofs.section_builders.QuestionBuilder.push.Goals as goal
 
 pub returns-clause-listed : goal.returns-clause-listed
