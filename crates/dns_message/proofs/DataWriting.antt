@@ -8,7 +8,7 @@ use Rattle.dns_rdata.specs.Records.{Record, Field, Part, part_allows, parts, is_
 use Rattle.dns_rdata.specs.Records.Field.{Octets, DomainName}
 use Rattle.dns_rdata.specs.Records.Part.{Exactly, AtLeast, Strings, Named}
 use Rattle.dns_name.specs.Names.{name_wire, is_name}
-use Rattle.dns_name.specs.Octets.{u16_octets, u32_octets}
+use Rattle.dns_name.specs.Octets.{u16_octets, u32_octets, octets_at}
 use Rattle.dns_rdata.specs.Heads.{readable}
 use Rattle.dns_message.specs.Written.{IsRecord, head_at}
 use Rattle.dns_message.proofs.ItemWriting.{octets_read, name_read, shifted}
@@ -26,10 +26,17 @@ rest_last (Strings ∷ p ∷ ps) = false
 not_so : {P : Type 0} → false ≡ true → P
 not_so e = absurd (true≢false (sym e))
 
--- the part from p to its end
-part_read : (m : List ℕ) (p end : ℕ) (before octets after : List ℕ) → m ≡ before ++ (octets ++ after) → length before ≡ p → end ≡ p + length octets
-    → slice_range m p end ≡ octets
-part_read m p end before octets after e eb ee = rw (e, drop_at before (octets ++ after) p eb) (take_at octets after (end - p) (omega (arith, ee)))
+-- what is left, read to its end
+rest_read : (m : List ℕ) (p end : ℕ) (octets before after : List ℕ) → m ≡ before ++ ((octets ++ []) ++ after) → length before ≡ p → end ≡ p + length (octets ++ [])
+    → (nat_le p end ≡ true) × (octets_at (end - p) m p ≡ Some (octets, p + (end - p))) × ((p + (end - p) == end) ≡ true)
+rest_read m p end octets before after e eb ee =
+    let none = append-nil octets in
+    let all : end ≡ p + length octets = ee ∙ ap (λ o. p + length o) none in
+    (
+      le-leb p end (omega (arith, all)),
+      octets_read m p (end - p) before octets after (e ∙ ap (λ o. before ++ (o ++ after)) none) eb (omega (arith, all)),
+      eq-eqb (p + (end - p)) end (omega (arith, all)),
+    )
 
 fields_read : (m : List ℕ) (p end : ℕ) (ps : List Part) (fs : List Field) (before after : List ℕ) → rest_last ps ≡ true → pointwise part_allows ps fs ≡ true
     → m ≡ before ++ (data_wire fs ++ after) → length before ≡ p → end ≡ p + length (data_wire fs) → fields_at ps m end p ≡ Some fs
@@ -63,19 +70,15 @@ fields_read m p end (Named ∷ ps) (DomainName name ∷ fs) before after last ok
 fields_read m p end (Named ∷ ps) (Octets octets ∷ fs) before after last ok e eb ee = not_so ok
 fields_read m p end (AtLeast n ∷ []) (Octets octets ∷ []) before after last ok e eb ee =
     let both = and_parts (nat_le n (length octets)) true ok in
-    let many = leb-true n (length octets) both.0 in
-    let none = append-nil octets in
-    let all : end ≡ p + length octets = ee ∙ ap (λ o. p + length o) none in
-    let fits : nat_le (p + n) end ≡ true = le-leb _ _ (omega (arith, many, all)) in
-    rw (fits, part_read m p end before octets after (e ∙ ap (λ o. before ++ (o ++ after)) none) eb all, eq-eqb end end refl) refl
+    let (fits, read, at_end) = rest_read m p end octets before after e eb ee in
+    rw (fits, read, both.0, at_end) refl
 fields_read m p end (AtLeast n ∷ []) (Octets octets ∷ f ∷ fs) before after last ok e eb ee = not_so (and_parts (nat_le n (length octets)) false ok).1
 fields_read m p end (AtLeast n ∷ []) (DomainName name ∷ fs) before after last ok e eb ee = not_so ok
 fields_read m p end (AtLeast n ∷ q ∷ ps) (f ∷ fs) before after last ok e eb ee = not_so last
 fields_read m p end (Strings ∷ []) (Octets octets ∷ []) before after last ok e eb ee =
     let both = and_parts (are_strings octets) true ok in
-    let none = append-nil octets in
-    let all : end ≡ p + length octets = ee ∙ ap (λ o. p + length o) none in
-    rw (part_read m p end before octets after (e ∙ ap (λ o. before ++ (o ++ after)) none) eb all, both.0, eq-eqb end end refl) refl
+    let (fits, read, at_end) = rest_read m p end octets before after e eb ee in
+    rw (fits, read, both.0, at_end) refl
 fields_read m p end (Strings ∷ []) (Octets octets ∷ f ∷ fs) before after last ok e eb ee = not_so (and_parts (are_strings octets) false ok).1
 fields_read m p end (Strings ∷ []) (DomainName name ∷ fs) before after last ok e eb ee = not_so ok
 fields_read m p end (Strings ∷ q ∷ ps) (f ∷ fs) before after last ok e eb ee = not_so last

@@ -6,9 +6,19 @@ abbrev pub rtype_text : ℕ → List ℕ
 rtype_text c =
     if c == 1 then codes "A" else
     if c == 2 then codes "NS" else
+    if c == 3 then codes "MD" else
+    if c == 4 then codes "MF" else
     if c == 5 then codes "CNAME" else
     if c == 6 then codes "SOA" else
+    if c == 7 then codes "MB" else
+    if c == 8 then codes "MG" else
+    if c == 9 then codes "MR" else
+    if c == 12 then codes "PTR" else
+    if c == 14 then codes "MINFO" else
+    if c == 15 then codes "MX" else
+    if c == 16 then codes "TXT" else
     if c == 28 then codes "AAAA" else
+    if c == 33 then codes "SRV" else
     if c == 43 then codes "DS" else
     if c == 250 then codes "TSIG" else
     if c == 251 then codes "IXFR" else

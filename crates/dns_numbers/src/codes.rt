@@ -32,14 +32,44 @@ impl Rtype {
     /// A name server (RFC 1035, 3.3.11).
     pub const NS: Rtype = Rtype { value: 2 };
 
+    /// A host that takes mail, obsolete (RFC 1035, 3.3.4).
+    pub const MD: Rtype = Rtype { value: 3 };
+
+    /// A host that forwards mail, obsolete (RFC 1035, 3.3.5).
+    pub const MF: Rtype = Rtype { value: 4 };
+
     /// The name that this one stands for (RFC 1035, 3.3.1).
     pub const CNAME: Rtype = Rtype { value: 5 };
 
     /// The start of a zone (RFC 1035, 3.3.13).
     pub const SOA: Rtype = Rtype { value: 6 };
 
+    /// A host that has a mailbox (RFC 1035, 3.3.3).
+    pub const MB: Rtype = Rtype { value: 7 };
+
+    /// A mailbox of a mail group (RFC 1035, 3.3.6).
+    pub const MG: Rtype = Rtype { value: 8 };
+
+    /// The new name of a mailbox (RFC 1035, 3.3.8).
+    pub const MR: Rtype = Rtype { value: 9 };
+
+    /// The name that this one points to (RFC 1035, 3.3.12).
+    pub const PTR: Rtype = Rtype { value: 12 };
+
+    /// The mailboxes of a mailing list or mailbox (RFC 1035, 3.3.7).
+    pub const MINFO: Rtype = Rtype { value: 14 };
+
+    /// A host that takes mail (RFC 1035, 3.3.9).
+    pub const MX: Rtype = Rtype { value: 15 };
+
+    /// A text (RFC 1035, 3.3.14).
+    pub const TXT: Rtype = Rtype { value: 16 };
+
     /// An address of sixteen octets (RFC 3596).
     pub const AAAA: Rtype = Rtype { value: 28 };
+
+    /// A host and port that offer a service (RFC 2782).
+    pub const SRV: Rtype = Rtype { value: 33 };
 
     /// The signer of a delegation (RFC 4034, 5).
     pub const DS: Rtype = Rtype { value: 43 };
@@ -89,9 +119,19 @@ impl fmt::Display for Rtype {
         match *self {
             Rtype::A => write!(f, "A"),
             Rtype::NS => write!(f, "NS"),
+            Rtype::MD => write!(f, "MD"),
+            Rtype::MF => write!(f, "MF"),
             Rtype::CNAME => write!(f, "CNAME"),
             Rtype::SOA => write!(f, "SOA"),
+            Rtype::MB => write!(f, "MB"),
+            Rtype::MG => write!(f, "MG"),
+            Rtype::MR => write!(f, "MR"),
+            Rtype::PTR => write!(f, "PTR"),
+            Rtype::MINFO => write!(f, "MINFO"),
+            Rtype::MX => write!(f, "MX"),
+            Rtype::TXT => write!(f, "TXT"),
             Rtype::AAAA => write!(f, "AAAA"),
+            Rtype::SRV => write!(f, "SRV"),
             Rtype::DS => write!(f, "DS"),
             Rtype::TSIG => write!(f, "TSIG"),
             Rtype::IXFR => write!(f, "IXFR"),

@@ -1,7 +1,9 @@
 // The data of a record of any type.
-ghost use Rattle.std.specs.Prelude.{◌≡◌, ◌+◌, IfOk, OnErr, Some, None};
+ghost use Rattle.std.specs.Prelude.{◌≡◌, ◌+◌, ◌∷◌, [], IfOk, OnErr, Some, None};
 ghost use Rattle.std.specs.Str.{bytes_eq};
-ghost use Rattle.rdata_types.specs.Records.{data_wire, fields_at, parts};
+ghost use Rattle.rdata_types.specs.Records.{data_wire, fields_at, parts, same_data};
+ghost use Rattle.rdata_types.specs.Records.Field.{Octets, DomainName};
+ghost use Rattle.rdata_types.specs.DataFields.{ds_fields};
 ghost use Rattle.dns_rdata.specs.ZoneData.{rtype_of, fields_of, data_fields, same_zone_data};
 
 use bytes::Bytes;
@@ -145,8 +147,8 @@ impl<O: AsSlice<u8> + Drop, N: Labelled + Drop> ZoneRecordData<O, N> {
         ensures { result ≡ bytes_eq (data_wire (fields_of N.labels self.now)) octets.now }
     {
         match self {
-            ZoneRecordData::A(d) => d.octets.as_slice() == octets,
-            ZoneRecordData::Aaaa(d) => d.octets.as_slice() == octets,
+            ZoneRecordData::A(d) => d.is_spelled(octets),
+            ZoneRecordData::Aaaa(d) => d.is_spelled(octets),
             ZoneRecordData::Ns(d) => d.is_spelled(octets),
             ZoneRecordData::Md(d) => d.is_spelled(octets),
             ZoneRecordData::Mf(d) => d.is_spelled(octets),
@@ -166,7 +168,96 @@ impl<O: AsSlice<u8> + Drop, N: Labelled + Drop> ZoneRecordData<O, N> {
     }
 }
 
+impl<O: AsSlice<u8> + Drop, N: Labelled + Drop> ZoneRecordData<O, N> {
+    /// Whether the data are these octets and no name.
+    fn is_octets(&self, octets: &[u8]) -> bool
+        ensures { result ≡ same_data (fields_of N.labels self.now) (Octets octets.now ∷ []) }
+    {
+        match self {
+            ZoneRecordData::A(d) => d.is_spelled(octets),
+            ZoneRecordData::Aaaa(d) => d.is_spelled(octets),
+            ZoneRecordData::Txt(d) => d.is_spelled(octets),
+            ZoneRecordData::Ds(d) => d.is_spelled(octets),
+            ZoneRecordData::Unknown(d) => d.is_spelled(octets),
+            _ => false,
+        }
+    }
+}
+
 impl<O: AsSlice<u8> + Drop, N: ToName + Drop> ZoneRecordData<O, N> {
+    /// Whether the data are this name alone, ASCII case aside.
+    fn is_name<M: Labelled>(&self, name: &M) -> bool
+        ensures { result ≡ same_data (fields_of N.labels self.now) (DomainName (M.labels name.now) ∷ []) }
+    {
+        match self {
+            ZoneRecordData::Ns(d) => d.name().name_eq(name),
+            ZoneRecordData::Md(d) => d.name().name_eq(name),
+            ZoneRecordData::Mf(d) => d.name().name_eq(name),
+            ZoneRecordData::Mb(d) => d.name().name_eq(name),
+            ZoneRecordData::Mg(d) => d.name().name_eq(name),
+            ZoneRecordData::Mr(d) => d.name().name_eq(name),
+            ZoneRecordData::Cname(d) => d.name().name_eq(name),
+            ZoneRecordData::Ptr(d) => d.name().name_eq(name),
+            _ => false,
+        }
+    }
+
+    /// Whether the fields are equal, names ASCII case aside; the types aren't looked at.
+    pub fn fields_eq<P: AsSlice<u8> + Drop, M: Labelled + Drop>(
+        &self,
+        other: &ZoneRecordData<P, M>,
+    ) -> bool
+        ensures { result ≡ same_data (fields_of N.labels self.now) (fields_of M.labels other.now) }
+    {
+        match other {
+            ZoneRecordData::A(b) => self.is_octets(&b.octets),
+            ZoneRecordData::Aaaa(b) => self.is_octets(&b.octets),
+            ZoneRecordData::Txt(b) => self.is_octets(b.as_slice()),
+            ZoneRecordData::Unknown(b) => self.is_octets(b.as_slice()),
+            ZoneRecordData::Ds(b) => self.is_digest(b),
+            ZoneRecordData::Ns(b) => self.is_name(b.name()),
+            ZoneRecordData::Md(b) => self.is_name(b.name()),
+            ZoneRecordData::Mf(b) => self.is_name(b.name()),
+            ZoneRecordData::Mb(b) => self.is_name(b.name()),
+            ZoneRecordData::Mg(b) => self.is_name(b.name()),
+            ZoneRecordData::Mr(b) => self.is_name(b.name()),
+            ZoneRecordData::Cname(b) => self.is_name(b.name()),
+            ZoneRecordData::Ptr(b) => self.is_name(b.name()),
+            ZoneRecordData::Minfo(b) => match self {
+                ZoneRecordData::Minfo(a) => a.data_eq(b),
+                _ => false,
+            },
+            ZoneRecordData::Mx(b) => match self {
+                ZoneRecordData::Mx(a) => a.data_eq(b),
+                ZoneRecordData::Srv(_) => false,
+                _ => false,
+            },
+            ZoneRecordData::Srv(b) => match self {
+                ZoneRecordData::Srv(a) => a.data_eq(b),
+                ZoneRecordData::Mx(_) => false,
+                _ => false,
+            },
+            ZoneRecordData::Soa(b) => match self {
+                ZoneRecordData::Soa(a) => a.data_eq(b),
+                _ => false,
+            },
+        }
+    }
+
+    /// Whether the data are those of a digest and no name.
+    fn is_digest<P: AsSlice<u8> + Drop>(&self, digest: &Ds<P>) -> bool
+        ensures { result ≡ same_data (fields_of N.labels self.now) (ds_fields digest.now) }
+    {
+        match self {
+            ZoneRecordData::A(d) => digest.is_spelled(&d.octets),
+            ZoneRecordData::Aaaa(d) => digest.is_spelled(&d.octets),
+            ZoneRecordData::Txt(d) => digest.is_spelled(d.as_slice()),
+            ZoneRecordData::Unknown(d) => digest.is_spelled(d.as_slice()),
+            ZoneRecordData::Ds(d) => d.data_eq(digest),
+            _ => false,
+        }
+    }
+
     /// Whether the data are equal: of one type, names equal ASCII case aside, and all else octet for octet (RFC 2181, 5).
     pub fn data_eq<P: AsSlice<u8> + Drop, M: Labelled + Drop>(
         &self,
@@ -174,84 +265,7 @@ impl<O: AsSlice<u8> + Drop, N: ToName + Drop> ZoneRecordData<O, N> {
     ) -> bool
         ensures { result ≡ same_zone_data N.labels M.labels self.now other.now }
     {
-        match self {
-            ZoneRecordData::A(a) => match other {
-                ZoneRecordData::A(b) => a.data_eq(b),
-                ZoneRecordData::Unknown(b) => b.is_known(),
-                _ => false,
-            },
-            ZoneRecordData::Aaaa(a) => match other {
-                ZoneRecordData::Aaaa(b) => a.data_eq(b),
-                ZoneRecordData::Unknown(b) => b.is_known(),
-                _ => false,
-            },
-            ZoneRecordData::Ns(a) => match other {
-                ZoneRecordData::Ns(b) => a.data_eq(b),
-                _ => false,
-            },
-            ZoneRecordData::Md(a) => match other {
-                ZoneRecordData::Md(b) => a.data_eq(b),
-                _ => false,
-            },
-            ZoneRecordData::Mf(a) => match other {
-                ZoneRecordData::Mf(b) => a.data_eq(b),
-                _ => false,
-            },
-            ZoneRecordData::Mb(a) => match other {
-                ZoneRecordData::Mb(b) => a.data_eq(b),
-                _ => false,
-            },
-            ZoneRecordData::Mg(a) => match other {
-                ZoneRecordData::Mg(b) => a.data_eq(b),
-                _ => false,
-            },
-            ZoneRecordData::Mr(a) => match other {
-                ZoneRecordData::Mr(b) => a.data_eq(b),
-                _ => false,
-            },
-            ZoneRecordData::Cname(a) => match other {
-                ZoneRecordData::Cname(b) => a.data_eq(b),
-                _ => false,
-            },
-            ZoneRecordData::Ptr(a) => match other {
-                ZoneRecordData::Ptr(b) => a.data_eq(b),
-                _ => false,
-            },
-            ZoneRecordData::Minfo(a) => match other {
-                ZoneRecordData::Minfo(b) => a.data_eq(b),
-                _ => false,
-            },
-            ZoneRecordData::Mx(a) => match other {
-                ZoneRecordData::Mx(b) => a.data_eq(b),
-                _ => false,
-            },
-            ZoneRecordData::Srv(a) => match other {
-                ZoneRecordData::Srv(b) => a.data_eq(b),
-                _ => false,
-            },
-            ZoneRecordData::Soa(a) => match other {
-                ZoneRecordData::Soa(b) => a.data_eq(b),
-                _ => false,
-            },
-            ZoneRecordData::Txt(a) => match other {
-                ZoneRecordData::Txt(b) => a.data_eq(b),
-                ZoneRecordData::Unknown(b) => b.is_known(),
-                _ => false,
-            },
-            ZoneRecordData::Ds(a) => match other {
-                ZoneRecordData::Ds(b) => a.data_eq(b),
-                ZoneRecordData::Unknown(b) => b.is_known(),
-                _ => false,
-            },
-            ZoneRecordData::Unknown(a) => match other {
-                ZoneRecordData::Unknown(b) => a.rtype() == b.rtype() && a.data_eq(b),
-                ZoneRecordData::A(_) => a.is_known(),
-                ZoneRecordData::Aaaa(_) => a.is_known(),
-                ZoneRecordData::Txt(_) => a.is_known(),
-                ZoneRecordData::Ds(_) => a.is_known(),
-                _ => false,
-            },
-        }
+        self.rtype() == other.rtype() && self.fields_eq(other)
     }
 }
 

@@ -4,4 +4,3 @@ pub mod Writing
 pub mod Strings
 pub mod FoldedData
 pub mod ReadData
-pub mod KnownTypes

@@ -1,6 +1,7 @@
 // Addresses.
 ghost use Rattle.std.specs.Prelude.{◌≡◌, ◌+◌, IfOk, OnErr, Some, None};
-ghost use Rattle.rdata_types.specs.Records.{fields_at, parts, same_data};
+ghost use Rattle.std.specs.Str.{bytes_eq};
+ghost use Rattle.rdata_types.specs.Records.{data_wire, fields_at, parts, same_data};
 ghost use Rattle.rdata_types.specs.DataFields.{a_fields, aaaa_fields};
 
 use crate::fields::{RecordData, ends_at};
@@ -34,6 +35,13 @@ impl A {
         let mut octets = [0; 4];
         octets.copy_from_slice(found);
         Ok(A { octets })
+    }
+
+    /// Whether the octets are those of the address.
+    pub fn is_spelled(&self, octets: &[u8]) -> bool
+        ensures { result ≡ bytes_eq (data_wire (a_fields self.now)) octets.now }
+    {
+        self.octets.as_slice() == octets
     }
 
     /// Whether the addresses are equal.
@@ -96,6 +104,13 @@ impl Aaaa {
         let mut octets = [0; 16];
         octets.copy_from_slice(found);
         Ok(Aaaa { octets })
+    }
+
+    /// Whether the octets are those of the address.
+    pub fn is_spelled(&self, octets: &[u8]) -> bool
+        ensures { result ≡ bytes_eq (data_wire (aaaa_fields self.now)) octets.now }
+    {
+        self.octets.as_slice() == octets
     }
 
     /// Whether the addresses are equal.

@@ -105,7 +105,7 @@ impl<N: Labelled + Drop> RecordData for Minfo<N> {
     ghost fields = { minfo_fields N.labels };
 
     fn rtype(&self) -> Rtype {
-        Rtype::from_int(14)
+        Rtype::MINFO
     }
 
     fn rdlen(&self) -> u16 {
@@ -221,7 +221,7 @@ impl<N: Labelled + Drop> RecordData for Mx<N> {
     ghost fields = { mx_fields N.labels };
 
     fn rtype(&self) -> Rtype {
-        Rtype::from_int(15)
+        Rtype::MX
     }
 
     fn rdlen(&self) -> u16 {

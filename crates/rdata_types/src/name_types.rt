@@ -33,7 +33,7 @@ impl NameType for MdType {
     ghost number = { 3 };
 
     fn rtype() -> Rtype {
-        Rtype::from_int(3)
+        Rtype::MD
     }
 }
 
@@ -44,7 +44,7 @@ impl NameType for MfType {
     ghost number = { 4 };
 
     fn rtype() -> Rtype {
-        Rtype::from_int(4)
+        Rtype::MF
     }
 }
 
@@ -66,7 +66,7 @@ impl NameType for MbType {
     ghost number = { 7 };
 
     fn rtype() -> Rtype {
-        Rtype::from_int(7)
+        Rtype::MB
     }
 }
 
@@ -77,7 +77,7 @@ impl NameType for MgType {
     ghost number = { 8 };
 
     fn rtype() -> Rtype {
-        Rtype::from_int(8)
+        Rtype::MG
     }
 }
 
@@ -88,7 +88,7 @@ impl NameType for MrType {
     ghost number = { 9 };
 
     fn rtype() -> Rtype {
-        Rtype::from_int(9)
+        Rtype::MR
     }
 }
 
@@ -99,6 +99,6 @@ impl NameType for PtrType {
     ghost number = { 12 };
 
     fn rtype() -> Rtype {
-        Rtype::from_int(12)
+        Rtype::PTR
     }
 }

@@ -151,7 +151,7 @@ impl<N: Labelled + Drop> RecordData for Srv<N> {
     ghost fields = { srv_fields N.labels };
 
     fn rtype(&self) -> Rtype {
-        Rtype::from_int(33)
+        Rtype::SRV
     }
 
     #[tactic(auto, unfolding(crate::specs::DataFields::srv_numbers))]

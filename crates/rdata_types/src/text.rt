@@ -121,7 +121,7 @@ impl<O: AsSlice<u8> + Drop> RecordData for Txt<O> {
     ghost fields = { txt_fields };
 
     fn rtype(&self) -> Rtype {
-        Rtype::from_int(16)
+        Rtype::TXT
     }
 
     fn rdlen(&self) -> u16 {

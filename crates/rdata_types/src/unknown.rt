@@ -1,5 +1,5 @@
 // Data of types that aren't known.
-ghost use Rattle.std.specs.Prelude.{◌≡◌, ◌≤◌, ◌<◌, ◌+◌, IfOk, OnErr, IsTrue, Some, None, false, length, not};
+ghost use Rattle.std.specs.Prelude.{◌≡◌, ◌≤◌, ◌<◌, ◌+◌, IfOk, OnErr, IsTrue, Some, None, length, not};
 ghost use Rattle.std.specs.Str.{bytes_eq};
 ghost use Rattle.rdata_types.specs.Records.{data_wire, fields_at, is_known_type, parts, same_data};
 ghost use Rattle.rdata_types.specs.DataFields.{unknown_fields};
@@ -61,14 +61,6 @@ impl<O: AsSlice<u8> + Drop> UnknownRecordData<O> {
         ensures bound { length result.now < 65536 }
     {
         self.octets.as_slice()
-    }
-
-    /// Whether the type is a known one, which it never is.
-    pub fn is_known(&self) -> bool
-        ensures never { result ≡ false }
-        ensures rtype { IsTrue (not (is_known_type self.now.rtype)) }
-    {
-        false
     }
 
     /// The same data in memory of their own.

@@ -6,13 +6,13 @@ use Rattle.std.specs.Int.{w16, from_be_bytes}
 use Rattle.dns_name.specs.Octets.{◌>>=◌, u16_at, octets_at}
 use Rattle.dns_wire.specs.Wire.{Header, Counts, header_of, id_in, header_in, header_number, qdcount_in, ancount_in, nscount_in, Question}
 use Rattle.dns_wire.specs.Parse.{items_at, readings, reading_then, questions_in, Parsed, parsed, question_at, header_at, counts_at, answer_readings, answers_start, sole_question_in, section_readings}
-use Rattle.dns_rdata.specs.Heads.{raw_record_at, RawRecord}
-use Rattle.zone_types.specs.Messages.{ReadMessage}
+use Rattle.dns_rdata.specs.Heads.{raw_record_at, RawRecord, readable}
+use Rattle.zone_types.specs.Messages.{ReadMessage, message_of, as_read}
 use Rattle.zone_types.specs.Read.{record_item, is_transfer_head, asks_transfer}
 use Rattle.zone_types.specs.Interpreter.{mode_asked}
 use Rattle.zone_types.specs.TransferText.{Axfr, Ixfr}
-use Rattle.xfr_client.specs.Items.{item_in, read_record}
-use Rattle.xfr_client.specs.Interpreting.{IsReadAs, answer_here, sections_here, as_read_here, read_here, good_header, good_counts}
+use Rattle.xfr_client.specs.Items.{item_in}
+use Rattle.xfr_client.specs.Interpreting.{IsReadAs, answer_here, sections_here, good_header, good_counts}
 
 -- both readings of a pair of readings succeed
 pub record Bound {A B : Type 0} (o : Option A) (f : A → Option B) (y : B) : Type 0 where
@@ -185,28 +185,28 @@ mapped_length : {A B : Type 0} (f : A → B) (xs : List A) → length (map f xs)
 mapped_length f [] = refl
 mapped_length f (x ∷ xs) = ap suc (mapped_length f xs)
 
-same_items : (o : List ℕ) (rs : List RawRecord) → map (item_in o) (map Some rs) ≡ map record_item (map (read_record o) rs)
+same_items : (o : List ℕ) (rs : List RawRecord) → map (item_in o) (map Some rs) ≡ map record_item (map (readable o) rs)
 same_items o [] = refl
-same_items o (r ∷ rs) = ap (λ l. record_item (read_record o r) ∷ l) (same_items o rs)
+same_items o (r ∷ rs) = ap (λ l. record_item (readable o r) ∷ l) (same_items o rs)
 
-parts_here : (o : List ℕ) (r : Parsed) → Parts o r → IsReadAs o (as_read_here o r)
+parts_here : (o : List ℕ) (r : Parsed) → Parts o r → IsReadAs o (as_read o r)
 parts_here o r p = record {
   header = p.header;
   questions = items_counted (question_at o) (qdcount_in o) 12 r.questions p.answers_from p.questions;
-  answers = ap (λ n. n == 0) (mapped_length (read_record o) r.answers ∙ items_counted (raw_record_at o) (ancount_in o) p.answers_from r.answers p.authority_from p.answers);
+  answers = ap (λ n. n == 0) (mapped_length (readable o) r.answers ∙ items_counted (raw_record_at o) (ancount_in o) p.answers_from r.answers p.authority_from p.answers);
   authority = items_counted (raw_record_at o) (nscount_in o) p.authority_from r.authority p.additional_from p.authority;
   begins = λ none. absurd (cc (none, begins_answers o r p));
   items = ap (map (item_in o)) (reads_answers o r p) ∙ same_items o r.answers;
   sole = λ one. let s = reads_question o r.questions p.answers_from p.questions one in (s.question, s.alone, s.found);
 }
 
-read_from : (o : List ℕ) (m : ReadMessage) (found : Option Parsed) → parsed o ≡ found → option_map (as_read_here o) found ≡ Some m → IsReadAs o m
+read_from : (o : List ℕ) (m : ReadMessage) (found : Option Parsed) → parsed o ≡ found → option_map (as_read o) found ≡ Some m → IsReadAs o m
 read_from o m None e h = absurd (cc h)
 read_from o m (Some r) e h =
-    let same : as_read_here o r ≡ m = cc h in
+    let same : as_read o r ≡ m = cc h in
     subst (IsReadAs o) same (parts_here o r (parts_read o r e))
 
-pub read_parts : (o : List ℕ) (m : ReadMessage) → read_here o ≡ Some m → IsReadAs o m
+pub read_parts : (o : List ℕ) (m : ReadMessage) → message_of o ≡ Some m → IsReadAs o m
 read_parts o m h = read_from o m (parsed o) refl h
 
 -- what octets say whose answer section can be reached

@@ -2,7 +2,7 @@
 use Rattle.std.specs.Prelude.{◌≡◌, ℕ, Bool, true, false, ◌||◌, ◌&&◌, ◌==◌, not, nat_le, if◌then◌else◌, List, [], ◌∷◌, length, map, Option, Some, None, option_map, Result, Ok, Err}
 use Rattle.dns_wire.specs.Wire.{Header, Question, header_in, qdcount_in, ancount_in, nscount_in}
 use Rattle.dns_wire.specs.Parse.{Parsed, parsed, questions_in, sole_question_in, answers_start, answer_readings}
-use Rattle.dns_rdata.specs.Heads.{RawRecord}
+use Rattle.dns_rdata.specs.Heads.{RawRecord, readable}
 use Rattle.zone_types.specs.Messages.{ReadMessage, as_read}
 use Rattle.zone_types.specs.Read.{Fault, NotValid, Malformed, message_fault, record_item, asks_transfer}
 use Rattle.zone_types.specs.TransferText.{Axfr, Ixfr, is_soa}
@@ -15,7 +15,7 @@ use Rattle.xfr_client.specs.declared.place.Place.{Place}
 use Rattle.xfr_client.specs.declared.protocol.Error.{Error}
 use Rattle.xfr_client.specs.declared.protocol.Error.TheVariants as error
 use Rattle.xfr_client.specs.Places.{place_of, is_at_second}
-use Rattle.xfr_client.specs.Items.{read_record, item_in}
+use Rattle.xfr_client.specs.Items.{item_in}
 use Rattle.xfr_client.specs.Rest.{Rest, asks_again}
 
 -- whether a message was taken, the place in the text, and whether the first message asked for another way of transfer
@@ -32,18 +32,10 @@ interpreting_of (Some p) signalled = record { begun = true; place = place_of p; 
 abbrev pub is_over : Interpreting → Bool
 is_over i = i.signalled || is_at_end i.place
 
--- what octets that parse say, the data of the known types read in them
-abbrev pub as_read_here : List ℕ → Parsed → ReadMessage
-as_read_here octets p = record (as_read octets p) { answers = map (read_record octets) p.answers }
-
--- the message that octets spell, if they spell one
-abbrev pub read_here : List ℕ → Option ReadMessage
-read_here octets = option_map (as_read_here octets) (parsed octets)
-
 -- an answer record as it is read; None where none can be read
 abbrev pub answer_here : List ℕ → Option RawRecord → Option Record
 answer_here octets None = None
-answer_here octets (Some raw) = read_record octets raw
+answer_here octets (Some raw) = readable octets raw
 
 -- what octets say up to the end of their answers, whatever stands behind those: the records up to the first place where none stands
 abbrev pub sections_here : List ℕ → ReadMessage

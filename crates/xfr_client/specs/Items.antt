@@ -2,18 +2,13 @@
 use Rattle.std.specs.Prelude.{◌≡◌, ℕ, List, [], ◌∷◌, map, Option, Some, None, Result, Ok, Err, if◌then◌else◌}
 use Rattle.dns_rdata.specs.Records.{Record}
 use Rattle.dns_rdata.specs.Heads.{RawRecord, readable}
-use Rattle.dns_rdata.specs.ZoneData.{is_known_type}
 use Rattle.dns_wire.specs.Parse.{SectionIn}
 use Rattle.zone_types.specs.Read.{Unreadable, Item, Good, Bad, record_item}
-
--- the record with its data, where its type is one of those that are read so far
-abbrev pub read_record : List ℕ → RawRecord → Option Record
-read_record message raw = if is_known_type raw.rtype then readable message raw else None
 
 -- an item of a section: a record, or what can't be read
 abbrev pub item_in : List ℕ → Option RawRecord → Item
 item_in message None = Bad Unreadable
-item_in message (Some raw) = record_item (read_record message raw)
+item_in message (Some raw) = record_item (readable message raw)
 
 abbrev pub items_left : SectionIn → List Item
 items_left s = map (item_in s.message) s.left

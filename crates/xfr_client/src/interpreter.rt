@@ -1,7 +1,7 @@
 // The interpreter of a transfer's messages.
 ghost use Rattle.std.specs.Prelude.{◌≡◌, ◌==◌, ◌∷◌, ◌&&◌, not, true, false, List, Option, Some, None, Ok, Err, map, length, is_some, is_none, IsTrue, IsOkAnd, IfOk, IfErr, OnErr};
 ghost use Rattle.dns_rdata.specs.Records.{Record};
-ghost use Rattle.zone_types.specs.Messages.{ReadMessage};
+ghost use Rattle.zone_types.specs.Messages.{ReadMessage, message_of};
 ghost use Rattle.zone_types.specs.TransferText.{Axfr};
 ghost use Rattle.zone_types.specs.Read.{first_fault, is_transfer_head, record_item};
 ghost use Rattle.zone_types.specs.Machine.{run_items, AtStart};
@@ -10,7 +10,7 @@ ghost use Rattle.dns_wire.specs.Parse.{answers_start};
 ghost use Rattle.xfr_client.specs.Places.{place_of, is_at_second, first_serial};
 ghost use Rattle.xfr_client.specs.Items.{items_left};
 ghost use Rattle.xfr_client.specs.Rest.{updates_in_hand};
-ghost use Rattle.xfr_client.specs.Interpreting.{Interprets, Refuses, interpreting_of, is_over, TakenOr, told_first, read_here, sections_here, IsReadAs, good_header, good_counts, good_head, unreached_fault, unreached, Asks, BeginsAt, IsPlaceAt};
+ghost use Rattle.xfr_client.specs.Interpreting.{Interprets, Refuses, interpreting_of, is_over, TakenOr, told_first, sections_here, IsReadAs, good_header, good_counts, good_head, unreached_fault, unreached, Asks, BeginsAt, IsPlaceAt};
 
 use crate::first_soa::{first_soa, serial_of};
 use crate::iterator::XfrZoneUpdateIterator;
@@ -86,8 +86,8 @@ impl XfrResponseInterpreter {
         &mut self,
         message: &'m MessageBuf,
     ) -> Result<XfrZoneUpdateIterator<'m>, Error>
-        ensures ok { (m : ReadMessage) → read_here message.now ≡ Some m → IfOk result (λ rest. Interprets self.old m rest self.new) }
-        ensures refused { (m : ReadMessage) → read_here message.now ≡ Some m → IfErr result (λ e. Refuses self.old m e) }
+        ensures ok { (m : ReadMessage) → message_of message.now ≡ Some m → IfOk result (λ rest. Interprets self.old m rest self.new) }
+        ensures refused { (m : ReadMessage) → message_of message.now ≡ Some m → IfErr result (λ e. Refuses self.old m e) }
         // So it is with any octets whose answer section can be reached, whatever stands behind that.
         ensures sections_ok { (answers_start message.now ≡ None → ⊥) → IfOk result (λ rest. Interprets self.old (sections_here message.now) rest self.new) }
         ensures sections_refused { (answers_start message.now ≡ None → ⊥) → IfErr result (λ e. Refuses self.old (sections_here message.now) e) }

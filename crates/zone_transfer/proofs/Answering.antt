@@ -5,13 +5,13 @@ use Rattle.std.proofs.lemmas.Bool.{eq-eqb, eqb-true, ne_eqb, and_left}
 use Rattle.std.proofs.Math.Bool.{and-false}
 use Rattle.dns_wire.specs.Wire.{Question, same_question, header_in, qdcount_in}
 use Rattle.dns_wire.specs.Parse.{Parsed, parsed, question_at, sole_question_in}
-use Rattle.zone_types.specs.Messages.{ReadMessage, type_of}
+use Rattle.zone_types.specs.Messages.{ReadMessage, type_of, message_of, as_read}
 use Rattle.zone_types.specs.TransferText.{Mode, Axfr}
 use Rattle.zone_types.specs.Read.{Fault, NotValid, Malformed, OtherAnswer, is_other, is_transfer_head, asks_transfer, first_record_fault, record_item, message_fault, request_fault}
 use Rattle.zone_types.specs.Interpreter.{mode_asked}
 use Rattle.zone_types.specs.Machine.{Place, AtStart, AtSecond, InWhole, InDeletes, InAdds, AtEnd, Run, run_items, is_at_end}
 use Rattle.zone_types.proofs.FinerSteps.{names_mode}
-use Rattle.xfr_client.specs.Interpreting.{Interpreting, Interprets, Refuses, read_here, as_read_here, run_from}
+use Rattle.xfr_client.specs.Interpreting.{Interpreting, Interprets, Refuses, run_from}
 use Rattle.xfr_client.specs.Rest.{Rest}
 use Rattle.xfr_client.specs.declared.protocol.Error.{Error}
 use Rattle.xfr_client.specs.declared.protocol.Error.TheVariants as errors
@@ -36,7 +36,7 @@ sole_counted o q h = by (qdcount_in o == 1) refl h
     by false e k = absurd (cc k)
 
 -- whether the questions are one that isn't the request's
-pub asks_found : (o : List ℕ) (m : ReadMessage) (q found : Question) → read_here o ≡ Some m → sole_question_in o ≡ Some found → asks_other q m.questions ≡ not (same_question q found)
+pub asks_found : (o : List ℕ) (m : ReadMessage) (q found : Question) → message_of o ≡ Some m → sole_question_in o ≡ Some found → asks_other q m.questions ≡ not (same_question q found)
 asks_found o m q found h e =
     let s = (read_parts o m h).sole (sole_counted o found e) in
     let same : s.0 ≡ found = cc (s.2, e) in
@@ -47,25 +47,25 @@ asks_none q [] h = refl
 asks_none q (p ∷ []) h = absurd (h refl)
 asks_none q (p ∷ r ∷ more) h = refl
 
-pub asks_nothing : (o : List ℕ) (m : ReadMessage) (q : Question) → read_here o ≡ Some m → sole_question_in o ≡ None → asks_other q m.questions ≡ false
+pub asks_nothing : (o : List ℕ) (m : ReadMessage) (q : Question) → message_of o ≡ Some m → sole_question_in o ≡ None → asks_other q m.questions ≡ false
 asks_nothing o m q h e =
     let p = read_parts o m h in
     asks_none q m.questions (λ one. let s = p.sole (sym p.questions ∙ one) in absurd (cc (s.2, e)))
 
 -- a message that is read, and one of which only the header is
-pub is_read : (o : List ℕ) (m : ReadMessage) → read_here o ≡ Some m → message_so_far o ≡ m
+pub is_read : (o : List ℕ) (m : ReadMessage) → message_of o ≡ Some m → message_so_far o ≡ m
 unfolding message_so_far
 is_read o m h = ap (λ x. unwrap_or x (header_alone o)) h
 
 pub is_unread : (o : List ℕ) → parsed o ≡ None → message_so_far o ≡ header_alone o
 unfolding message_so_far
-is_unread o h = ap (λ x. unwrap_or (option_map (as_read_here o) x) (header_alone o)) h
+is_unread o h = ap (λ x. unwrap_or (option_map (as_read o) x) (header_alone o)) h
 
 pub header_is : (o : List ℕ) → (message_so_far o).header ≡ header_in o
 unfolding message_so_far
-header_is o = by (read_here o) refl
+header_is o = by (message_of o) refl
   where
-    by : (x : Option ReadMessage) → read_here o ≡ x → (unwrap_or x (header_alone o)).header ≡ header_in o
+    by : (x : Option ReadMessage) → message_of o ≡ x → (unwrap_or x (header_alone o)).header ≡ header_in o
     by None e = refl
     by (Some m) e = (read_parts o m e).header
 
@@ -125,10 +125,10 @@ asks_no_other first a b = ap (λ c. first && not (is_some a.fault) && c) (second
 -- ---- the tests of a reply
 
 -- octets that parse are read
-pub read_parsed : (o : List ℕ) (p : Parsed) → parsed o ≡ Some p → read_here o ≡ Some (message_so_far o)
+pub read_parsed : (o : List ℕ) (p : Parsed) → parsed o ≡ Some p → message_of o ≡ Some (message_so_far o)
 read_parsed o p e =
-    let h : read_here o ≡ Some (as_read_here o p) = ap (option_map (as_read_here o)) e in
-    h ∙ ap (λ m. Some m) (sym (is_read o (as_read_here o p) h))
+    let h : message_of o ≡ Some (as_read o p) = ap (option_map (as_read o)) e in
+    h ∙ ap (λ m. Some m) (sym (is_read o (as_read o p) h))
 
 pub id_refused : (id : ℕ) (q : Question) (o : List ℕ) (first : Bool) → ((header_in o).id ≡ id → ⊥) → request_fault id q first (message_so_far o) ≡ Some OtherAnswer
 id_refused id q o first ne =
@@ -191,7 +191,7 @@ reads_on a begun p i j m rest whole is w mine x =
 
 -- a reply that parses answers the request where its questions do
 pub parsed_answers : (a : Asking) (o : List ℕ) (p : Parsed) (q : Question) (r : Result (Unit {0}) SyncError) → parsed o ≡ Some p → (header_in o).id ≡ asked_id a → q ≡ asked_question a
-    → ((m : ReadMessage) → read_here o ≡ Some m → IsAnswerTo (asks_other q m.questions) r) → AnswersRequest a (message_so_far o) o r
+    → ((m : ReadMessage) → message_of o ≡ Some m → IsAnswerTo (asks_other q m.questions) r) → AnswersRequest a (message_so_far o) o r
 parsed_answers a o p q (Ok u) e i is h =
     let found = read_parsed o p e in
     (other_found (asked_id a) (asked_question a) o false i (sym (ap (λ x. asks_other x (message_so_far o).questions) (sym is) ∙ h (message_so_far o) found)), found)

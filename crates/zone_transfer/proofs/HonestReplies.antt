@@ -6,7 +6,6 @@ use Rattle.dns_name.specs.Names.{is_name, name_wire}
 use Rattle.dns_name.specs.Octets.{u16_octets, u32_octets}
 use Rattle.dns_rdata.specs.Records.{Record, record_wire, data_wire}
 use Rattle.dns_rdata.specs.Heads.{readable}
-use Rattle.dns_rdata.specs.ZoneData.{is_known_type}
 use Rattle.dns_wire.specs.Wire.{Message, header_in, message_wire}
 use Rattle.dns_wire.specs.Parse.{Parsed, parsed, questions_in}
 use Rattle.dns_wire.specs.Written.{IsMessage, IsRecord, head_at, heads_from, parsed_of}
@@ -16,13 +15,11 @@ use Rattle.tsig_port.specs.Checked.{answer_fault, taken_message}
 use Rattle.tsig_port.specs.Signing.{CanSign}
 use Rattle.tsig_port.proofs.SignedAnswers as answers
 use Rattle.zone_types.specs.Version.{Version}
-use Rattle.zone_types.specs.Messages.{HaveData, ReadMessage, as_read, read_of}
+use Rattle.zone_types.specs.Messages.{HaveData, ReadMessage, as_read, read_of, message_of}
 use Rattle.zone_types.specs.Offer.{whole_text}
 use Rattle.zone_types.proofs.ReadingBuilt.{built_is_read}
 use Rattle.zone_types.proofs.Valid.{one_soa}
 use Rattle.zone_types.proofs.WholeText.{middle_of, soa_of, whole_is}
-use Rattle.xfr_client.specs.Interpreting.{as_read_here, read_here}
-use Rattle.xfr_client.specs.Items.{read_record}
 use Rattle.xfr_server.specs.Texts.{transfer_header}
 use Rattle.xfr_server.proofs.Accepted.{transfer_is_message}
 use Rattle.xfr_server.proofs.Answers.{wire_length}
@@ -36,28 +33,9 @@ use Rattle.zone_transfer.proofs.Standings.{none_passed, one_passed}
 use Rattle.zone_transfer.proofs.HonestNames.{same_is_name}
 use Rattle.zone_transfer.proofs.HonestRequests as requests
 
--- ---- records of the types that are read so far
+-- ---- the built message as it is read
 
-read_known : (m : List ℕ) (p : ℕ) (rs : List Record) → AllByRecursion (λ r. IsTrue (is_known_type r.rtype)) rs → map (read_record m) (heads_from p rs) ≡ map (readable m) (heads_from p rs)
-read_known m p [] known = refl
-read_known m p (r ∷ rs) known =
-    let rest = p + length (record_wire r) in
-    ap (λ b. (if b then readable m (head_at p r) else None) ∷ map (read_record m) (heads_from rest rs)) known.0
-    ∙ ap (λ l. readable m (head_at p r) ∷ l) (read_known m rest rs known.1)
-
--- a built message of such records is read as what it was built of
-pub built_is_read_here : (m : Message) (after : List ℕ) → IsMessage m → HaveData m.answers → AllByRecursion (λ r. IsTrue (is_known_type r.rtype)) m.answers
-    → read_here (message_wire m ++ after) ≡ Some (read_of m)
-built_is_read_here m after ok have known =
-    let text = message_wire m ++ after in
-    let p : Parsed = parsed_of m in
-    let parses : parsed text ≡ Some p = parsed-message_wire m after ok in
-    ap (option_map (as_read_here text)) parses
-    ∙ ap (λ l. Some (record { header = p.header; questions = p.questions; answers = l; authority = length p.authority })) (read_known text _ m.answers known)
-    ∙ sym (ap (option_map (as_read text)) parses)
-    ∙ built_is_read m after ok have
-
-read_so_far : (octets : List ℕ) (m : ReadMessage) → read_here octets ≡ Some m → message_so_far octets ≡ m
+read_so_far : (octets : List ℕ) (m : ReadMessage) → message_of octets ≡ Some m → message_so_far octets ≡ m
 unfolding message_so_far
 read_so_far octets m h = ap (λ o. unwrap_or o (header_alone octets)) h
 
@@ -141,6 +119,6 @@ module _ (a : Asking) (at : ℕ) (v : Version) (f : Fits a at v) where
   checked_is =
       let r = record_wire (tsig_record a.key.name (answer_tsig a.key (mac_in (asked_octets a)) None (message_wire M) at 300)) in
       let taken : taken_message w ≡ message_wire M ++ r = answers.taken_is a.key (mac_in (asked_octets a)) at a.at 300 f.is_key f.early (lit< tt) f.near None M can_sign in
-      let read : message_so_far (taken_message w) ≡ read_of M = ap message_so_far taken ∙ read_so_far (message_wire M ++ r) (read_of M) (built_is_read_here M r is_message f.have f.known) in
+      let read : message_so_far (taken_message w) ≡ read_of M = ap message_so_far taken ∙ read_so_far (message_wire M ++ r) (read_of M) (built_is_read M r is_message f.have) in
       let signed : is_signed w ≡ true = answers.is_signed_sent a.key (mac_in (asked_octets a)) at a.at 300 f.is_key f.early (lit< tt) f.near None M can_sign in
       ap (λ x. record { message = x; signed = is_signed w }) read ∙ ap (λ b. record { message = read_of M; signed = b }) signed

@@ -2,7 +2,6 @@
 use Rattle.std.specs.Prelude.{◌≡◌, ℕ, ◌+◌, ◌^◌, ◌≤◌, ◌<◌, true, List, [], ◌∷◌, length, IsTrue}
 use Rattle.std.specs.Int.{abs_diff}
 use Rattle.std.specs.List.{AllByRecursion}
-use Rattle.dns_rdata.specs.ZoneData.{is_known_type}
 use Rattle.dns_wire.specs.Wire.{Message, message_wire}
 use Rattle.dns_wire.specs.Written.{IsRecord}
 use Rattle.tsig_port.specs.Tsig.{mac_in, compose_len, signed_answers}
@@ -38,10 +37,9 @@ pub record Fits (a : Asking) (at : ℕ) (v : Version) : Type 0 where
   -- the version may be published as one of the zone that is asked for
   pub published : IsPublished a.base.version.apex v
   pub same_class : a.base.version.class ≡ v.class
-  -- its records have a wire form, and are of the types that are read so far
+  -- its records have a wire form
   pub records : AllByRecursion IsRecord (whole_text v)
   pub have : HaveData (whole_text v)
-  pub known : AllByRecursion (λ r. IsTrue (is_known_type r.rtype)) (whole_text v)
   -- one signed message has room for them
   pub room : length (message_wire (whole_message a v)) + compose_len a.key ≤ 65535
   -- one more version can be numbered

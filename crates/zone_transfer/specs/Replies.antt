@@ -6,11 +6,11 @@ use Rattle.tsig_port.specs.declared.client.ClientSequence.{ClientSequence}
 use Rattle.tsig_port.specs.Tsig.{TsigKey}
 use Rattle.zone_types.specs.Commits.{Commit}
 use Rattle.zone_types.specs.Session.{Session}
-use Rattle.zone_types.specs.Messages.{ReadMessage}
+use Rattle.zone_types.specs.Messages.{ReadMessage, message_of}
 use Rattle.zone_types.specs.Read.{Fault, request_fault, is_other, record_item}
 use Rattle.zone_types.specs.Machine.{Place, Run, run_items}
 use Rattle.xfr_client.specs.Rest.{Rest}
-use Rattle.xfr_client.specs.Interpreting.{Interpreting, read_here}
+use Rattle.xfr_client.specs.Interpreting.{Interpreting}
 use Rattle.xfr_course.specs.Outcome.{Outcome, Reading}
 use Rattle.xfr_course.specs.Courses.{has_header}
 use Rattle.zone_transfer.specs.SoFar.{Asking, asked_mac, asked_id, asked_question, fault_so_far, message_so_far, client_so_far}
@@ -54,7 +54,7 @@ IsAnswerTo other (Err e) = (other ≡ true) × (e ≡ why.OtherAnswer)
 
 -- whether it answers the request
 abbrev pub AnswersRequest : Asking → ReadMessage → List ℕ → Result (Unit {0}) SyncError → Type 0
-AnswersRequest a m octets (Ok u) = (is_other (asked_id a) (asked_question a) m ≡ false) × (read_here octets ≡ Some m)
+AnswersRequest a m octets (Ok u) = (is_other (asked_id a) (asked_question a) m ≡ false) × (message_of octets ≡ Some m)
 AnswersRequest a m octets (Err e) = (f : Fault) × (((first : Bool) → request_fault (asked_id a) (asked_question a) first m ≡ Some f) × (refusal_outcome e ≡ Some (Reading f)))
 
 -- a reply whole

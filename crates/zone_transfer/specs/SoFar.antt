@@ -6,8 +6,7 @@ use Rattle.tsig_port.specs.Checked.{answer_fault, taken_message, passing, first_
 use Rattle.tsig_port.specs.declared.errors.ValidationError.{ValidationError}
 use Rattle.zone_types.specs.Commits.{Commit}
 use Rattle.zone_types.specs.TransferText.{Mode}
-use Rattle.zone_types.specs.Messages.{ReadMessage, type_of}
-use Rattle.xfr_client.specs.Interpreting.{read_here}
+use Rattle.zone_types.specs.Messages.{ReadMessage, type_of, message_of}
 use Rattle.dns_wire.specs.declared.builder.PushError.TheVariants.{ShortBuf}
 use Rattle.zone_transfer.specs.declared.outcome.SyncError.{SyncError}
 use Rattle.zone_transfer.specs.declared.outcome.SyncError.TheVariants as why
@@ -68,7 +67,7 @@ abbrev pub header_alone : List ℕ → ReadMessage
 header_alone octets = record { header = header_in octets; questions = []; answers = []; authority = 0 }
 
 unfoldable pub message_so_far : List ℕ → ReadMessage
-message_so_far octets = unwrap_or (read_here octets) (header_alone octets)
+message_so_far octets = unwrap_or (message_of octets) (header_alone octets)
 
 -- a checked message as it is read: after it was taken, without its TSIG and with its original id
 unfoldable pub checked_so_far : List ℕ → Checked

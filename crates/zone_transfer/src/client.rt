@@ -5,10 +5,9 @@ ghost use Rattle.tsig_port.specs.States.{ClientStands};
 ghost use Rattle.zone_types.specs.Commits.{Commit};
 ghost use Rattle.zone_types.specs.Session.{rolled_back};
 ghost use Rattle.zone_types.specs.TransferText.{Axfr};
-ghost use Rattle.zone_types.specs.Messages.{ReadMessage, type_of};
+ghost use Rattle.zone_types.specs.Messages.{ReadMessage, type_of, message_of};
 ghost use Rattle.zone_types.specs.Machine.{Place};
 ghost use Rattle.zone_types.specs.Updates.{Progress};
-ghost use Rattle.xfr_client.specs.Interpreting.{read_here};
 ghost use Rattle.xfr_client.specs.Causes.{update_of};
 ghost use Rattle.zone_transfer.specs.Modes.{mode_of};
 ghost use Rattle.zone_transfer.specs.SoFar.{Asking, asked_octets, asked_mac, asked_id, asked_question, message_so_far, asking, asks_other, IsTooLong};
@@ -244,7 +243,7 @@ impl Exchange {
 
     /// Tests that a reply that parses has the request's question where it has one.
     fn questions_answer(&self, message: &MessageBuf) -> Result<(), SyncError>
-        ensures { (m : ReadMessage) → read_here message.now ≡ Some m → IsAnswerTo (asks_other self.now.question m.questions) result }
+        ensures { (m : ReadMessage) → message_of message.now ≡ Some m → IsAnswerTo (asks_other self.now.question m.questions) result }
     {
         if self.asks_else(message) {
             return Err(SyncError::OtherAnswer);
@@ -254,7 +253,7 @@ impl Exchange {
 
     /// Whether a reply has one question, which isn't the request's.
     fn asks_else(&self, message: &MessageBuf) -> bool
-        ensures { (m : ReadMessage) → read_here message.now ≡ Some m → result ≡ asks_other self.now.question m.questions }
+        ensures { (m : ReadMessage) → message_of message.now ≡ Some m → result ≡ asks_other self.now.question m.questions }
     {
         match message.sole_question() {
             Ok(question) => !self.is_asked(&question),
