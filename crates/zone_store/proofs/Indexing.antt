@@ -1,8 +1,8 @@
 -- What an edit of a list of data leaves of its index.
 use Rattle.std.proofs.Common.{◌≡◌, Bool, true, false, cond, ◌||◌, ◌&&◌, not, List, [], ◌∷◌, ◌++◌, refl, sym, ap, ◌∙◌, subst}
-use Rattle.std.specs.Ordering.{eq_by_cmp, is_eq}
+use Rattle.std.specs.Ordering.{is_eq}
 use Rattle.std.specs.List.{list_any, filter}
-use Rattle.std.specs.BTreeSet.{BTreeSet, contains, Updates, IsUnchanged}
+use Rattle.std.specs.BTreeSet.{BTreeSet, Updates, IsUnchanged}
 use Rattle.std.proofs.lemmas.List.Folds.{list_any-append}
 use Rattle.std.proofs.lemmas.Map.Views.{any-filter_same}
 use Rattle.dns_rdata.specs.Records.{Field, same_data}

@@ -1,9 +1,9 @@
 -- The order of record data is total, and ties where data are equal.
-use Rattle.std.proofs.Common.{◌≡◌, ℕ, List, refl, sym, ap, ◌∙◌, true≢false}
-use Rattle.std.specs.declared.cmp.Ordering.TheVariants.{Less, Equal, Greater}
-use Rattle.std.specs.Ordering.{eq_by_cmp, ordering_reverse, is_eq, is_lt, nat_cmp}
+use Rattle.std.proofs.Common.{◌≡◌, List, refl, sym, ap, true≢false}
+use Rattle.std.specs.declared.cmp.Ordering.TheVariants.{Less, Equal}
+use Rattle.std.specs.Ordering.{eq_by_cmp, ordering_reverse, is_eq, is_lt}
 use Rattle.std.specs.Cmp.{IsTotalOrder}
-use Rattle.std.specs.Cmp.Lexicographic.{slice_cmp, lists_total, lists_ties, texts_ties, nat_list_cmp_total}
+use Rattle.std.specs.Cmp.Lexicographic.{lists_total, lists_ties, texts_ties, nat_list_cmp_total}
 use Rattle.dns_name.specs.NameOrder.{canonical_total, canonical_ties}
 use Rattle.dns_rdata.specs.Records.{Field, same_field, same_data}
 use Rattle.dns_rdata.specs.Records.Field.{Octets, DomainName}
