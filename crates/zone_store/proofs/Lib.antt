@@ -7,3 +7,4 @@ mod Closing
 mod Stops
 mod Distinct
 mod Sound
+mod Indexing

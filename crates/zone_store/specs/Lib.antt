@@ -4,3 +4,6 @@ pub mod Pending
 pub mod Stops
 pub mod Strays
 pub mod Sound
+pub mod DataOrder
+pub mod DataTies
+pub mod DataIndex

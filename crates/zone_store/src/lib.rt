@@ -3,6 +3,8 @@
 
 mod apex;
 mod builder;
+mod data_index;
+mod data_key;
 mod errors;
 mod read;
 mod sets;

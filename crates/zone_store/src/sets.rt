@@ -5,11 +5,15 @@ ghost use Rattle.dns_name.specs.Names.{fold};
 ghost use Rattle.dns_rdata.specs.Records.{same_data};
 ghost use Rattle.dns_rdata.specs.ZoneData.{data_fields};
 ghost use Rattle.zone_types.specs.Version.{key_cmp};
+ghost use Rattle.zone_store.specs.DataIndex.{IsIndexed};
 
+use crate::data_index::{FEW, forget, is_noted, note_last};
+use crate::data_key::DataKey;
 use dns_name::{KeyName, Labelled, Rtype, Ttl, compare_spelling};
 use dns_rdata::StoredRecordData;
 use std::alloc::{AllocError, Global};
 use std::cmp::Ordering;
+use std::collections::BTreeSet;
 use std::marker::Model;
 
 /// What records of one owner and type share and hold: their TTL and their data, in order (RFC 2181, 5.2).
@@ -17,6 +21,7 @@ use std::marker::Model;
 pub struct RecordSet {
     ttl: Ttl,
     items: Vec<StoredRecordData>,
+    seen: Option<BTreeSet<DataKey>>,
 }
 
 impl Model for RecordSet {
@@ -26,8 +31,11 @@ impl Model for RecordSet {
 
     ghost use Rattle.std.specs.Prelude.{map};
     ghost use Rattle.dns_rdata.specs.ZoneData.{data_fields};
+    ghost use Rattle.zone_store.specs.DataIndex.{IsIndexed};
 
     ghost view = { λ s. record { ttl = s.ttl; items = map data_fields s.items.items } };
+
+    ghost invariant = { λ s. IsIndexed (map data_fields s.items.items) s.seen };
 }
 
 impl RecordSet {
@@ -41,7 +49,11 @@ impl RecordSet {
     {
         let mut items = Vec::new(alloc);
         items.push(item)?;
-        Ok(RecordSet { ttl, items })
+        Ok(RecordSet {
+            ttl,
+            items,
+            seen: None,
+        })
     }
 
     /// The TTL, in seconds.
@@ -63,7 +75,13 @@ impl RecordSet {
     pub(crate) fn contains(&self, item: &StoredRecordData) -> bool
         ensures { result ≡ list_any (same_data (data_fields item.now)) self.now.items }
     {
-        is_among(&self.items, item)
+        match &self.seen {
+            Some(keys) => match is_noted(keys, item) {
+                Ok(found) => found,
+                Err(_) => is_among(&self.items, item),
+            },
+            None => is_among(&self.items, item),
+        }
     }
 
     /// Whether data other than these stand in the set.
@@ -75,11 +93,16 @@ impl RecordSet {
     }
 
     /// Puts the data last, and this TTL in place of the set's.
-    pub(crate) fn append(&mut self, ttl: Ttl, item: StoredRecordData) -> Result<(), AllocError>
+    pub(crate) fn append(
+        &mut self,
+        alloc: Global,
+        ttl: Ttl,
+        item: StoredRecordData,
+    ) -> Result<(), AllocError>
         ensures ok { OnOk result (self.new ≡ record { ttl = ttl; items = self.old.items ++ data_fields item ∷ [] }) }
         ensures err { OnErr result (self.new ≡ self.old) }
     {
-        self.items.push(item)?;
+        push_noted(&mut self.items, &mut self.seen, alloc, item)?;
         self.ttl = ttl;
         Ok(())
     }
@@ -90,12 +113,14 @@ impl RecordSet {
         ensures { self.new ≡ record { ttl = ttl; items = filter (λ d. not (same_data (data_fields item.now) d)) self.old.items } }
     {
         drop_equal(&mut self.items, item);
+        forget(&mut self.seen, item);
         self.ttl = ttl;
     }
 
     /// Puts the lower of this TTL and the set's, and the data last, unless the set had equal data.
     pub(crate) fn open_with(
         &mut self,
+        alloc: Global,
         ttl: Ttl,
         item: StoredRecordData,
         had: bool,
@@ -104,13 +129,38 @@ impl RecordSet {
         ensures err { OnErr result (self.new ≡ self.old) }
     {
         if !had {
-            self.items.push(item)?;
+            push_noted(&mut self.items, &mut self.seen, alloc, item)?;
         }
         if ttl.to_int() < self.ttl.to_int() {
             self.ttl = ttl;
         }
         Ok(())
     }
+}
+
+/// Puts data last, and into the index, which is made where the data become many. Without memory both stay.
+fn push_noted(
+    items: &mut Vec<StoredRecordData>,
+    seen: &mut Option<BTreeSet<DataKey>>,
+    alloc: Global,
+    item: StoredRecordData,
+) -> Result<(), AllocError>
+    ensures ok { OnOk result (items.new.items ≡ items.old.items ++ item ∷ []) }
+    ensures err { OnErr result (items.new.items ≡ items.old.items) }
+    ensures indexed { IsIndexed (map data_fields items.old.items) seen.old → IsIndexed (map data_fields items.new.items) seen.new }
+{
+    if seen.is_none() && items.len() < FEW {
+        items.push(item)?;
+        return Ok(());
+    }
+    let key = DataKey::of(&item)?;
+    let len = items.len();
+    items.push(item)?;
+    let noted = note_last(seen, alloc, items, key);
+    if noted.is_err() {
+        items.truncate(len);
+    }
+    noted
 }
 
 /// Whether some of the data are equal to the others.
@@ -149,6 +199,7 @@ impl Clone for RecordSet {
         Ok(RecordSet {
             ttl: self.ttl,
             items: self.items.clone()?,
+            seen: self.seen.clone()?,
         })
     }
 }

@@ -226,6 +226,40 @@ fn deletes_the_last_data_of_a_set(rt: HostRuntime) {
     assert!(rt; zone.rrset_at(&owner, Rtype::A).is_none());
 }
 
+/// A server of the apex, named by one letter below it.
+fn lettered<R: Abort>(rt: &R, alloc: Global, letter: u8) -> StoredRecord {
+    let target = [1, letter, 7, b'e', b'x', b'a', b'm', b'p', b'l', b'e', 0];
+    server(rt, alloc, b"\x07example\x00", &target)
+}
+
+/// Adds the servers from a to t, and counts those that are refused.
+fn add_servers<R: Abort>(rt: &R, alloc: Global, session: &mut WriteZone<'_>) -> usize {
+    let mut refused = 0_usize;
+    for letter in b'a'..b'u' {
+        if session.add_record(lettered(rt, alloc, letter)).is_err() {
+            refused = refused.saturating_add(1);
+        }
+    }
+    refused
+}
+
+#[test]
+fn finds_equal_data_among_many(rt: HostRuntime) {
+    let alloc = rt.alloc();
+    let mut zone = filled(&rt, alloc);
+    let mut session = zone.write(alloc);
+    assert_eq!(rt; add_servers(&rt, alloc, &mut session), 0);
+    assert_eq!(rt; add_servers(&rt, alloc, &mut session), 20);
+    let again = session.add_record(lettered(&rt, alloc, b'T'));
+    assert_eq!(rt; again, Err(EditError::Incompatible));
+    let deleted = session.delete_record(&lettered(&rt, alloc, b'C'));
+    assert_eq!(rt; deleted, Ok(()));
+    let lacking = session.delete_record(&lettered(&rt, alloc, b'c'));
+    assert_eq!(rt; lacking, Err(EditError::Incompatible));
+    session.commit().expect(&rt, "a version");
+    assert_eq!(rt; add_servers(&rt, alloc, &mut session), 19);
+}
+
 /// Whether a version has addresses of a name.
 fn has_addresses(zone: &ReadZone, owner: &[u8]) -> bool {
     match NameRef::from_octets(owner) {

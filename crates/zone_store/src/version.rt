@@ -390,7 +390,7 @@ fn put_last(
     ensures err { OnErr result (sets.new.entries ≡ sets.old.entries) }
 {
     match sets.get_mut(&key) {
-        Some(set) => set.append(ttl, item),
+        Some(set) => set.append(alloc, ttl, item),
         None => {
             sets.insert(key, RecordSet::of_one(alloc, ttl, item)?)?;
             Ok(())
@@ -442,7 +442,7 @@ fn put_opening(
     ensures err { OnErr result (sets.new.entries ≡ sets.old.entries) }
 {
     match sets.get_mut(&key) {
-        Some(set) => set.open_with(ttl, item, had),
+        Some(set) => set.open_with(alloc, ttl, item, had),
         None => {
             sets.insert(key, RecordSet::of_one(alloc, ttl, item)?)?;
             Ok(())
