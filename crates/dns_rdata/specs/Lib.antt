@@ -8,8 +8,11 @@ pub use Rattle.rdata_types.specs.Soa
 pub use Rattle.rdata_types.specs.DataValues
 pub use Rattle.rdata_types.specs.DataFields
 pub use Rattle.rdata_types.specs.SameData
+pub use Rattle.rdata_types.specs.DataOrder
+pub use Rattle.rdata_types.specs.DataTies
 pub mod Heads
 pub mod RecordRows
 pub mod ZoneData
 pub mod SameZoneData
+pub mod ZoneDataOrder
 pub mod RecordHead

@@ -1,7 +1,10 @@
 -- The type and the fields of record data of any type (RFC 1035, 3.2.2 and 3.3; RFC 3597, 3).
 use Rattle.std.specs.Prelude.{ℕ, ◌==◌, ◌&&◌, Bool, List}
+use Rattle.std.specs.Ordering.{nat_cmp, ordering_then}
+use Rattle.std.specs.declared.cmp.Ordering.{Ordering}
 use Rattle.dns_name.specs.Names.{Name}
 use Rattle.rdata_types.specs.Records.{Field, same_data}
+use Rattle.rdata_types.specs.DataOrder.{data_cmp}
 use Rattle.rdata_types.specs.DataFields.{a_fields, aaaa_fields, name_fields, minfo_fields, mx_fields, srv_fields, soa_fields, txt_fields, ds_fields, unknown_fields}
 use Rattle.dns_rdata.specs.declared.zone_data.ZoneRecordData.{ZoneRecordData}
 use Rattle.dns_rdata.specs.declared.zone_data.ZoneRecordData.TheVariants.{A, Aaaa, Ns, Md, Mf, Mb, Mg, Mr, Cname, Ptr, Minfo, Mx, Srv, Soa, Txt, Ds, Unknown}
@@ -53,3 +56,7 @@ data_fields d = fields_of (λ n. n) d
 -- whether data are equal: type and fields, names ASCII case aside (RFC 2181, 5)
 abbrev pub same_zone_data : {O P M N : Type 0} → (M → Name) → (N → Name) → ZoneRecordData O M → ZoneRecordData P N → Bool
 same_zone_data m n a b = rtype_of a == rtype_of b && same_data (fields_of m a) (fields_of n b)
+
+-- an order of data whose ties are equal data: by type, then by fields
+abbrev pub zone_data_cmp : {O P M N : Type 0} → (M → Name) → (N → Name) → ZoneRecordData O M → ZoneRecordData P N → Ordering
+zone_data_cmp m n a b = ordering_then (nat_cmp (rtype_of a) (rtype_of b)) (data_cmp (fields_of m a) (fields_of n b))

@@ -4,3 +4,4 @@ pub mod Writing
 pub mod Strings
 pub mod FoldedData
 pub mod ReadData
+pub mod Comparing

@@ -8,3 +8,5 @@ pub mod Soa
 pub mod DataValues
 pub mod DataFields
 pub mod SameData
+pub mod DataOrder
+pub mod DataTies

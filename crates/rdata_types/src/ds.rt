@@ -1,6 +1,8 @@
 // Digests of keys.
 ghost use Rattle.std.specs.Prelude.{◌≡◌, ◌≤◌, ◌<◌, ◌+◌, ◌++◌, IfOk, OnOk, OnErr, Some, None, length, take};
 ghost use Rattle.std.specs.Str.{bytes_eq};
+ghost use Rattle.std.specs.Ordering.{nat_cmp};
+ghost use Rattle.std.specs.Cmp.Lexicographic.{slice_cmp};
 ghost use Rattle.rdata_types.specs.Records.{data_wire, fields_at, parts, same_data};
 ghost use Rattle.rdata_types.specs.DataFields.{ds_fields, ds_head};
 
@@ -10,6 +12,7 @@ use crate::spelling::after_front;
 use bytes::Bytes;
 use dns_name::{ParseError, Rtype};
 use std::alloc::{AllocError, Global};
+use std::cmp::Ordering;
 use std::convert::AsSlice;
 use std::marker::Model;
 
@@ -122,6 +125,37 @@ impl<O: AsSlice<u8> + Drop> Ds<O> {
         ensures { result ≡ same_data (ds_fields self.now) (ds_fields other.now) }
     {
         self.head() == other.head() && self.digest() == other.digest()
+    }
+
+    /// The order of the data as they are sent, and other octets.
+    #[tactic(auto, using(crate::proofs::Comparing::cut_order, crate::proofs::Comparing::split_order))]
+    pub fn octets_cmp(&self, octets: &[u8]) -> Ordering
+        ensures { result ≡ slice_cmp nat_cmp (ds_head self.now ++ self.now.digest) octets.now }
+    {
+        let head = self.head();
+        if octets.len() < head.len() {
+            return head.as_slice().cmp(octets);
+        }
+        let (front, rest) = octets.split_at(head.len());
+        head.as_slice().cmp(front).then(self.digest().cmp(rest))
+    }
+
+    /// The order of other octets, and the data as they are sent.
+    #[tactic(auto, using(crate::proofs::Comparing::turned))]
+    pub fn order_after(&self, octets: &[u8]) -> Ordering
+        ensures { result ≡ slice_cmp nat_cmp octets.now (ds_head self.now ++ self.now.digest) }
+    {
+        self.octets_cmp(octets).reverse()
+    }
+
+    /// The order of the data as they are sent.
+    #[tactic(auto, using(crate::proofs::Comparing::split_order))]
+    pub fn data_cmp<P: AsSlice<u8> + Drop>(&self, other: &Ds<P>) -> Ordering
+        ensures { result ≡ slice_cmp nat_cmp (ds_head self.now ++ self.now.digest) (ds_head other.now ++ other.now.digest) }
+    {
+        self.head()
+            .cmp(&other.head())
+            .then(self.digest().cmp(other.digest()))
     }
 
     #[tactic(auto, using(crate::proofs::Writing::begins, std::proofs::lemmas::List::append_assoc))]

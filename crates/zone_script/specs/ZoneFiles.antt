@@ -4,6 +4,7 @@ use Rattle.dns_name.specs.Names.{Name}
 use Rattle.dns_name.specs.Codes.{type_ns, type_soa}
 use Rattle.dns_rdata.specs.Records.{Record}
 use Rattle.zone_types.specs.Version.{Version, set_at, below_apex}
+use Rattle.zone_types.specs.Edits.{second_alias}
 
 -- whether a set of that type stands at an owner below the apex
 abbrev pub has_below : Version → Name → ℕ → Bool
@@ -13,6 +14,6 @@ has_below v owner rtype = below_apex v owner && is_some (set_at v owner rtype)
 abbrev pub clashes : Version → Record → Bool
 clashes v r = ((r.rtype == type_ns) && has_below v r.owner type_soa) || ((r.rtype == type_soa) && has_below v r.owner type_ns)
 
--- whether a zone file takes a record
+-- whether a zone file takes a record: of its class, beside what may stand there, and no second CNAME (RFC 2181, 10.1)
 abbrev pub is_taken : Version → Record → Bool
-is_taken v r = (r.class == v.class) && not (clashes v r)
+is_taken v r = (r.class == v.class) && not (clashes v r) && not (second_alias v r)

@@ -1,6 +1,7 @@
 //! A zone as its opening records are read.
 ghost use Rattle.std.specs.Prelude.{◌≡◌, Ok, Err, IfOk, IfErr, IfSome, OnOk};
 ghost use Rattle.zone_types.specs.Version.{below_apex};
+ghost use Rattle.zone_types.specs.Edits.{second_alias};
 ghost use Rattle.zone_script.specs.ZoneFiles.{has_below, clashes, is_taken};
 ghost use Rattle.zone_script.specs.Keeping as keeping;
 ghost use Rattle.zone_script.specs.Causes.{line_in};
@@ -31,7 +32,8 @@ impl OpeningZone {
         }
     }
 
-    /// Takes the record of a line. Refused are a record of another class, and below the apex NS beside SOA (RFC 1034, 4.2.1). A record whose
+    /// Takes the record of a line. Refused are a record of another class, and below the apex NS beside SOA (RFC 1034, 4.2.1) or a
+    /// second CNAME (RFC 2181, 10.1). A record whose
     /// owner is outside the zone is taken, and refuses the zone at its end.
     pub(crate) fn take(&mut self, found: StoredRecord, number: u64) -> Result<(), ScriptError>
         ensures ok { OnOk result (keeping.take_record self.old number found ≡ Ok self.new) }
@@ -43,6 +45,7 @@ impl OpeningZone {
         match self.builder.insert(found) {
             Ok(()) => {}
             Err(InsertError::OutOfZone) => self.has_outside = true,
+            Err(InsertError::InvalidData) => return Err(ScriptError::Line(number)),
             Err(InsertError::Memory) => return Err(ScriptError::Memory),
         }
         self.last_line = number;
@@ -53,7 +56,22 @@ impl OpeningZone {
     fn is_taken(&self, found: &StoredRecord) -> bool
         ensures { result ≡ is_taken self.now.builder found.now }
     {
-        found.class() == self.builder.class() && !self.clashes(found)
+        found.class() == self.builder.class()
+            && !self.clashes(found)
+            && !self.is_second_alias(found)
+    }
+
+    /// Whether a record would be a second CNAME below the apex.
+    fn is_second_alias(&self, found: &StoredRecord) -> bool
+        ensures { result ≡ second_alias self.now.builder found.now }
+    {
+        if !self.is_below_apex(found.owner()) {
+            return false;
+        }
+        if found.rtype() != Rtype::CNAME {
+            return false;
+        }
+        self.builder.has_set(found.owner(), Rtype::CNAME)
     }
 
     /// Whether NS and SOA would stand side by side below the apex.

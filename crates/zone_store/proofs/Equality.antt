@@ -1,27 +1,6 @@
--- Equality of stored data, by their fields.
+-- Lists of stored data, by their fields.
 use Rattle.std.proofs.Common.{◌≡◌, Bool, true, false, ◌&&◌, ◌||◌, cond, List, [], ◌∷◌, map, refl, ap}
 use Rattle.std.specs.List.{list_any, filter}
-use Rattle.dns_name.specs.Names.{Name, same_name}
-use Rattle.dns_rdata.specs.Records.{same_data}
-use Rattle.dns_rdata.specs.ZoneData.{data_fields, same_zone_data}
-use Rattle.dns_rdata.specs.declared.zone_data.ZoneRecordData.{ZoneRecordData}
-use Rattle.dns_rdata.specs.declared.zone_data.ZoneRecordData.TheVariants.{A, Ns, Soa}
-
-and_false : (b : Bool) → false ≡ (b && false)
-and_false true = refl
-and_false false = refl
-
--- data of the known types with equal fields are of one type
-pub same_by_fields : (a b : ZoneRecordData Name) → same_zone_data (λ n. n) (λ n. n) a b ≡ same_data (data_fields a) (data_fields b)
-same_by_fields (A a) (A b) = refl
-same_by_fields (A a) (Ns b) = refl
-same_by_fields (A a) (Soa b) = refl
-same_by_fields (Ns a) (A b) = refl
-same_by_fields (Ns a) (Ns b) = refl
-same_by_fields (Ns a) (Soa b) = and_false (same_name a.nsdname b.mname)
-same_by_fields (Soa a) (A b) = refl
-same_by_fields (Soa a) (Ns b) = and_false (same_name a.mname b.nsdname)
-same_by_fields (Soa a) (Soa b) = refl
 
 pub list_any_map : {X Y : Type 0} (p : Y → Bool) (f : X → Y) (xs : List X) → list_any p (map f xs) ≡ list_any (λ x. p (f x)) xs
 list_any_map p f [] = refl

@@ -7,8 +7,8 @@ use Rattle.std.proofs.lemmas.List.Folds.{list_any-append}
 use Rattle.std.proofs.lemmas.Map.Views.{any-filter_same}
 use Rattle.dns_rdata.specs.Records.{Field, same_data}
 use Rattle.dns_rdata.specs.SameData.{same_data_equiv}
-use Rattle.zone_store.specs.DataOrder.{data_cmp}
-use Rattle.zone_store.specs.DataTies.{data_ties}
+use Rattle.dns_rdata.specs.DataOrder.{data_cmp}
+use Rattle.dns_rdata.specs.DataTies.{data_ties}
 use Rattle.zone_store.specs.DataIndex.{Indexes}
 
 -- an index of the same keys

@@ -21,11 +21,8 @@ use Rattle.zone_types.proofs.Ordered.{sorted_none, sorted-insert_entry, sorted-r
 use Rattle.zone_types.proofs.Steps.{below_alike}
 use Rattle.zone_store.specs.Sound.{is_sound_at, IsSound}
 use Rattle.zone_store.specs.Strays.{is_stray_at}
-use Rattle.zone_store.specs.Puts.{with_soa, opened_by}
+use Rattle.zone_store.specs.Puts.{with_soa, opened_by, adds_alias}
 use Rattle.zone_types.specs.Classify.{lowest_ttl}
-use Rattle.dns_rdata.specs.ZoneData.{rtype_of}
-use Rattle.dns_rdata.specs.declared.zone_data.ZoneRecordData.{ZoneRecordData}
-use Rattle.dns_rdata.specs.declared.zone_data.ZoneRecordData.TheVariants.{A, Ns, Soa}
 use Rattle.zone_store.proofs.Equality.{filter_map}
 use Rattle.zone_store.proofs.Closing.{closed_is}
 use Rattle.zone_store.proofs.Distinct.{differ_push, differ_pushed, pushed_new, has_distinct_data}
@@ -171,6 +168,17 @@ data_stand v owner rtype h = by (set_at v owner rtype) refl
 
 -- ---- edits
 
+-- a first CNAME stands alone
+lone_alias : (v : Version) (r : Record) → second_alias v r ≡ false → (below_apex v r.owner && (r.rtype == type_cname)) ≡ true → length (data_at v r.owner r.rtype ++ r.fields ∷ []) ≤ 1
+lone_alias v r t b =
+    let type_is : r.rtype ≡ type_cname = eqb-true r.rtype type_cname (second_so (below_apex v r.owner) _ b) in
+    let gone : is_some (set_at v r.owner type_cname) ≡ false = sym (ap (λ c. c && is_some (set_at v r.owner type_cname)) b) ∙ t in
+    none (set_at v r.owner r.rtype) (ap (λ n. is_some (set_at v r.owner n)) type_is ∙ gone)
+  where
+    none : (o : Option RecordSet) → is_some o ≡ false → length (option_map_or (λ (s : RecordSet). s.items) o [] ++ r.fields ∷ []) ≤ 1
+    none None g = omega arith
+    none (Some s) g = absurd (true≢false g)
+
 pub add_sound : (v w : Version) (r : Record) → IsSound v → add v r ≡ Ok w → IsSound w
 add_sound v w r h e = by (under r.owner v.apex) (has_data v r) (second_alias v r) refl refl refl e
   where
@@ -180,16 +188,6 @@ add_sound v w r h e = by (under r.owner v.apex) (has_data v r) (second_alias v r
     put : Version
     put = put_set v r.owner r.rtype (record { ttl = r.ttl; items = items })
 
-    none : (o : Option RecordSet) → is_some o ≡ false → length (option_map_or (λ (s : RecordSet). s.items) o [] ++ r.fields ∷ []) ≤ 1
-    none None g = omega arith
-    none (Some s) g = absurd (true≢false g)
-
-    alone : second_alias v r ≡ false → (below_apex v r.owner && (r.rtype == type_cname)) ≡ true → length items ≤ 1
-    alone t b =
-        let type_is : r.rtype ≡ type_cname = eqb-true r.rtype type_cname (second_so (below_apex v r.owner) _ b) in
-        let gone : is_some (set_at v r.owner type_cname) ≡ false = sym (ap (λ c. c && is_some (set_at v r.owner type_cname)) b) ∙ t in
-        none (set_at v r.owner r.rtype) (ap (λ n. is_some (set_at v r.owner n)) type_is ∙ gone)
-
     by : (u d s : Bool) → under r.owner v.apex ≡ u → has_data v r ≡ d → second_alias v r ≡ s → (if not u then Err OutOfZone else if d then Err Incompatible else if s then Err InvalidData else Ok put) ≡ Ok w → IsSound w
     by false d s p q t g = absurd (cc)
     by true true s p q t g = absurd (cc)
@@ -198,7 +196,7 @@ add_sound v w r h e = by (under r.owner v.apex) (has_data v r) (second_alias v r
         let same : put ≡ w = cc in
         let it = data_stand v r.owner r.rtype h in
         let P : Version → Type 0 = λ x. IsSound x in
-        subst P same (sound_put v r.owner r.rtype (record { ttl = r.ttl; items = items }) h p (differ_push (data_at v r.owner r.rtype) r.fields it.differ q) (alone t))
+        subst P same (sound_put v r.owner r.rtype (record { ttl = r.ttl; items = items }) h p (differ_push (data_at v r.owner r.rtype) r.fields it.differ q) (lone_alias v r t))
 
 any_left : {X : Type 0} (p q : X → Bool) (xs : List X) → list_any q xs ≡ false → list_any q (filter p xs) ≡ false
 any_left p q [] h = refl
@@ -270,11 +268,22 @@ empty_sound apex class = record { ordered = sorted_none key_cmp; kept = refl }
 pub empty_valid : (apex : Name) (class : ℕ) → IsValid (record { apex = apex; class = class; sets = [] })
 empty_valid apex class = record { ordered = sorted_none key_cmp; kept = refl }
 
--- a record of a zone file that is no CNAME
-pub opened_sound : (v : Version) (r : Record) → IsSound v → under r.owner v.apex ≡ true → (r.rtype == type_cname) ≡ false → IsSound (opened_by v r)
+-- a record of a zone file that is no second CNAME
+pub opened_sound : (v : Version) (r : Record) → IsSound v → under r.owner v.apex ≡ true → adds_alias v r ≡ false → IsSound (opened_by v r)
 opened_sound v r h zone plain =
     sound_put v r.owner r.rtype (record { ttl = lowest_ttl r (set_at v r.owner r.rtype); items = pushed_new (data_at v r.owner r.rtype) r.fields }) h zone
-    (differ_pushed (data_at v r.owner r.rtype) r.fields (data_stand v r.owner r.rtype h).differ) (λ b. absurd (true≢false (sym (second_so (below_apex v r.owner) _ b) ∙ plain)))
+    (differ_pushed (data_at v r.owner r.rtype) r.fields (data_stand v r.owner r.rtype h).differ) (λ b. by (has_data v r) plain b)
+  where
+    lone : second_alias v r && true ≡ false → (below_apex v r.owner && (r.rtype == type_cname)) ≡ true → length (data_at v r.owner r.rtype ++ r.fields ∷ []) ≤ 1
+    lone t b = lone_alias v r (not_and (second_alias v r) t) b
+      where
+        not_and : (c : Bool) → (c && true) ≡ false → c ≡ false
+        not_and true e = absurd (true≢false e)
+        not_and false e = refl
+
+    by : (d : Bool) → (second_alias v r && not d) ≡ false → (below_apex v r.owner && (r.rtype == type_cname)) ≡ true → length (if d then data_at v r.owner r.rtype else data_at v r.owner r.rtype ++ r.fields ∷ []) ≤ 1
+    by true t b = (data_stand v r.owner r.rtype h).alias b
+    by false t b = lone t b
 
 -- ---- publishing
 
@@ -326,9 +335,3 @@ close_sound v h = record {
 -- .. or that loses nothing
 pub closed_sound : (v : Version) → IsSound v → list_any (is_stray_at v) (keys_of v.sets) ≡ false → IsValid v
 closed_sound v h none = subst (λ w. IsValid w) (sym (closed_is v none)) (close_sound v h)
-
--- no data that are read are CNAME data
-pub no_alias : (d : ZoneRecordData Name) (t : ℕ) → rtype_of d ≡ t → (t == type_cname) ≡ false
-no_alias (A a) t e = ap (λ n. n == type_cname) (sym e)
-no_alias (Ns ns) t e = ap (λ n. n == type_cname) (sym e)
-no_alias (Soa soa) t e = ap (λ n. n == type_cname) (sym e)

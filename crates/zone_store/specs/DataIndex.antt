@@ -3,7 +3,7 @@ use Rattle.std.specs.Prelude.{◌≡◌, List, Option, IfSome}
 use Rattle.std.specs.List.{list_any}
 use Rattle.std.specs.BTreeSet.{BTreeSet, contains}
 use Rattle.dns_rdata.specs.Records.{Field, same_data}
-use Rattle.zone_store.specs.DataOrder.{data_cmp}
+use Rattle.dns_rdata.specs.DataOrder.{data_cmp}
 
 -- data are among the keys exactly where equal data are among the items (RFC 2181, 5)
 abbrev pub Indexes : List (List Field) → BTreeSet (List Field) → Type 0

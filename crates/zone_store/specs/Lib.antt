@@ -4,6 +4,4 @@ pub mod Pending
 pub mod Stops
 pub mod Strays
 pub mod Sound
-pub mod DataOrder
-pub mod DataTies
 pub mod DataIndex

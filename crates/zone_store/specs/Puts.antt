@@ -1,12 +1,12 @@
 -- What single edits make of a version (RFC 2136, 3.4.2; RFC 2181, 5.2).
-use Rattle.std.specs.Prelude.{ℕ, Bool, List, ◌++◌, ◌∷◌, [], Option, Some, None, min, not, ◌==◌, length, filter, if◌then◌else◌}
+use Rattle.std.specs.Prelude.{ℕ, Bool, List, ◌++◌, ◌∷◌, [], Option, Some, None, min, not, ◌==◌, ◌&&◌, length, filter, if◌then◌else◌}
 use Rattle.std.specs.Option.{option_map_or}
 use Rattle.std.specs.BTreeMap.{insert_entry}
 use Rattle.std.specs.Map.{remove_entry}
 use Rattle.dns_name.specs.Codes.{type_soa}
 use Rattle.dns_rdata.specs.Records.{Field, Record, same_data}
 use Rattle.zone_types.specs.Version.{Version, RecordSet, Key, Sets, key_cmp, has_key, set_in, set_at, data_at}
-use Rattle.zone_types.specs.Edits.{put_set, has_data}
+use Rattle.zone_types.specs.Edits.{put_set, has_data, second_alias}
 use Rattle.zone_types.specs.Classify.{lowest_ttl}
 
 -- the version with a record's data last in its set, whose TTL is then the record's
@@ -20,6 +20,10 @@ without v r = put_set v r.owner r.rtype (record { ttl = r.ttl; items = filter (�
 -- the version with a record that it opens with: data that the set has already are not put again, and the lower TTL stays
 abbrev pub opened_by : Version → Record → Version
 opened_by v r = put_set v r.owner r.rtype (record { ttl = lowest_ttl r (set_at v r.owner r.rtype); items = if has_data v r then data_at v r.owner r.rtype else data_at v r.owner r.rtype ++ r.fields ∷ [] })
+
+-- whether a record would be a second CNAME below the apex, other than the one there (RFC 2181, 10.1)
+abbrev pub adds_alias : Version → Record → Bool
+adds_alias v r = second_alias v r && not (has_data v r)
 
 -- the version whose apex SOA set is one record
 abbrev pub with_soa : Version → ℕ → List Field → Version

@@ -1,9 +1,10 @@
 // How a zone opens.
-ghost use Rattle.std.specs.Prelude.{◌≡◌, ◌↔◌, [], false, Err, OnOk, OnErr, IfOk, is_some};
+ghost use Rattle.std.specs.Prelude.{◌≡◌, ◌↔◌, [], true, false, Err, OnOk, OnErr, IfOk, is_some};
 ghost use Rattle.zone_types.specs.Version.{set_at};
 ghost use Rattle.dns_name.specs.Names.{under};
 ghost use Rattle.zone_types.specs.Classify.{opened_with};
 ghost use Rattle.zone_types.specs.Edits as edits;
+ghost use Rattle.zone_store.specs.Puts.{adds_alias};
 
 use crate::apex::ZoneApex;
 use crate::errors::InsertError;
@@ -16,8 +17,6 @@ use std::marker::Model;
 use std::sync::Arc;
 
 /// The records that a zone opens with, put one by one. It is seen as the version that they make.
-///
-/// A record's data are A, NS or SOA data so far, so that nothing stands beside a CNAME, and none beside another one.
 #[derive(Drop)]
 pub struct ZoneBuilder {
     alloc: Global,
@@ -64,14 +63,19 @@ impl ZoneBuilder {
         self.version.set_at(owner, rtype).is_some()
     }
 
-    /// Puts a record: data that the set has already are not put again, and the lower TTL of set and record becomes the set's (RFC 2181, 5). The class isn't looked at.
+    /// Puts a record: data that the set has already are not put again, and the lower TTL of set and record becomes the set's (RFC 2181, 5). The
+    /// class isn't looked at. Refused are, tested in this order, an owner outside the zone, and a second CNAME below the apex (`InvalidData`).
     pub fn insert(&mut self, added: StoredRecord) -> Result<(), InsertError>
         ensures ok { OnOk result (self.new ≡ opened_with self.old added) }
         ensures outside { (result ≡ Err InsertError.OutOfZone) ↔ (under added.owner self.old.apex ≡ false) }
+        ensures alias { (result ≡ Err InsertError.InvalidData) ↔ ((under added.owner self.old.apex ≡ true) × (adds_alias self.old added ≡ true)) }
         ensures err { OnErr result (self.new ≡ self.old) }
     {
         if self.version.is_outside(&added) {
             return Err(InsertError::OutOfZone);
+        }
+        if self.version.adds_alias(&added) {
+            return Err(InsertError::InvalidData);
         }
         self.version.open_with(self.alloc, added)?;
         Ok(())

@@ -1,11 +1,8 @@
 // Record data as keys: equal data are one key.
 ghost use Rattle.std.specs.Prelude.{◌≡◌, IfOk};
 ghost use Rattle.dns_rdata.specs.ZoneData.{data_fields};
-ghost use Rattle.dns_rdata.specs.DataFields.{soa_fields};
-ghost use Rattle.zone_store.specs.DataOrder.{data_cmp};
 
-use dns_name::{StoredName, ToName};
-use dns_rdata::{Soa, StoredRecordData, ZoneRecordData};
+use dns_rdata::StoredRecordData;
 use std::alloc::AllocError;
 use std::cmp::Ordering;
 use std::marker::Model;
@@ -54,7 +51,7 @@ impl PartialEq for DataKey {
 
     ghost laws = { partial_equiv_from_equiv same_data_equiv };
 
-    #[tactic(auto, using(crate::specs::DataTies::data_ties))]
+    #[tactic(auto, using(dns_rdata::specs::DataTies::data_ties))]
     fn eq(&self, other: &DataKey) -> bool {
         self.cmp(other) == Ordering::Equal
     }
@@ -70,8 +67,8 @@ impl PartialOrd for DataKey {
     ghost use Rattle.std.specs.Prelude.{refl};
     ghost use Rattle.std.specs.Cmp.{partial_order_from_agreeing_total};
     ghost use Rattle.std.specs.Ordering.{as_partial_cmp};
-    ghost use Rattle.zone_store.specs.DataOrder.{data_cmp};
-    ghost use Rattle.zone_store.specs.DataTies.{data_total, data_ties};
+    ghost use Rattle.dns_rdata.specs.DataOrder.{data_cmp};
+    ghost use Rattle.dns_rdata.specs.DataTies.{data_total, data_ties};
 
     ghost partial_cmp = { as_partial_cmp data_cmp };
 
@@ -84,8 +81,8 @@ impl PartialOrd for DataKey {
 
 impl Ord for DataKey {
     ghost use Rattle.std.specs.Prelude.{refl};
-    ghost use Rattle.zone_store.specs.DataOrder.{data_cmp};
-    ghost use Rattle.zone_store.specs.DataTies.{data_total, data_ties};
+    ghost use Rattle.dns_rdata.specs.DataOrder.{data_cmp};
+    ghost use Rattle.dns_rdata.specs.DataTies.{data_total, data_ties};
 
     ghost cmp = { data_cmp };
 
@@ -96,31 +93,6 @@ impl Ord for DataKey {
     ghost matches_eq = { data_ties };
 
     fn cmp(&self, other: &DataKey) -> Ordering {
-        match &self.item {
-            ZoneRecordData::A(a) => match &other.item {
-                ZoneRecordData::A(b) => a.octets.cmp(&b.octets),
-                _ => Ordering::Less,
-            },
-            ZoneRecordData::Ns(a) => match &other.item {
-                ZoneRecordData::A(_) => Ordering::Greater,
-                ZoneRecordData::Ns(b) => a.nsdname().name_cmp(b.nsdname()),
-                ZoneRecordData::Soa(b) => a.nsdname().name_cmp(b.mname()).then(Ordering::Less),
-            },
-            ZoneRecordData::Soa(a) => match &other.item {
-                ZoneRecordData::A(_) => Ordering::Greater,
-                ZoneRecordData::Ns(b) => a.mname().name_cmp(b.nsdname()).then(Ordering::Greater),
-                ZoneRecordData::Soa(b) => compare_soa(a, b),
-            },
-        }
+        self.item.fields_cmp(&other.item)
     }
-}
-
-/// The order of SOA data: the names, then the numbers as they are sent.
-fn compare_soa(a: &Soa<StoredName>, b: &Soa<StoredName>) -> Ordering
-    ensures { result ≡ data_cmp (soa_fields (λ n. n) a.now) (soa_fields (λ n. n) b.now) }
-{
-    a.mname()
-        .name_cmp(b.mname())
-        .then(a.rname().name_cmp(b.rname()))
-        .then(a.times().cmp(&b.times()))
 }

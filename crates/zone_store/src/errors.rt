@@ -36,6 +36,9 @@ pub enum InsertError {
     /// The owner is neither the apex nor below it.
     #[error("the owner isn't in the zone")]
     OutOfZone,
+    /// A second CNAME record of one name (RFC 2181, 10.1).
+    #[error("the name may not hold these data")]
+    InvalidData,
     #[error("out of memory")]
     Memory,
 }

@@ -185,11 +185,10 @@ fn drop_equal(items: &mut Vec<StoredRecordData>, item: &StoredRecordData)
 }
 
 /// Whether two data are equal.
-#[tactic(auto, using(crate::proofs::Equality::same_by_fields))]
 fn is_same(item: &StoredRecordData, kept: &StoredRecordData) -> bool
     ensures { result ≡ same_data (data_fields item.now) (data_fields kept.now) }
 {
-    item.data_eq(kept)
+    item.fields_eq(kept)
 }
 
 impl Clone for RecordSet {

@@ -11,7 +11,7 @@ ghost use Rattle.zone_types.specs.Edits.{add, delete, with_sets};
 ghost use Rattle.zone_types.specs.Edits as edits;
 ghost use Rattle.zone_store.specs.Causes.{refusal_of};
 ghost use Rattle.zone_store.specs.Strays.{is_stray_at};
-ghost use Rattle.zone_store.specs.Puts.{appended, without, with_soa, items_at, put_with, last_set, opening_set, thinned, taken_out};
+ghost use Rattle.zone_store.specs.Puts.{adds_alias, appended, without, with_soa, items_at, put_with, last_set, opening_set, thinned, taken_out};
 ghost use Rattle.std.specs.BTreeMap.{insert_entry};
 ghost use Rattle.std.specs.Map.{keys_of};
 ghost use Rattle.std.specs.Map.Iter.{deref_pair};
@@ -234,6 +234,13 @@ impl ZoneVersion {
         self.has_set(added.owner(), Rtype::CNAME)
     }
 
+    /// Whether a record would be a second CNAME of a name below the apex, other than the one there (RFC 2181, 10.1).
+    pub(crate) fn adds_alias(&self, added: &StoredRecord) -> bool
+        ensures { result ≡ adds_alias self.now added.now }
+    {
+        self.is_second_alias(added) && !self.has_data(added)
+    }
+
     /// Whether a record's owner is neither the apex nor below it.
     pub(crate) fn is_outside(&self, added: &StoredRecord) -> bool
         ensures { result ≡ not (under added.now.owner self.now.apex) }
@@ -292,9 +299,10 @@ impl ZoneVersion {
         take_out(&mut self.sets, &key, deleted.ttl(), deleted.data());
     }
 
-    /// Puts a record that the zone opens with: data that the set has already are not put again, and the lower TTL stays. No data are CNAME data so far.
+    /// Puts a record that the zone opens with: data that the set has already are not put again, and the lower TTL stays.
     pub(crate) fn open_with(&mut self, alloc: Global, added: StoredRecord) -> Result<(), AllocError>
-        requires { under added.owner self.old.apex ≡ true }
+        requires zone { under added.owner self.old.apex ≡ true }
+        requires no_alias { adds_alias self.old added ≡ false }
         ensures ok { OnOk result (self.new ≡ opened_with self.old added) }
         ensures err { OnErr result (self.new ≡ self.old) }
     {
