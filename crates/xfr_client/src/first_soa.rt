@@ -10,7 +10,7 @@ use dns_rdata::{ReadRecord, Record, RecordData, Soa, ZoneRecordData};
 pub type FirstSoa = Record<KeyName, Soa<KeyName>>;
 
 // SOA data with their names in place.
-#[tactic(auto, unfolding(dns_rdata::specs::DataFields::soa_times))]
+#[tactic(auto, unfolding(rdata_types::specs::DataFields::soa_times))]
 fn in_place<N: Labelled + Drop>(soa: &Soa<N>) -> Soa<KeyName>
     ensures { ⟦<Soa<KeyName> as RecordData>⟧.fields result ≡ ⟦<Soa<N> as RecordData>⟧.fields soa.now }
 {

@@ -2,7 +2,7 @@
 
 use crate::{EditError, InsertError, ReadZone, WriteZone, ZoneApex, ZoneBuilder};
 use dns_name::{Class, NameRef, Rtype, Serial, StoredName, Ttl};
-use dns_rdata::{A, Ns, Record, Soa, StoredRecord, ZoneRecordData};
+use dns_rdata::{A, Cname, Ns, Record, Soa, StoredRecord, ZoneRecordData};
 use std::alloc::Global;
 use std::process::Abort;
 
@@ -21,6 +21,12 @@ fn server<R: Abort>(rt: &R, alloc: Global, owner: &[u8], target: &[u8]) -> Store
     let target = ZoneRecordData::Ns(Ns::new(name(rt, alloc, target)));
     let owner = name(rt, alloc, owner);
     Record::new(owner, Class::IN, Ttl::from_int(3600), target)
+}
+
+fn alias<R: Abort>(rt: &R, alloc: Global, owner: &[u8], target: &[u8]) -> StoredRecord {
+    let target = ZoneRecordData::Cname(Cname::new(name(rt, alloc, target)));
+    let owner = name(rt, alloc, owner);
+    Record::new(owner, Class::IN, Ttl::from_int(60), target)
 }
 
 fn apex_server<R: Abort>(rt: &R, alloc: Global) -> StoredRecord {
@@ -208,6 +214,32 @@ fn opens_with_what_was_inserted(rt: HostRuntime) {
     assert_eq!(rt; zone.version(), 0);
     let first = zone.first_rrset().expect(&rt, "a set");
     assert_eq!(rt; first.items().len(), 1);
+}
+
+#[test]
+fn opens_with_one_alias_of_a_name(rt: HostRuntime) {
+    let alloc = rt.alloc();
+    let apex = name(&rt, alloc, b"\x07example\x00");
+    let mut builder = ZoneBuilder::new(alloc, apex, Class::IN);
+    let first = alias(&rt, alloc, b"\x01a\x07example\x00", b"\x01b\x07example\x00");
+    builder.insert(first).expect(&rt, "an alias");
+    let same = alias(&rt, alloc, b"\x01A\x07example\x00", b"\x01B\x07example\x00");
+    builder.insert(same).expect(&rt, "the same alias");
+    let other = alias(&rt, alloc, b"\x01a\x07example\x00", b"\x01c\x07example\x00");
+    assert_eq!(rt; builder.insert(other), Err(InsertError::InvalidData));
+}
+
+#[test]
+fn a_session_refuses_a_second_alias(rt: HostRuntime) {
+    let alloc = rt.alloc();
+    let mut zone = filled(&rt, alloc);
+    let mut session = zone.write(alloc);
+    let first = alias(&rt, alloc, b"\x01b\x07example\x00", b"\x01a\x07example\x00");
+    session.add_record(first).expect(&rt, "an alias");
+    let other = alias(&rt, alloc, b"\x01B\x07example\x00", b"\x01c\x07example\x00");
+    let refused = session.add_record(other);
+    assert_eq!(rt; refused, Err(EditError::InvalidData));
+    assert_eq!(rt; session.commit(), Ok(()));
 }
 
 #[test]
