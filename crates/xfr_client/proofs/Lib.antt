@@ -6,3 +6,4 @@ pub mod Places
 pub mod Sections
 pub mod FirstMessage
 pub mod Taking
+pub mod UnknownData

@@ -37,6 +37,11 @@ pub fn first_soa(found: &ReadRecord<'_>) -> Option<FirstSoa>
             found.ttl(),
             in_place(soa),
         )),
+        ZoneRecordData::Unknown(octets) => {
+            // For the proof: octets of an unknown type aren't SOA data.
+            let _ = octets.rdlen();
+            None
+        }
         _ => None,
     }
 }
@@ -59,6 +64,11 @@ pub fn is_same_soa(first: &FirstSoa, found: &ReadRecord<'_>) -> bool
 {
     match found.data() {
         ZoneRecordData::Soa(soa) => first.data().data_eq(soa),
+        ZoneRecordData::Unknown(octets) => {
+            // For the proof: octets of an unknown type aren't SOA data.
+            let _ = octets.rdlen();
+            false
+        }
         _ => false,
     }
 }

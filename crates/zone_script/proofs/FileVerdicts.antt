@@ -4,9 +4,10 @@ use Rattle.std.specs.List.{list_any, list_all}
 use Rattle.std.specs.Option.{option_or}
 use Rattle.std.specs.Cmp.{unsigned_Decides}
 use Rattle.dns_name.specs.Names.{Name, same_name, under}
-use Rattle.dns_name.specs.Codes.{type_ns, type_soa, type_ds}
+use Rattle.dns_name.specs.Codes.{type_ns, type_cname, type_soa, type_ds}
 use Rattle.dns_rdata.specs.Records.{Record}
-use Rattle.zone_types.specs.Version.{set_at}
+use Rattle.zone_types.specs.Version.{Version, set_at, below_apex}
+use Rattle.zone_types.specs.Edits.{second_alias}
 use Rattle.zone_types.specs.Classify.{ZoneFile, Kind, Normal, Cut, Alias, Outside, BadRecord, ClassMismatch, IllegalZoneCut, IllegalRecord, RecordVerdict, Accepted, Rejected, classify, classify_as, kind_of, same_kind, types_at, least, is_address, no_glue_at, cut_at, alias_at, refuse_if, opened}
 use Rattle.zone_types.proofs.Folded.{under_alike, same_name_alike, same_name-Decides}
 use Rattle.zone_script.specs.Script.{accept, accept_if, with_record, converts}
@@ -312,9 +313,22 @@ accept_by : (f : ZoneFile) (r : Record) (v : RecordVerdict) → accept_if f r v 
 accept_by f r (Accepted kind) = refl
 accept_by f r (Rejected why) = refl
 
+-- a record that is read so far is no alias
+no_second : (v : Version) (r : Record) → is_read_type r.rtype ≡ true → second_alias v r ≡ false
+no_second v r h = ap (λ b. below_apex v r.owner && b && is_some (set_at v r.owner type_cname)) (by_type (λ t. (t == 5) ≡ false) refl refl refl r.rtype h) ∙ none (below_apex v r.owner)
+  where
+    none : (b : Bool) → (b && false && is_some (set_at v r.owner type_cname)) ≡ false
+    none true = refl
+    none false = refl
+
 -- the version decides whether a record is taken
 pub accept_is : (f : ZoneFile) (r : Record) → are_read f.accepted ≡ true → is_read_type r.rtype ≡ true → accept f r ≡ (if is_taken (opened f) r then Some (with_record f r) else None)
-accept_is f r all h = accept_by f r (classify f r) ∙ ap (λ b. if b then Some (with_record f r) else None) (by (r.class == f.class) ∙ ap (λ n. (r.class == n) && not (clashes (opened f) r)) (sym (opened_class f)))
+accept_is f r all h =
+    let fits : Bool = (r.class == (opened f).class) && not (clashes (opened f) r) in
+    accept_by f r (classify f r) ∙ ap (λ b. if b then Some (with_record f r) else None) (
+      by (r.class == f.class) ∙ ap (λ n. (r.class == n) && not (clashes (opened f) r)) (sym (opened_class f))
+      ∙ sym (and_true_right fits) ∙ ap (λ b. fits && not b) (sym (no_second (opened f) r h)),
+    )
   where
     by : (b : Bool) → is_accepted (if not b then Rejected ClassMismatch else classify_as f r (kind_of f r)) ≡ (b && not (clashes (opened f) r))
     by true = classified f r all h

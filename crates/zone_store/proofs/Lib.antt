@@ -1,6 +1,6 @@
 mod Equality
 mod Cuts
-mod Conditions
+pub mod Conditions
 mod Putting
 mod Removing
 mod Closing
