@@ -8,11 +8,14 @@ ghost use Rattle.zone_types.specs.Updates as updates;
 ghost use Rattle.zone_types.specs.Updates.{UpdateFault, apply_update, after_refusal};
 ghost use Rattle.zone_types.specs.Applying.{commits};
 ghost use Rattle.xfr_client.specs.declared.update.Error.TheVariants.{VersionsExhausted, Memory};
+ghost use Rattle.dns_rdata.specs.DataFields.{soa_fields};
+ghost use Rattle.zone_store.specs.Puts.{with_soa};
 ghost use Rattle.xfr_client.specs.Causes.{update_of, update_fault_of};
 ghost use Rattle.xfr_client.specs.Updating.{Leaves, progress_of, new_version, next_commit, lacks_number};
 
 use crate::update::{Error, ZoneUpdate};
-use dns_rdata::{ReadRecord, StoredRecord, ZoneRecordData};
+use dns_name::{StoredName, Ttl};
+use dns_rdata::{ReadRecord, RecordData, Soa, StoredRecord, ZoneRecordData};
 use std::alloc::{AllocError, Global};
 use std::marker::Model;
 use zone_store::{CommitError, EditError, ReadZone, WriteZone};
@@ -212,14 +215,28 @@ fn put_soa(alloc: Global, session: &mut WriteZone<'_>, soa: &ReadRecord<'_>) -> 
     ensures refused { IfErr result (λ e. IfSome (update_fault_of e) (λ why. (is_soa soa.now ≡ false) × (why ≡ updates.NotSoaRecord))) }
     ensures numbered { result ≡ Err VersionsExhausted → ⊥ }
 {
-    let stored = stored(alloc, soa)?;
-    let (_, _, ttl, data) = stored.into_parts();
-    match data {
-        ZoneRecordData::Soa(soa) => match session.set_soa(ttl, soa) {
-            Ok(()) => Ok(()),
+    match soa.data() {
+        ZoneRecordData::Soa(data) => match data.flatten(alloc) {
+            Ok(data) => put_data(session, soa.ttl(), data),
             Err(_) => Err(Error::Memory),
         },
+        ZoneRecordData::Unknown(octets) => {
+            // For the proof: octets of an unknown type aren't SOA data.
+            let _ = octets.rdlen();
+            Err(Error::NotSoaRecord)
+        }
         _ => Err(Error::NotSoaRecord),
+    }
+}
+
+// The apex SOA set is one record of these data.
+fn put_data(session: &mut WriteZone<'_>, ttl: Ttl, data: Soa<StoredName>) -> Result<(), Error>
+    ensures ok { OnOk result (session.new ≡ with_pending session.old (with_soa session.old.pending ttl (soa_fields (λ n. n) «data»))) }
+    ensures err { IfErr result (λ e. (session.new ≡ session.old) × (e ≡ Memory)) }
+{
+    match session.set_soa(ttl, data) {
+        Ok(()) => Ok(()),
+        Err(_) => Err(Error::Memory),
     }
 }
 

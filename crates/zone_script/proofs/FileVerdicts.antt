@@ -325,10 +325,9 @@ no_second v r h = ap (λ b. below_apex v r.owner && b && is_some (set_at v r.own
 pub accept_is : (f : ZoneFile) (r : Record) → are_read f.accepted ≡ true → is_read_type r.rtype ≡ true → accept f r ≡ (if is_taken (opened f) r then Some (with_record f r) else None)
 accept_is f r all h =
     let fits : Bool = (r.class == (opened f).class) && not (clashes (opened f) r) in
-    accept_by f r (classify f r) ∙ ap (λ b. if b then Some (with_record f r) else None) (
-      by (r.class == f.class) ∙ ap (λ n. (r.class == n) && not (clashes (opened f) r)) (sym (opened_class f))
-      ∙ sym (and_true_right fits) ∙ ap (λ b. fits && not b) (sym (no_second (opened f) r h)),
-    )
+    let one : is_accepted (classify f r) ≡ fits = by (r.class == f.class) ∙ ap (λ n. (r.class == n) && not (clashes (opened f) r)) (sym (opened_class f)) in
+    let all_three : fits ≡ is_taken (opened f) r = sym (and_true_right fits) ∙ ap (λ b. fits && not b) (sym (no_second (opened f) r h)) in
+    accept_by f r (classify f r) ∙ ap (λ b. if b then Some (with_record f r) else None) (one ∙ all_three)
   where
     by : (b : Bool) → is_accepted (if not b then Rejected ClassMismatch else classify_as f r (kind_of f r)) ≡ (b && not (clashes (opened f) r))
     by true = classified f r all h
