@@ -1,5 +1,5 @@
 -- What is sent in answer to a transfer request (RFC 5936, 2.2; RFC 1995, 2 and 4).
-use Rattle.std.specs.Prelude.{ℕ, ◌-◌, Bool, true, false, ◌&&◌, ◌||◌, not, ◌==◌, List, [], ◌∷◌, Option, Some, None, is_some, option_map, option_and_then, unwrap_or, Result, Ok, Err, if◌then◌else◌}
+use Rattle.std.specs.Prelude.{ℕ, codes, ◌-◌, Bool, true, false, ◌&&◌, ◌||◌, not, ◌==◌, List, [], ◌∷◌, Option, Some, None, is_some, option_map, option_and_then, unwrap_or, Result, Ok, Err, if◌then◌else◌}
 use Rattle.dns_name.specs.Names.{same_name}
 use Rattle.dns_name.specs.Serial.{serial_upto}
 use Rattle.dns_name.specs.Codes.{formerr, servfail, notauth, type_soa, type_axfr, type_ixfr}
@@ -34,6 +34,11 @@ abbrev pub transfer_mode : List ℕ → Option XfrMode
 transfer_mode message =
     if (header_in message).qr || not ((header_in message).opcode == 0) then None
     else option_and_then (λ (q : Question). mode_of_type q.qtype) (sole_question_in message)
+
+-- a kind as it is shown: its type's name
+abbrev pub mode_text : XfrMode → List ℕ
+mode_text Axfr = codes "AXFR"
+mode_text Ixfr = codes "IXFR"
 
 abbrev pub is_ixfr : XfrMode → Bool
 is_ixfr Axfr = false

@@ -1,6 +1,7 @@
 // What a primary answers: requests and services, providers of zones, the transfer service, and the service that checks and signs.
 #![tactic(auto)]
 
+mod examples;
 mod laws;
 pub mod providers;
 mod replies;

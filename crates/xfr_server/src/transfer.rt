@@ -61,6 +61,11 @@ impl XfrMode {
 }
 
 impl fmt::Display for XfrMode {
+    ghost use Rattle.std.specs.Prelude.{Some};
+    ghost use Rattle.xfr_server.specs.Transfers.{mode_text};
+
+    ghost output = { λ m. Some (mode_text m) };
+
     fn fmt<W: fmt::Write>(&self, f: &mut fmt::Formatter<W>) -> fmt::Result {
         match self {
             XfrMode::Axfr => write!(f, "AXFR"),

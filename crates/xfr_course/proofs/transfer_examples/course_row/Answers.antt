@@ -33,3 +33,19 @@ returns-clause-unfinished c = refl
 pub returns-clause-failed : goal.returns-clause-failed
 unfolding course_on_literals
 returns-clause-failed c = refl
+
+pub returns-clause-forwarded : goal.returns-clause-forwarded
+unfolding course_on_literals
+returns-clause-forwarded c = refl
+
+pub returns-clause-in_two : goal.returns-clause-in_two
+unfolding course_on_literals
+returns-clause-in_two c = refl
+
+pub returns-clause-unsigned_end : goal.returns-clause-unsigned_end
+unfolding course_on_literals
+returns-clause-unsigned_end c = refl
+
+pub returns-clause-unsigned_tail : goal.returns-clause-unsigned_tail
+unfolding course_on_literals
+returns-clause-unsigned_tail c = refl

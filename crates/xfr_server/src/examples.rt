@@ -1,0 +1,40 @@
+// Worked replies of a primary, proved by computation.
+ghost use Rattle.std.specs.Prelude.{map, ◌≡◌, [], ◌∷◌, true, false, Some, None};
+ghost use Rattle.dns_name.specs.Codes.{type_axfr, type_ixfr, type_soa};
+ghost use Rattle.zone_types.specs.ZoneRows as rows;
+ghost use Rattle.xfr_server.specs.Transfers as transfers;
+ghost use Rattle.xfr_server.specs.Transfers.Choice.{Refuse, SoaAlone, Whole};
+ghost use Rattle.xfr_server.specs.Signing as signed;
+ghost use Rattle.xfr_server.specs.declared.transfer.XfrMode.TheVariants.{Axfr, Ixfr};
+ghost use Rattle.xfr_server.specs.declared.requests.TransportSpecificContext.TheVariants.{Udp, NonUdp};
+ghost use Rattle.xfr_server.specs.declared.providers.XfrDataProviderError.TheVariants.{ParseError, UnknownZone, Refused, TemporarilyUnavailable};
+ghost use Rattle.xfr_server.specs.declared.services.ServiceFeedback.TheVariants.{BeginTransaction, EndTransaction};
+ghost use Rattle.xfr_server.specs.declared.signing.Signing.TheVariants.{First, All, Done};
+
+/// The parts of a choice: types that ask for a transfer, rcodes of refusals, octets that a reply may have, and versions that are no news.
+pub fn part_row()
+    ensures modes { map transfers.mode_of_type (type_axfr ∷ type_ixfr ∷ type_soa ∷ 255 ∷ []) ≡ Some Axfr ∷ Some Ixfr ∷ None ∷ None ∷ [] }
+    ensures rcodes { map transfers.rcode_of (ParseError ∷ UnknownZone ∷ Refused ∷ TemporarilyUnavailable ∷ []) ≡ 1 ∷ 9 ∷ 5 ∷ 2 ∷ [] }
+    ensures limits { map (λ t. transfers.reply_limit t 100) (NonUdp ∷ Udp None ∷ Udp (Some 1232) ∷ Udp (Some 50) ∷ []) ≡ 65435 ∷ 412 ∷ 1132 ∷ 0 ∷ [] }
+    ensures news { map (λ n. transfers.is_caught_up rows.history_2 n) (None ∷ Some 1 ∷ Some 2 ∷ Some 3 ∷ Some 2147483649 ∷ Some 2147483650 ∷ []) ≡ false ∷ false ∷ true ∷ true ∷ true ∷ false ∷ [] }
+{}
+
+/// What is sent of a version: a refusal for another name, for AXFR by UDP, and without an apex SOA, in this order; the SOA to one who has caught up; else the whole text.
+pub fn choice_row()
+    ensures other_name { transfers.choice_of Axfr true (Some (record (rows.asked type_axfr) { qname = rows.sub })) None rows.history_1 ≡ Refuse 2 }
+    ensures unread { transfers.choice_of Axfr false None None rows.history_1 ≡ Refuse 2 }
+    ensures by_udp { transfers.choice_of Axfr true (Some (rows.asked type_axfr)) None rows.empty_zone ≡ Refuse 4 }
+    ensures no_soa { transfers.choice_of Axfr false (Some (rows.asked type_axfr)) None rows.empty_zone ≡ Refuse 2 }
+    ensures caught_up { transfers.choice_of Ixfr true (Some (rows.asked type_ixfr)) (Some 1) rows.history_1 ≡ SoaAlone rows.history_1 }
+    ensures behind { transfers.choice_of Ixfr true (Some (rows.asked type_ixfr)) (Some 1) rows.history_2 ≡ Whole rows.history_2 }
+    ensures whole { transfers.choice_of Axfr false (Some (rows.asked type_axfr)) (Some 1) rows.history_1 ≡ Whole rows.history_1 }
+{}
+
+/// Which replies are signed: the first alone, and from the begin of a transaction on all, also behind its end.
+pub fn signing_row()
+    ensures begun { map (λ f. signed.begun First f) (None ∷ Some BeginTransaction ∷ Some EndTransaction ∷ []) ≡ First ∷ All ∷ First ∷ [] }
+    ensures late { map (λ s. signed.begun s (Some BeginTransaction)) (Done ∷ All ∷ []) ≡ Done ∷ All ∷ [] }
+    ensures ended { signed.begun All (Some EndTransaction) ≡ All }
+    ensures behind { map signed.behind (First ∷ All ∷ Done ∷ []) ≡ Done ∷ All ∷ Done ∷ [] }
+    ensures due { map signed.is_due (First ∷ All ∷ Done ∷ []) ≡ true ∷ true ∷ false ∷ [] }
+{}
