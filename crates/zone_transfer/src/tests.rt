@@ -46,6 +46,52 @@ const SECOND: &[u8] = b"\x04host\x07example\0\0\x01\0\x01\0\0\x0e\x10\0\x04\xc0\
 
 const OUTSIDE: &[u8] = b"\x07another\0\0\x01\0\x01\0\0\x0e\x10\0\x04\xc0\0\x02\x01";
 
+/// Records of `example.` of each known type, as dnspython makes them, and one of an unknown type.
+const A_RECORD: &[u8] = b"\x07example\0\0\x01\0\x01\0\0\x0e\x10\0\x04\xc0\0\x02\x01";
+
+const NS_RECORD: &[u8] = b"\x07example\0\0\x02\0\x01\0\0\x0e\x10\0\x0c\x02ns\x07example\0";
+
+const MD_RECORD: &[u8] = b"\x07example\0\0\x03\0\x01\0\0\x0e\x10\0\x0c\x02md\x07example\0";
+
+const MF_RECORD: &[u8] = b"\x07example\0\0\x04\0\x01\0\0\x0e\x10\0\x0c\x02mf\x07example\0";
+
+const CNAME_RECORD: &[u8] = b"\x07example\0\0\x05\0\x01\0\0\x0e\x10\0\x0f\x05alias\x07example\0";
+
+const MB_RECORD: &[u8] = b"\x07example\0\0\x07\0\x01\0\0\x0e\x10\0\x0c\x02mb\x07example\0";
+
+const MG_RECORD: &[u8] = b"\x07example\0\0\x08\0\x01\0\0\x0e\x10\0\x0c\x02mg\x07example\0";
+
+const MR_RECORD: &[u8] = b"\x07example\0\0\x09\0\x01\0\0\x0e\x10\0\x0c\x02mr\x07example\0";
+
+const PTR_RECORD: &[u8] = b"\x07example\0\0\x0c\0\x01\0\0\x0e\x10\0\x0e\x04Host\x07eXample\0";
+
+const MINFO_RECORD: &[u8] =
+    b"\x07example\0\0\x0e\0\x01\0\0\x0e\x10\0\x1f\x05owner\x07example\0\x06errors\x07exam\
+ple\0";
+
+const MX_RECORD: &[u8] =
+    b"\x07example\0\0\x0f\0\x01\0\0\x0e\x10\0\x10\x01\x0a\x04mail\x07example\0";
+
+const TXT_RECORD: &[u8] = b"\x07example\0\0\x10\0\x01\0\0\x0e\x10\0\x13\x0aone string\x07another";
+
+const AAAA_RECORD: &[u8] =
+    b"\x07example\0\0\x1c\0\x01\0\0\x0e\x10\0\x10 \x01\x0d\xb8\0\0\0\0\0\0\0\0\0\0\0\x01";
+
+const SRV_RECORD: &[u8] =
+    b"\x07example\0\0!\0\x01\0\0\x0e\x10\0\x16\x02\x01\x04\x03\x14\xe9\x06server\x07example\
+\0";
+
+const DS_RECORD: &[u8] =
+    b"\x07example\0\0+\0\x01\0\0\x0e\x10\0\x18\xecE\x05\x01+\xb1\x83\xaf_\x22X\x81y\xa5;\x0a\
+\x98c\x1f\xad\x1a)!\x18";
+
+const UNKNOWN_RECORD: &[u8] = b"\x07example\0\xff\0\0\x01\0\0\x0e\x10\0\x04\x0a\0\xff\x01";
+
+/// Two aliases of `host.example.`.
+const ALIAS: &[u8] = b"\x04host\x07example\0\0\x05\0\x01\0\0\x0e\x10\0\x09\x07example\0";
+
+const OTHER_ALIAS: &[u8] = b"\x04host\x07example\0\0\x05\0\x01\0\0\x0e\x10\0\x01\0";
+
 /// The versions of the numbers 1 and 2, as they stand before their records in `Case::committed`.
 const VERSION_1: &[u8] = b"version 1:";
 
@@ -61,7 +107,7 @@ struct Case {
     committed: &'static [&'static [u8]],
 }
 
-const CASES: [Case; 16] = [
+const CASES: [Case; 19] = [
     // Both SOA records, and what stands between them.
     Case {
         replies: &[(ASKED, &[SOA, FIRST, SECOND, SOA])],
@@ -155,6 +201,64 @@ const CASES: [Case; 16] = [
     Case {
         replies: &[(ASKED, &[SOA, FIRST, OUTSIDE, SOA])],
         answer: Err(SyncError::Update(update::Error::OutOfZone)),
+        committed: &[],
+    },
+    // Records of every type, read by the grammar of each; the walk has them by type.
+    Case {
+        replies: &[(
+            ASKED,
+            &[
+                SOA,
+                UNKNOWN_RECORD,
+                DS_RECORD,
+                SRV_RECORD,
+                AAAA_RECORD,
+                TXT_RECORD,
+                MX_RECORD,
+                MINFO_RECORD,
+                PTR_RECORD,
+                MR_RECORD,
+                MG_RECORD,
+                MB_RECORD,
+                CNAME_RECORD,
+                MF_RECORD,
+                MD_RECORD,
+                NS_RECORD,
+                A_RECORD,
+                SOA,
+            ],
+        )],
+        answer: Ok(SyncOk::Updated),
+        committed: &[
+            VERSION_1,
+            A_RECORD,
+            NS_RECORD,
+            MD_RECORD,
+            MF_RECORD,
+            CNAME_RECORD,
+            SOA,
+            MB_RECORD,
+            MG_RECORD,
+            MR_RECORD,
+            PTR_RECORD,
+            MINFO_RECORD,
+            MX_RECORD,
+            TXT_RECORD,
+            AAAA_RECORD,
+            SRV_RECORD,
+            DS_RECORD,
+            UNKNOWN_RECORD,
+        ],
+    },
+    // A name has one alias (RFC 2181, 10.1).
+    Case {
+        replies: &[(ASKED, &[SOA, ALIAS, SOA])],
+        answer: Ok(SyncOk::Updated),
+        committed: &[VERSION_1, SOA, ALIAS],
+    },
+    Case {
+        replies: &[(ASKED, &[SOA, ALIAS, OTHER_ALIAS, SOA])],
+        answer: Err(SyncError::Update(update::Error::InvalidData)),
         committed: &[],
     },
 ];
