@@ -31,8 +31,7 @@ rest_read : (m : List ℕ) (p end : ℕ) (octets before after : List ℕ) → m 
     → (nat_le p end ≡ true) × (octets_at (end - p) m p ≡ Some (octets, p + (end - p))) × ((p + (end - p) == end) ≡ true)
 rest_read m p end octets before after e eb ee =
     let none = append-nil octets in
-    let all : end ≡ p + length octets = ee ∙ ap (λ o. p + length o) none in
-    (
+    let all : end ≡ p + length octets = ee ∙ ap (λ o. p + length o) none in (
       le-leb p end (omega (arith, all)),
       octets_read m p (end - p) before octets after (e ∙ ap (λ o. before ++ (o ++ after)) none) eb (omega (arith, all)),
       eq-eqb (p + (end - p)) end (omega (arith, all)),
