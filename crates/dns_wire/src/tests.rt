@@ -31,7 +31,9 @@ fn axfr_query<R: Abort>(rt: &R, alloc: Global) -> MessageBuf {
     questions.finish()
 }
 
-fn root_address<'a, R: Abort>(rt: &R) -> Record<NameRef<'a>, ZoneRecordData<NameRef<'a>>> {
+fn root_address<'a, R: Abort>(
+    rt: &R,
+) -> Record<NameRef<'a>, ZoneRecordData<&'a [u8], NameRef<'a>>> {
     let address = ZoneRecordData::A(A::new([192, 0, 2, 1]));
     Record::new(
         name(rt, b"\0".as_slice()),
