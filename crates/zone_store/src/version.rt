@@ -117,7 +117,7 @@ impl ZoneVersion {
     }
 
     /// Whether a name is below the apex.
-    fn is_below_apex<N: ToName>(&self, name: &N) -> bool
+    pub(crate) fn is_below_apex<N: ToName>(&self, name: &N) -> bool
         ensures { result ≡ below_apex self.now (N.labels name.now) }
     {
         name.ends_with(&self.apex) && !name.name_eq(&self.apex)
@@ -222,7 +222,7 @@ impl ZoneVersion {
     }
 
     /// Whether a record would be a second CNAME of a name below the apex (RFC 2181, 10.1).
-    fn is_second_alias(&self, added: &StoredRecord) -> bool
+    pub(crate) fn is_second_alias(&self, added: &StoredRecord) -> bool
         ensures { result ≡ edits.second_alias self.now added.now }
     {
         if !self.is_below_apex(added.owner()) {
