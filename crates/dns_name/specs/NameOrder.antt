@@ -1,7 +1,6 @@
 -- The laws of comparisons of names: equality without case, and canonical order (RFC 4343, 3; RFC 4034, 6.1).
-use Rattle.std.specs.Prelude.{◌≡◌, ℕ, Bool, List, reverse, IsTrue, Some}
+use Rattle.std.specs.Prelude.{◌≡◌, reverse, IsTrue, Some}
 use Rattle.std.specs.Ordering.{eq_by_cmp, nat_cmp}
-use Rattle.std.specs.declared.cmp.Ordering.{Ordering}
 use Rattle.std.specs.Hash.{HashWrites, slice, u8}
 use Rattle.std.specs.Cmp.{IsTotalOrder, IsEquivalence, IsPartialEquivalence, IsPartialOrder, on_total, on_equiv, partial_equiv_from_equiv, partial_order_from_agreeing_total}
 use Rattle.std.specs.Cmp.Lexicographic.{slice_cmp, pointwise_decides, bytes_decides, lists_total, lists_ties, lists_equiv, texts_ties, nat_list_cmp_total, nat_list_eq_equiv}
