@@ -1,10 +1,10 @@
-// Labels of names.
+// Labels whose octets are lent.
 ghost use Rattle.std.specs.Prelude.{◌≡◌, ◌≤◌, ◌==◌, ◌∷◌, [], length, IfOk, OnErr, Some, refl};
 ghost use Rattle.std.specs.Str.{bytes_eq, str_to_ascii_lowercase};
-ghost use Rattle.dns_name.specs.NameOrder.{same_label, same_label_equiv, same_label_per, label_cmp, label_total, label_ties, label_po, label_hash, same_label_hash};
+ghost use Rattle.dns_label.specs.LabelOrder.{same_label, same_label_equiv, same_label_per, label_cmp, label_total, label_ties, label_po, label_hash, same_label_hash};
 
-use crate::name::NameError;
-use crate::name_octets::NameOctets;
+use crate::error::NameError;
+use crate::owned::OwnedLabel;
 use std::cmp::Ordering;
 use std::hash::{Hash, Hasher};
 use std::marker::Model;
@@ -86,12 +86,12 @@ impl<'a> Label<'a> {
     }
 
     /// The octets with the ASCII letters in lower case (RFC 4343, 3).
-    pub fn to_canonical(&self) -> NameOctets
+    pub fn to_canonical(&self) -> OwnedLabel
         ensures { result ≡ str_to_ascii_lowercase self.now }
     {
-        let mut octets = NameOctets::from_slice(self.octets);
-        octets.make_ascii_lowercase();
-        octets
+        let mut label = OwnedLabel::from_label(self);
+        label.make_canonical();
+        label
     }
 }
 
