@@ -196,3 +196,66 @@ fn type_and_error(rt: HostRuntime) {
     let refused = answer(&rt, rt.alloc(), Rcode::REFUSED).finish();
     assert!(rt; refused.is_error());
 }
+
+/// An error answer to a request, under a push limit.
+fn error<R: Abort>(
+    rt: &R,
+    alloc: Global,
+    request: &[u8],
+    limit: usize,
+    rcode: Rcode,
+) -> Result<AnswerBuilder, PushError> {
+    let request = Message::from_octets(request).expect(rt, "a header");
+    let mut started = builder(rt, alloc);
+    started.set_push_limit(limit);
+    started.start_error(&request, rcode)
+}
+
+/// Id 1000, QR, opcode 0, rcode REFUSED, one question, and the question.
+const REFUSED: [u8; 25] =
+    *b"\x03\xe8\x80\x05\x00\x01\x00\x00\x00\x00\x00\x00\x07example\x00\x00\xfc\x00\x01";
+
+/// Id 1000, QR, opcode 0, rcode SERVFAIL, and no item.
+const FAILED: [u8; 12] = *b"\x03\xe8\x80\x02\x00\x00\x00\x00\x00\x00\x00\x00";
+
+#[test]
+fn error_with_its_question(rt: HostRuntime) {
+    let started = error(&rt, rt.alloc(), AXFR_QUERY.as_slice(), 25, Rcode::REFUSED);
+    let answers = started.expect(&rt, "an answer");
+    assert_eq!(rt; answers.as_slice(), REFUSED.as_slice());
+}
+
+#[test]
+fn error_without_room_for_its_question(rt: HostRuntime) {
+    let started = error(&rt, rt.alloc(), AXFR_QUERY.as_slice(), 24, Rcode::REFUSED);
+    let answers = started.expect(&rt, "an answer");
+    assert_eq!(rt; answers.as_slice(), FAILED.as_slice());
+}
+
+#[test]
+fn error_without_room_for_its_header(rt: HostRuntime) {
+    let started = error(&rt, rt.alloc(), AXFR_QUERY.as_slice(), 12, Rcode::REFUSED);
+    assert!(rt; started.is_ok());
+    let started = error(&rt, rt.alloc(), AXFR_QUERY.as_slice(), 11, Rcode::REFUSED);
+    assert_eq!(rt; started.err(), Some(PushError::ShortBuf));
+}
+
+/// Opcode 4 (NOTIFY), RD, and three questions: for `a`, for `example` and for the root, each of type SOA in class IN.
+const THREE_QUESTIONS: &[u8] = b"\x03\xe8\x21\x00\x00\x03\x00\x00\x00\x00\x00\x00\
+\x01a\x00\x00\x06\x00\x01\x07example\x00\x00\x06\x00\x01\x00\x00\x06\x00\x01";
+
+#[test]
+fn error_without_room_for_its_second_question(rt: HostRuntime) {
+    let started = error(&rt, rt.alloc(), THREE_QUESTIONS, 31, Rcode::NOTIMP);
+    let answers = started.expect(&rt, "an answer");
+    let due = *b"\x03\xe8\xa1\x02\x00\x01\x00\x00\x00\x00\x00\x00\x01a\x00\x00\x06\x00\x01";
+    assert_eq!(rt; answers.as_slice(), due.as_slice());
+}
+
+#[test]
+fn error_where_no_question_is_read(rt: HostRuntime) {
+    let started = error(&rt, rt.alloc(), HALF_A_QUESTION, 25, Rcode::FORMERR);
+    let answers = started.expect(&rt, "an answer");
+    let due = *b"\x03\xe8\x80\x01\x00\x00\x00\x00\x00\x00\x00\x00";
+    assert_eq!(rt; answers.as_slice(), due.as_slice());
+}
