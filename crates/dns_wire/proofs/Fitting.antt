@@ -45,13 +45,13 @@ error_refused octets limit header old new questions CountOverflow begun small re
 error_refused octets limit header old new questions Memory begun small refused = tt
 
 -- the questions that fit, and the rcode behind them, are the error answer
-pub error_built : (request : List ℕ) (rcode chosen limit : ℕ) (all : Bool) (old now new : Building) (questions : List Question)
+pub error_built : (request : List ℕ) (rcode limit : ℕ) (all : Bool) (old now new : Building) (questions : List Question)
     → old ≡ building (header_wire (answer_header (header_in request) 0) ++ replicate 8 0) limit
     → questions ≡ questions_in request → length questions < 2 ^ 16 → length old.octets ≤ old.limit
-    → AddsFitting questions old (Ok all) now → chosen ≡ (if all then rcode else 2)
-    → new ≡ building (header_wire (answer_header (header_in request) chosen) ++ drop 4 now.octets) now.limit
+    → AddsFitting questions old (Ok all) now
+    → new ≡ building (header_wire (answer_header (header_in request) (if all then rcode else 2)) ++ drop 4 now.octets) now.limit
     → Builds (message_wire (error_answer limit request rcode)) limit (Ok new)
-error_built request rcode chosen limit all old now new questions begun asked small room added choice headed =
+error_built request rcode limit all old now new questions begun asked small room added headed =
     let start = message_wire (answer_with request 0 []) in
     let fit = fitting_in limit request in
     let few : length (questions_in request) < 2 ^ 16 = rw asked at small in
@@ -63,8 +63,7 @@ error_built request rcode chosen limit all old now new questions begun asked sma
     let octets : now.octets ≡ message_wire (answer_with request 0 fit) = ap (λ (b : Building). b.octets) whole.0 ∙ listed in
     let P : List ℕ → Type 0 = λ m. fits limit m ≡ true in (
       subst P listed (fitting_fits limit start (questions_in request) begins),
-      headed ∙ ap (λ o. building (header_wire (answer_header (header_in request) chosen) ++ drop 4 o) now.limit) octets
-          ∙ ap (λ (b : Building). building (message_wire (answer_with request chosen fit)) b.limit) whole.0
-          ∙ ap (λ r. building (message_wire (answer_with request r fit)) limit) choice
+      headed ∙ ap (λ o. building (header_wire (answer_header (header_in request) (if all then rcode else 2)) ++ drop 4 o) now.limit) octets
+          ∙ ap (λ (b : Building). building (message_wire (answer_with request (if all then rcode else 2) fit)) b.limit) whole.0
           ∙ ap (λ b. building (message_wire (answer_with request (if b then rcode else 2) fit)) limit) whole.1,
     )

@@ -1,12 +1,12 @@
 // A message that is being built.
 
-ghost use Rattle.std.specs.Prelude.{◌≡◌, ◌+◌, ◌^◌, ◌<◌, ◌≤◌, ◌++◌, length, take, drop, replicate, vec_len, IfOk, IsTrue, Some};
+ghost use Rattle.std.specs.Prelude.{◌≡◌, ◌+◌, ◌^◌, ◌<◌, ◌≤◌, ◌++◌, length, take, drop, replicate, vec_len, if◌then◌else◌, IfOk, IsTrue, Some};
 ghost use Rattle.std.specs.List.{filter_map};
 ghost use Rattle.dns_rdata.specs.Records.{record_wire};
 ghost use Rattle.dns_message.specs.Wire.{header_in, header_wire, header_number, question_wire, message_wire, fits, Message as MessageOf};
 ghost use Rattle.dns_message.specs.Numbers.{counts_in};
 ghost use Rattle.dns_wire.specs.Builds.{Adds, AddsFitting, AddsQuestions, Builds, building, cut_at, rewound};
-ghost use Rattle.dns_message.specs.Reply.{empty_answer, error_answer};
+ghost use Rattle.dns_message.specs.Reply.{answer_header, empty_answer, error_answer};
 ghost use Rattle.dns_message.specs.Parse.{parsed, answers_start, authority_start, additional_start};
 ghost use Rattle.dns_message.specs.Written.{IsMessage, parsed_of};
 
@@ -264,6 +264,14 @@ impl MessageBuilder {
         Ok(message.answer())
     }
 
+    /// Writes the header of an error answer to a request with that header: SERVFAIL where not all its questions had room.
+    fn set_error_header(&mut self, asked: &Header, all: bool, rcode: Rcode)
+        ensures { self.new ≡ record self.old { octets = header_wire (answer_header asked.now (if all then rcode else 2)) ++ drop 4 self.old.octets } }
+    {
+        let rcode = if all { rcode } else { Rcode::SERVFAIL };
+        self.set_header(asked.answer(rcode));
+    }
+
     /// Starts over with an error answer to a request: as `start_answer`, but the first question without room ends the questions,
     /// and the rcode is then SERVFAIL (RFC 1035, 4.1.1). Refused where the header alone is more than the push limit, or memory runs out.
     pub fn start_error(
@@ -281,8 +289,7 @@ impl MessageBuilder {
             return Err(PushError::ShortBuf);
         }
         let all = message.push_fitting(request.question())?;
-        let rcode = if all { rcode } else { Rcode::SERVFAIL };
-        message.set_header(asked.answer(rcode));
+        message.set_error_header(&asked, all, rcode);
         Ok(message.answer())
     }
 

@@ -259,3 +259,33 @@ fn error_where_no_question_is_read(rt: HostRuntime) {
     let due = *b"\x03\xe8\x80\x01\x00\x00\x00\x00\x00\x00\x00\x00";
     assert_eq!(rt; answers.as_slice(), due.as_slice());
 }
+
+#[test]
+fn documentation_example(rt: HostRuntime) {
+    let name = Name::from_octets(b"\x07example\x00".as_slice()).expect(&rt, "a name");
+    let mut query = MessageBuilder::new(rt.alloc()).expect(&rt, "memory");
+    query.set_header(Header::new(1000));
+    let mut questions = query.question();
+    let question = Question::new(name, Rtype::A, Class::IN);
+    questions.push(&question).expect(&rt, "room");
+    let query = questions.finish();
+
+    let mut builder = MessageBuilder::new(rt.alloc()).expect(&rt, "memory");
+    builder.set_push_limit(512);
+    let started = builder.start_answer(&query.as_message(), Rcode::NOERROR);
+    let mut answers = started.expect(&rt, "room");
+    let name = Name::from_octets(b"\x07example\x00".as_slice()).expect(&rt, "a name");
+    let address = A::new([192, 0, 2, 1]);
+    let record = Record::new(name, Class::IN, Ttl::from_int(3600), address);
+    answers.push(&record).expect(&rt, "room");
+    let reply = answers.finish();
+
+    assert_eq!(rt; reply.header().id, 1000);
+    assert_eq!(rt; reply.qtype(), Some(Rtype::A));
+    let mut section = reply.answer().expect(&rt, "a section");
+    let next = section.next_record().expect(&rt, "a record");
+    let read = next.expect(&rt, "no error");
+    assert_eq!(rt; read.rtype(), Rtype::A);
+    assert_eq!(rt; read.rdata_octets(), [192, 0, 2, 1].as_slice());
+    assert!(rt; section.next_record().is_none());
+}

@@ -9,7 +9,6 @@ use Rattle.dns_wire.proofs.Questions.{few_questions}
 use Rattle.dns_wire.specs.Builds.{building}
 use Rattle.dns_wire.proofs.Fitting.{error_built, error_refused}
 use Rattle.dns_wire.proofs.builder.MessageBuilder.start_error.Goals as goal
-use Rattle.dns_wire.proofs.builder.MessageBuilder.start_error.Goals.{then-all, else-all}
 
 pub returns-in_err-all : goal.returns-in_err-all
 returns-in_err-all c =
@@ -21,15 +20,10 @@ returns-in_err-all c =
 pub returns : goal.returns
 returns c =
     let header = c.answer.ensures ∙ ap (λ (h : Header). answer_header h 0) c.header-asked.ensures in
-    let said = c.answer-2.ensures ∙ ap (λ (h : Header). answer_header h c.if-all.rcode) c.header-asked.ensures in
     let begun = rw header at c.in-Ok.ensures in
     let few : length (filter_map (λ q. q) c.question.result.left) < 2 ^ 16 = omega (arith, few_questions c.question.result.left, c.question.ensures.few) in
     let asked : filter_map (λ q. q) c.question.result.left ≡ questions_in c.args.request.now = ap (λ s. filter_map (λ q. q) s.left) c.question.ensures.value in
-    let choice : c.if-all.rcode ≡ (if c.in_ok-all.all then c.args.rcode else 2) = elim c.if-all.branch [
-      | then-all w ↦ w.rcode-is ∙ ap (λ b. if b then c.args.rcode else 2) (sym w.if-all.true)
-      | else-all w ↦ w.rcode-is ∙ ap (λ b. if b then c.args.rcode else 2) (sym w.if-all.false)
-    ] in
     let room : length c.in-Ok.message.octets ≤ c.in-Ok.message.limit = rw (← c.message.view_is) (omega (arith, c.len.ensures, c.if-message-len.false)) in
-    let headed = c.set_header.ensures.after ∙ ap (λ (h : Header). building (header_wire h ++ drop 4 c.push_fitting.new.self.octets) c.push_fitting.new.self.limit) said in
-    rw c.answer-3.ensures (error_built c.args.request.now c.args.rcode c.if-all.rcode c.args.self.limit c.in_ok-all.all c.in-Ok.message c.push_fitting.new.self c.set_header.new.self
-    (filter_map (λ q. q) c.question.result.left) begun asked few room c.in_ok-all.ensures choice headed)
+    let headed = c.set_error_header.ensures ∙ ap (λ (h : Header). building (header_wire (answer_header h (if c.in_ok-all.all then c.args.rcode else 2)) ++ drop 4 c.push_fitting.new.self.octets) c.push_fitting.new.self.limit) c.header-asked.ensures in
+    rw c.answer-2.ensures (error_built c.args.request.now c.args.rcode c.args.self.limit c.in_ok-all.all c.in-Ok.message c.push_fitting.new.self c.set_error_header.new.self
+    (filter_map (λ q. q) c.question.result.left) begun asked few room c.in_ok-all.ensures headed)
