@@ -1,5 +1,5 @@
 -- Questions added up to the first without room.
-use Rattle.std.proofs.Common.{◌≡◌, ℕ, suc, ◌+◌, ◌<◌, ◌≤◌, ◌^◌, true, false, Bool, List, [], ◌∷◌, ◌++◌, length, drop, refl, ap, ◌∙◌, arith, subst}
+use Rattle.std.proofs.Common.{◌≡◌, ℕ, suc, ◌<◌, ◌≤◌, ◌^◌, true, false, Bool, List, [], ◌∷◌, ◌++◌, length, drop, refl, ap, ◌∙◌, arith, subst}
 use Rattle.std.specs.Prelude.{Ok, Err, replicate, if◌then◌else◌}
 use Rattle.std.proofs.lemmas.Bool.Decides.{nat_tests}
 use Rattle.dns_message.specs.Wire.{Building, Header, Question, header_in, header_wire, message_wire, with_question, fits}
