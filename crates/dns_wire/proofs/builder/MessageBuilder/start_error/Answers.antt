@@ -7,7 +7,7 @@ use Rattle.dns_message.specs.Reply.{answer_header, error_answer}
 use Rattle.dns_message.specs.Parse.{questions_in}
 use Rattle.dns_wire.proofs.Questions.{few_questions}
 use Rattle.dns_wire.specs.Builds.{building}
-use Rattle.dns_wire.proofs.Fitting.{error_built, error_refused}
+use Rattle.dns_wire.proofs.ErrorAnswers.{error_built, error_refused}
 use Rattle.dns_wire.proofs.builder.MessageBuilder.start_error.Goals as goal
 
 pub returns-in_err-all : goal.returns-in_err-all
