@@ -5,9 +5,9 @@ use Rattle.std.specs.Ordering.{nat_cmp, ordering_then, eq_by_cmp}
 use Rattle.std.specs.declared.cmp.Ordering.{Ordering}
 use Rattle.std.specs.Cmp.{IsTotalOrder, IsPartialOrder, both_tied, unsigned_ties, partial_order_from_agreeing_total}
 use Rattle.std.proofs.lemmas.Cmp.{then_total, on_total, nat_cmp_total}
-use Rattle.dns_name.specs.Names.{same_name, canonical_cmp}
+use Rattle.dns_name.specs.Names.{canonical_cmp}
 use Rattle.dns_name.specs.NameOrder.{canonical_total, canonical_ties}
-use Rattle.rdata_types.specs.Records.{Record, same_data}
+use Rattle.rdata_types.specs.Records.{Record}
 use Rattle.rdata_types.specs.DataOrder.{data_cmp}
 use Rattle.rdata_types.specs.DataTies.{data_total, data_ties}
 use Rattle.dns_rdata.specs.SameRecord.{same_record}

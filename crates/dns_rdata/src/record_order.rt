@@ -28,8 +28,7 @@ impl<N: ToName + Drop, O: AsSlice<u8> + Drop, M: ToName + Drop> Record<N, ZoneRe
 }
 
 impl<N: ToName + Drop, O: AsSlice<u8> + Drop, M: ToName + Drop> PartialEq
-    for Record<N, ZoneRecordData<O, M>>
-{
+    for Record<N, ZoneRecordData<O, M>> {
     ghost eq = { same_record };
 
     ghost laws = { same_record_partial };
@@ -40,14 +39,12 @@ impl<N: ToName + Drop, O: AsSlice<u8> + Drop, M: ToName + Drop> PartialEq
 }
 
 impl<N: ToName + Drop, O: AsSlice<u8> + Drop, M: ToName + Drop> Eq
-    for Record<N, ZoneRecordData<O, M>>
-{
+    for Record<N, ZoneRecordData<O, M>> {
     ghost laws = { same_record_equiv };
 }
 
 impl<N: ToName + Drop, O: AsSlice<u8> + Drop, M: ToName + Drop> PartialOrd
-    for Record<N, ZoneRecordData<O, M>>
-{
+    for Record<N, ZoneRecordData<O, M>> {
     ghost partial_cmp = { λ a b. Some (record_cmp a b) };
 
     ghost laws = { record_po };
@@ -58,8 +55,7 @@ impl<N: ToName + Drop, O: AsSlice<u8> + Drop, M: ToName + Drop> PartialOrd
 }
 
 impl<N: ToName + Drop, O: AsSlice<u8> + Drop, M: ToName + Drop> Ord
-    for Record<N, ZoneRecordData<O, M>>
-{
+    for Record<N, ZoneRecordData<O, M>> {
     ghost cmp = { record_cmp };
 
     ghost total = { record_total };
@@ -82,8 +78,7 @@ impl<N: ToName + Drop, O: AsSlice<u8> + Drop, M: ToName + Drop> Ord
 }
 
 impl<N: ToName + Drop, O: AsSlice<u8> + Drop, M: ToName + Drop> Hash
-    for Record<N, ZoneRecordData<O, M>>
-{
+    for Record<N, ZoneRecordData<O, M>> {
     ghost hash_input = { record_hash };
 
     ghost respects_eq = { same_record_hash };
