@@ -16,3 +16,7 @@ pub mod ZoneData
 pub mod SameZoneData
 pub mod ZoneDataOrder
 pub mod RecordHead
+pub mod DataHash
+pub mod SameRecord
+pub mod RecordOrder
+pub mod RecordHash
