@@ -1,8 +1,8 @@
-use Rattle.std.proofs.Common.{◌++◌, [], sym, ap, ◌∙◌, bytes_eq}
+use Rattle.std.proofs.Common.{◌++◌, sym, ap, ◌∙◌, bytes_eq}
 use Rattle.std.proofs.lemmas.List.{append-nil}
-use Rattle.rdata_types.specs.DataFields.{ds_head}
-use Rattle.rdata_types.proofs.Fronts.{one_front}
-use Rattle.rdata_types.proofs.ds.Ds.is_spelled.Goals as goal
+use Rattle.rdata_octets.specs.OctetFields.{ds_head}
+use Rattle.rdata_octets.proofs.Fronts.{one_front}
+use Rattle.rdata_octets.proofs.ds.Ds.is_spelled.Goals as goal
 
 pub returns : goal.returns
 returns g c =

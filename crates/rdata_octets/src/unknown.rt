@@ -1,8 +1,8 @@
 // Data of types that aren't known.
 ghost use Rattle.std.specs.Prelude.{◌≡◌, ◌≤◌, ◌<◌, ◌+◌, IfOk, OnErr, IsTrue, Some, None, length, not};
 ghost use Rattle.std.specs.Str.{bytes_eq};
-ghost use Rattle.rdata_types.specs.Records.{data_wire, fields_at, is_known_type, parts, same_data};
-ghost use Rattle.rdata_types.specs.DataFields.{unknown_fields};
+ghost use Rattle.rdata_octets.specs.Records.{data_wire, fields_at, is_known_type, parts, same_data};
+ghost use Rattle.rdata_octets.specs.OctetFields.{unknown_fields};
 
 use crate::fields::{LongRecordData, RecordData};
 use crate::octets::{rest_of, store};
@@ -21,8 +21,8 @@ pub struct UnknownRecordData<O: AsSlice<u8> + Drop> {
 
 impl<O: AsSlice<u8> + Drop> Model for UnknownRecordData<O> {
     ghost use Rattle.std.specs.Prelude.{◌<◌, IsTrue, length, not};
-    ghost use Rattle.rdata_types.specs.DataValues.{UnknownValue};
-    ghost use Rattle.rdata_types.specs.Records.{is_known_type};
+    ghost use Rattle.rdata_octets.specs.DataValues.{UnknownValue};
+    ghost use Rattle.rdata_octets.specs.Records.{is_known_type};
 
     ghost Value = { UnknownValue };
 

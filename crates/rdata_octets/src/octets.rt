@@ -1,6 +1,6 @@
 // Data that are octets alone.
 ghost use Rattle.std.specs.Prelude.{◌≡◌, ◌<◌, ◌+◌, IfOk, OnErr, Some, None, length};
-ghost use Rattle.rdata_types.specs.Records.{rest_at};
+ghost use Rattle.rdata_octets.specs.Records.{rest_at};
 
 use bytes::Bytes;
 use dns_name::{ParseError, parse_octets};

@@ -1,8 +1,8 @@
 // Addresses.
 ghost use Rattle.std.specs.Prelude.{◌≡◌, ◌+◌, IfOk, OnErr, Some, None};
 ghost use Rattle.std.specs.Str.{bytes_eq};
-ghost use Rattle.rdata_types.specs.Records.{data_wire, fields_at, parts, same_data};
-ghost use Rattle.rdata_types.specs.DataFields.{a_fields, aaaa_fields};
+ghost use Rattle.rdata_octets.specs.Records.{data_wire, fields_at, parts, same_data};
+ghost use Rattle.rdata_octets.specs.OctetFields.{a_fields, aaaa_fields};
 
 use crate::fields::{RecordData, ends_at};
 use dns_name::{ParseError, Rtype, parse_octets};

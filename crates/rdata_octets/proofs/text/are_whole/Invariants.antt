@@ -1,6 +1,6 @@
 use Rattle.std.proofs.Common.{◌≡◌, length}
-use Rattle.rdata_types.specs.Records.{are_strings_after}
-use Rattle.rdata_types.proofs.text.are_whole.Given as goal
+use Rattle.rdata_octets.specs.Records.{are_strings_after}
+use Rattle.rdata_octets.proofs.text.are_whole.Given as goal
 
 abbrev pub invariant-loop-len : goal.invariant-loop-len
 invariant-loop-len l = are_strings_after 0 l.octets ≡ are_strings_after 0 l.rest

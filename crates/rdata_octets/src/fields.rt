@@ -13,7 +13,7 @@ pub struct LongRecordData;
 /// Data of a record (RDATA; RFC 1035, 3.2.1): its type, and its fields one after another.
 pub trait RecordData {
     ghost use Rattle.std.specs.Prelude.{◌≡◌, ◌++◌, ℕ, List, OnOk, OnErr, IsTrue, length};
-    ghost use Rattle.rdata_types.specs.Records.{Field, data_wire, is_data};
+    ghost use Rattle.rdata_octets.specs.Records.{Field, data_wire, is_data};
 
     ghost rtype: { Self → ℕ };
 
@@ -35,7 +35,7 @@ pub trait RecordData {
 }
 
 /// Whether data of `len` octets at place `pos` end at place `after`.
-pub(crate) fn ends_at(pos: usize, len: u16, after: usize) -> bool
+pub fn ends_at(pos: usize, len: u16, after: usize) -> bool
     ensures { result ≡ (after == pos + len) }
 {
     after >= pos && after - pos == usize::from(len)

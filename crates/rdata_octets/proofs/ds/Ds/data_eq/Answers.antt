@@ -1,10 +1,10 @@
-use Rattle.std.proofs.Common.{◌≡◌, Bool, true, false, List, ℕ, ◌++◌, length, refl, sym, ap, ◌∙◌, bytes_eq}
+use Rattle.std.proofs.Common.{◌≡◌, Bool, true, false, ◌++◌, length, refl, sym, ap, ◌∙◌, bytes_eq}
 use Rattle.std.specs.Prelude.{◌&&◌}
 use Rattle.std.proofs.Math.Bool.{and-true}
-use Rattle.rdata_types.specs.DataValues.{DsValue}
-use Rattle.rdata_types.specs.DataFields.{ds_head}
-use Rattle.rdata_types.proofs.Fronts.{parts_alike}
-use Rattle.rdata_types.proofs.ds.Ds.data_eq.Goals as goal
+use Rattle.rdata_octets.specs.DataValues.{DsValue}
+use Rattle.rdata_octets.specs.OctetFields.{ds_head}
+use Rattle.rdata_octets.proofs.Fronts.{parts_alike}
+use Rattle.rdata_octets.proofs.ds.Ds.data_eq.Goals as goal
 
 heads_long : (d e : DsValue) → length (ds_head d) ≡ length (ds_head e)
 unfolding ds_head

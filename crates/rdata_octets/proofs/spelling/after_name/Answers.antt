@@ -1,6 +1,6 @@
 use Rattle.std.proofs.Common.{◌≡◌, ℕ, List, ◌++◌, ap, ◌∙◌, subst, MatchOption}
 use Rattle.dns_name.specs.Names.{name_wire}
-use Rattle.rdata_types.proofs.spelling.after_name.Goals as goal
+use Rattle.rdata_octets.proofs.spelling.after_name.Goals as goal
 
 pub returns : goal.returns
 returns g c =

@@ -1,6 +1,6 @@
 -- Character strings one after another.
 use Rattle.std.proofs.Common.{◌≡◌, ℕ, zero, suc, ◌<◌, ◌≤◌, false, List, [], ◌∷◌, length, drop, refl, arith}
-use Rattle.rdata_types.specs.Records.{are_strings_after}
+use Rattle.rdata_octets.specs.Records.{are_strings_after}
 
 -- a string that is all there leaves what stands behind it
 pub string_left : (n : ℕ) (o : List ℕ) → n ≤ length o → are_strings_after n o ≡ are_strings_after 0 (drop n o)

@@ -1,7 +1,7 @@
 use Rattle.std.proofs.Common.{sym, ◌∙◌, true≢false}
 use Rattle.std.specs.Cmp.Lexicographic.{bytes_decides}
-use Rattle.rdata_types.proofs.Fronts.{other_start}
-use Rattle.rdata_types.proofs.spelling.after_front.Goals as goal
+use Rattle.rdata_octets.proofs.Fronts.{other_start}
+use Rattle.rdata_octets.proofs.spelling.after_front.Goals as goal
 
 pub returns-else-eq : goal.returns-else-eq
 returns-else-eq c =

@@ -3,8 +3,8 @@ ghost use Rattle.std.specs.Prelude.{◌≡◌, ◌≤◌, ◌<◌, ◌+◌, ◌+
 ghost use Rattle.std.specs.Str.{bytes_eq};
 ghost use Rattle.std.specs.Ordering.{nat_cmp};
 ghost use Rattle.std.specs.Cmp.Lexicographic.{slice_cmp};
-ghost use Rattle.rdata_types.specs.Records.{data_wire, fields_at, parts, same_data};
-ghost use Rattle.rdata_types.specs.DataFields.{ds_fields, ds_head};
+ghost use Rattle.rdata_octets.specs.Records.{data_wire, fields_at, parts, same_data};
+ghost use Rattle.rdata_octets.specs.OctetFields.{ds_fields, ds_head};
 
 use crate::fields::{LongRecordData, RecordData};
 use crate::octets::{rest_of, store};
@@ -27,7 +27,7 @@ pub struct Ds<O: AsSlice<u8> + Drop> {
 
 impl<O: AsSlice<u8> + Drop> Model for Ds<O> {
     ghost use Rattle.std.specs.Prelude.{◌<◌, ◌^◌, length};
-    ghost use Rattle.rdata_types.specs.DataValues.{DsValue};
+    ghost use Rattle.rdata_octets.specs.DataValues.{DsValue};
 
     ghost Value = { DsValue };
 
@@ -89,7 +89,7 @@ impl<O: AsSlice<u8> + Drop> Ds<O> {
     }
 
     /// Key tag, algorithm and digest type in four octets, as they are sent.
-    #[tactic(auto, unfolding(crate::specs::DataFields::ds_head))]
+    #[tactic(auto, unfolding(crate::specs::OctetFields::ds_head))]
     fn head(&self) -> [u8; 4]
         ensures { result ≡ ds_head self.now }
     {
@@ -184,7 +184,7 @@ impl<'m> Ds<&'m [u8]> {
     }
 
     /// The data of at least four octets.
-    #[tactic(auto, unfolding(crate::specs::DataFields::ds_head))]
+    #[tactic(auto, unfolding(crate::specs::OctetFields::ds_head))]
     fn of_octets(octets: &'m [u8]) -> Ds<&'m [u8]>
         requires head { 4 ≤ length octets.now }
         requires fits { length octets.now < 65536 }
@@ -209,7 +209,7 @@ impl<O: AsSlice<u8> + Drop> RecordData for Ds<O> {
         Rtype::DS
     }
 
-    #[tactic(auto, unfolding(crate::specs::DataFields::ds_head))]
+    #[tactic(auto, unfolding(crate::specs::OctetFields::ds_head))]
     fn rdlen(&self) -> u16 {
         4 + self.digest.as_slice().len() as u16
     }

@@ -1,8 +1,8 @@
 // Texts.
 ghost use Rattle.std.specs.Prelude.{◌≡◌, ◌≤◌, ◌<◌, ◌+◌, ◌++◌, ◌∷◌, [], IfOk, OnOk, OnErr, IsTrue, Some, None, length, take, drop};
 ghost use Rattle.std.specs.Str.{bytes_eq};
-ghost use Rattle.rdata_types.specs.Records.{are_strings as spell_strings, are_strings_after, data_wire, fields_at, parts, same_data, text_strings};
-ghost use Rattle.rdata_types.specs.DataFields.{txt_fields};
+ghost use Rattle.rdata_octets.specs.Records.{are_strings as spell_strings, are_strings_after, data_wire, fields_at, parts, same_data, text_strings};
+ghost use Rattle.rdata_octets.specs.OctetFields.{txt_fields};
 
 use crate::fields::{LongRecordData, RecordData};
 use crate::octets::{rest_of, store};
@@ -20,7 +20,7 @@ pub struct Txt<O: AsSlice<u8> + Drop> {
 
 impl<O: AsSlice<u8> + Drop> Model for Txt<O> {
     ghost use Rattle.std.specs.Prelude.{◌<◌, ℕ, List, IsTrue, length};
-    ghost use Rattle.rdata_types.specs.Records.{are_strings};
+    ghost use Rattle.rdata_octets.specs.Records.{are_strings};
 
     ghost Value = { List ℕ };
 

@@ -1,0 +1,4 @@
+pub mod Fronts
+pub mod Writing
+pub mod Strings
+pub mod Comparing
