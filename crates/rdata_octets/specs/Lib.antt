@@ -5,4 +5,5 @@ pub use Rattle.dns_name.specs.Compression
 pub use Rattle.dns_name.specs.Serial
 pub mod Records
 pub mod DataValues
+pub mod Texts
 pub mod OctetFields

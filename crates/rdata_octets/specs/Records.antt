@@ -72,6 +72,16 @@ strings_within (suc n) text = if nat_le (length text) 255 then length text ∷ t
 abbrev pub text_strings : List ℕ → List ℕ
 text_strings text = strings_within (length text / 255 + 1) text
 
+-- at most n character strings of octets, each without the octet that tells its length; of one that is cut short, what there is
+abbrev pub strings_from : ℕ → List ℕ → List (List ℕ)
+strings_from zero octets = []
+strings_from (suc n) [] = []
+strings_from (suc n) (len ∷ rest) = take len rest ∷ strings_from n (drop len rest)
+
+-- the character strings of octets, in order (RFC 1035, 3.3); there are no more of them than octets
+abbrev pub strings_in : List ℕ → List (List ℕ)
+strings_in octets = strings_from (length octets) octets
+
 -- whether the piece may be this field
 abbrev pub part_allows : Part → Field → Bool
 part_allows (Exactly n) (Octets octets) = length octets == n

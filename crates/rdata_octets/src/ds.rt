@@ -17,7 +17,7 @@ use std::convert::AsSlice;
 use std::marker::Model;
 
 /// The digest of a key of the zone below (DS; RFC 4034, 5.1), at most 65,531 octets of it.
-#[derive(Drop)]
+#[derive(Debug, Drop)]
 pub struct Ds<O: AsSlice<u8> + Drop> {
     key_tag: u16,
     algorithm: u8,

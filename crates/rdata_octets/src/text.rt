@@ -1,9 +1,12 @@
 // Texts.
-ghost use Rattle.std.specs.Prelude.{◌≡◌, ◌≤◌, ◌<◌, ◌+◌, ◌++◌, ◌∷◌, [], IfOk, OnOk, OnErr, IsTrue, Some, None, length, take, drop};
+ghost use Rattle.std.specs.Prelude.{◌≡◌, ◌≤◌, ◌<◌, ◌+◌, ◌++◌, ◌∷◌, [], IfOk, OnOk, OnErr, IsTrue, Some, None, length, nat_le};
+ghost use Rattle.std.specs.List.{list_all};
 ghost use Rattle.std.specs.Str.{bytes_eq};
-ghost use Rattle.rdata_octets.specs.Records.{are_strings as spell_strings, are_strings_after, data_wire, fields_at, parts, same_data, text_strings};
+ghost use Rattle.rdata_octets.specs.Records.{are_strings as spell_strings, are_strings_after, data_wire, fields_at, parts, same_data, strings_in, text_strings};
+ghost use Rattle.rdata_octets.specs.Texts.{BuildsText};
 ghost use Rattle.rdata_octets.specs.OctetFields.{txt_fields};
 
+use crate::char_strs::CharStrs;
 use crate::fields::{LongRecordData, RecordData};
 use crate::octets::{rest_of, store};
 use bytes::Bytes;
@@ -11,9 +14,24 @@ use dns_name::{ParseError, Rtype};
 use std::alloc::{AllocError, Global};
 use std::convert::AsSlice;
 use std::marker::Model;
+use thiserror::Error;
+
+/// The longest text whose strings have at most 65,535 octets: 256 strings.
+const MAX_TEXT: usize = 65279;
+
+/// Why a text's data weren't made.
+#[derive(Clone, Copy, Debug, PartialEq, Eq, Drop, Error)]
+pub enum TxtAppendError {
+    /// The data would pass 65,535 octets, which RDLENGTH can't tell (RFC 1035, 3.2.1).
+    #[error("record data too long")]
+    LongRecordData,
+    /// There is no memory for them.
+    #[error("out of memory")]
+    Memory,
+}
 
 /// A text: one or more character strings, each led by an octet that tells its length, at most 65,535 octets together (TXT; RFC 1035, 3.3.14).
-#[derive(Drop)]
+#[derive(Debug, Drop)]
 pub struct Txt<O: AsSlice<u8> + Drop> {
     octets: O,
 }
@@ -76,6 +94,16 @@ impl<O: AsSlice<u8> + Drop> Txt<O> {
         self.octets.as_slice()
     }
 
+    /// The character strings in order, each without the octet that tells its length.
+    #[tactic(auto, using(crate::proofs::Strings::few_strings, crate::proofs::Strings::whole_or_none))]
+    pub fn iter_charstrs(&self) -> CharStrs<'_>
+        ensures value { result ≡ strings_in self.now }
+        ensures few { length result < 65536 }
+        ensures short { IsTrue (list_all (λ string. nat_le (length string) 255) result) }
+    {
+        CharStrs::of(self.octets.as_slice())
+    }
+
     /// The same data in memory of their own.
     pub fn flatten(&self, alloc: Global) -> Result<Txt<Bytes>, AllocError>
         ensures { IfOk result (λ d. d ≡ self.now) }
@@ -113,6 +141,43 @@ impl<'m> Txt<&'m [u8]> {
         }
         Ok(Txt { octets })
     }
+}
+
+impl Txt<Bytes> {
+    /// The data of a text: character strings of 255 octets, of which the last one may be shorter; one empty string where the text has no
+    /// octets. Refused exactly where the strings have more than 65,535 octets with their lengths.
+    #[tactic(auto, using(crate::proofs::Texts::text_long, crate::proofs::Texts::text_fits, crate::proofs::Texts::text_whole))]
+    pub fn build_from_slice(text: &[u8], alloc: Global) -> Result<Txt<Bytes>, TxtAppendError>
+        ensures { BuildsText text.now result }
+    {
+        if text.len() > MAX_TEXT {
+            return Err(TxtAppendError::LongRecordData);
+        }
+        let mut out = Vec::new(alloc);
+        let Ok(()) = push_strings(&mut out, text) else {
+            return Err(TxtAppendError::Memory);
+        };
+        let Ok(octets) = store(alloc, out.as_slice()) else {
+            return Err(TxtAppendError::Memory);
+        };
+        Ok(Txt { octets })
+    }
+}
+
+/// The text at the end of `out`, in character strings of 255 octets, of which the last one may be shorter.
+#[tactic(auto, using(crate::proofs::Texts::text_end))]
+fn push_strings(out: &mut Vec<u8>, text: &[u8]) -> Result<(), AllocError>
+    ensures { OnOk result (out.new.items ≡ out.old.items ++ text_strings text.now) }
+{
+    let mut rest = text;
+    'strings: while rest.len() > 255 {
+        let (string, behind) = rest.split_at(255);
+        out.push(255)?;
+        out.extend_from_slice(string)?;
+        rest = behind;
+    }
+    out.push(rest.len() as u8)?;
+    out.extend_from_slice(rest)
 }
 
 impl<O: AsSlice<u8> + Drop> RecordData for Txt<O> {

@@ -13,7 +13,7 @@ use std::convert::AsSlice;
 use std::marker::Model;
 
 /// Data of a type that isn't known, as they are sent: at most 65,535 octets, in which no pointer is followed (RFC 3597, 3).
-#[derive(Drop)]
+#[derive(Debug, Drop)]
 pub struct UnknownRecordData<O: AsSlice<u8> + Drop> {
     rtype: Rtype,
     octets: O,
