@@ -4,6 +4,7 @@
 mod addresses;
 mod char_strs;
 mod ds;
+mod examples;
 mod fields;
 mod laws;
 mod octets;

@@ -1,6 +1,7 @@
 // Record data, type by type: their fields, how they are read, written and compared.
 #![tactic(auto)]
 
+mod examples;
 mod laws;
 mod mail;
 mod name_types;
@@ -14,8 +15,8 @@ pub use name_types::{
 };
 pub use names::{Cname, Mb, Md, Mf, Mg, Mr, NameData, Ns, Ptr};
 pub use rdata_octets::{
-    A, Aaaa, Ds, LongRecordData, RecordData, Txt, UnknownRecordData, after_front, after_name,
-    are_strings, is_known_type,
+    A, Aaaa, CharStrs, Ds, LongRecordData, RecordData, Txt, TxtAppendError, UnknownRecordData,
+    after_front, after_name, are_strings, is_known_type,
 };
 pub use soa::Soa;
 pub use srv::Srv;

@@ -14,6 +14,7 @@ use std::marker::{Model, PhantomData};
 
 /// Data of type `T` that are one name. Each type of this kind has a name of its own below (RFC 1035, 3.3).
 #[derive(Drop)]
+#[derive_where(Debug; N)]
 pub struct NameData<N: Labelled + Drop, T: NameType> {
     name: N,
     of_type: PhantomData<T>,
@@ -210,10 +211,10 @@ impl<N: Labelled + Drop, T: NameType> RecordData for NameData<N, T> {
     }
 }
 
-impl<T: NameType> Clone for NameData<StoredName, T> {
-    ghost is_clone = { λ d copy. copy ≡ d };
+impl<N: Labelled + Clone + Drop, T: NameType> Clone for NameData<N, T> {
+    ghost is_clone = { N.is_clone };
 
-    fn clone(&self) -> Result<NameData<StoredName, T>, AllocError> {
+    fn clone(&self) -> Result<NameData<N, T>, AllocError> {
         Ok(NameData {
             name: self.name.clone()?,
             of_type: PhantomData,
