@@ -1,6 +1,6 @@
 -- Character strings one after another.
-use Rattle.std.proofs.Common.{◌≡◌, ℕ, zero, suc, ◌+◌, ◌<◌, ◌≤◌, true, false, List, [], ◌∷◌, length, take, drop, refl, sym, ap, ◌∙◌, arith, true≢false, ◌++◌, le-leb, ltb-true}
-use Rattle.std.specs.Prelude.{IsTrue, nat_lt, nat_le, flat_map, min}
+use Rattle.std.proofs.Common.{◌≡◌, ℕ, zero, suc, ◌<◌, ◌≤◌, true, false, List, [], ◌∷◌, length, take, drop, refl, sym, ap, ◌∙◌, arith, true≢false, ◌++◌, le-leb, ltb-true}
+use Rattle.std.specs.Prelude.{IsTrue, nat_lt, nat_le, flat_map}
 use Rattle.std.specs.List.{list_all}
 use Rattle.std.proofs.lemmas.Bool.{and_parts}
 use Rattle.std.proofs.lemmas.List.{length-drop, length-take, length-take-le, take-append-drop}

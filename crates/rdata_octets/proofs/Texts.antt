@@ -1,6 +1,6 @@
 -- A text in character strings of 255 octets.
-use Rattle.std.proofs.Common.{◌≡◌, ℕ, zero, suc, ◌+◌, ◌-◌, ◌/◌, ◌<◌, ◌≤◌, ⊎_elim, true, false, List, [], ◌∷◌, ◌++◌, length, take, drop, length-append, refl, sym, ap, subst, ◌∙◌, arith, le-leb, true≢false}
-use Rattle.std.specs.Prelude.{IsTrue, nat_le, if◌then◌else◌}
+use Rattle.std.proofs.Common.{◌≡◌, ℕ, zero, suc, ◌+◌, ◌-◌, ◌/◌, ◌<◌, ◌≤◌, ⊎_elim, true, List, ◌∷◌, ◌++◌, length, take, drop, length-append, refl, sym, ap, subst, ◌∙◌, arith, le-leb}
+use Rattle.std.specs.Prelude.{IsTrue, if◌then◌else◌}
 use Rattle.std.specs.List.{concat}
 use Rattle.std.proofs.lemmas.Bool.{lt-leb, cases_lt}
 use Rattle.std.proofs.lemmas.List.{append_assoc, append-nil, length-take-le, length-drop, take_at, drop_at, take_all, drop_all, take-append-drop}
@@ -90,18 +90,17 @@ head_and_rest zero t e h = absurd (omega (arith, e))
 head_and_rest (suc n) t e h = text_more n t h ∙ ap (λ k. 255 ∷ take 255 t ++ strings_within k (drop 255 t)) (rest_long t n e h)
 
 -- one more full string of the text t is written behind a
-pub text_step : (a b c t f r : List ℕ) → 255 < length t → b ≡ a ++ (255 ∷ []) → c ≡ b ++ f → f ≡ take 255 t → r ≡ drop 255 t
-    → c ++ text_strings r ≡ a ++ text_strings t
-text_step a b c t f r h pushed more front back =
-    (λ i. more i ++ text_strings (back i)) ∙ (λ i. (pushed i ++ front i) ++ text_strings (drop 255 t))
-    ∙ append_assoc (a ++ (255 ∷ [])) (take 255 t) (text_strings (drop 255 t)) ∙ append_assoc a (255 ∷ []) (take 255 t ++ text_strings (drop 255 t))
-    ∙ ap (λ x. a ++ x) (sym (head_and_rest (length t / 255 + 1) t refl h))
+pub text_step : (a c t f r whole : List ℕ) → 255 < length t → c ≡ a ++ (length f ∷ f) → f ≡ take 255 t → r ≡ drop 255 t
+    → a ++ text_strings t ≡ whole → c ++ text_strings r ≡ whole
+text_step a c t f r whole h pushed front back so_far =
+    let full : length f ≡ 255 = ap length front ∙ length-take-le 255 t (omega (arith, h)) in
+    (λ i. pushed i ++ text_strings (back i)) ∙ (λ i. (a ++ (full i ∷ front i)) ++ text_strings (drop 255 t))
+    ∙ append_assoc a (255 ∷ take 255 t) (text_strings (drop 255 t)) ∙ ap (λ x. a ++ x) (sym (head_and_rest (length t / 255 + 1) t refl h)) ∙ so_far
 
 last_only : (n : ℕ) (t : List ℕ) → n ≡ length t / 255 + 1 → length t ≤ 255 → strings_within n t ≡ length t ∷ t
 last_only zero t e h = absurd (omega (arith, e))
 last_only (suc n) t e h = text_last n t h
 
 -- the last string of the text t is written behind a
-pub text_end : (a b c t : List ℕ) → length t ≤ 255 → b ≡ a ++ (length t ∷ []) → c ≡ b ++ t → c ≡ a ++ text_strings t
-text_end a b c t h pushed more =
-    more ∙ ap (λ x. x ++ t) pushed ∙ append_assoc a (length t ∷ []) t ∙ ap (λ x. a ++ x) (sym (last_only (length t / 255 + 1) t refl h))
+pub text_end : (a c t : List ℕ) → length t ≤ 255 → c ≡ a ++ (length t ∷ t) → c ≡ a ++ text_strings t
+text_end a c t h pushed = pushed ∙ ap (λ x. a ++ x) (sym (last_only (length t / 255 + 1) t refl h))

@@ -1,4 +1,8 @@
-// Record data that are octets alone, type by type, and what all record data have.
+//! Record data that are octets alone, type by type: addresses (A, AAAA), texts (TXT), digests (DS) and data of types that aren't known;
+//! and what data of every type have: their grammar, their octets as they are sent, and the trait `RecordData`.
+//!
+//! `parse` reads data in their message and takes no memory; `flatten` keeps them in memory of their own. `Txt::build_from_slice` makes the
+//! data of a text, and `Txt::iter_charstrs` tells its character strings.
 #![tactic(auto)]
 
 mod addresses;

@@ -172,12 +172,20 @@ fn push_strings(out: &mut Vec<u8>, text: &[u8]) -> Result<(), AllocError>
     let mut rest = text;
     'strings: while rest.len() > 255 {
         let (string, behind) = rest.split_at(255);
-        out.push(255)?;
-        out.extend_from_slice(string)?;
+        push_string(out, string)?;
         rest = behind;
     }
-    out.push(rest.len() as u8)?;
-    out.extend_from_slice(rest)
+    push_string(out, rest)
+}
+
+/// One character string at the end of `out`, led by its length.
+#[tactic(auto, using(std::proofs::lemmas::List::append_assoc))]
+fn push_string(out: &mut Vec<u8>, string: &[u8]) -> Result<(), AllocError>
+    requires { length string.now ≤ 255 }
+    ensures { OnOk result (out.new.items ≡ out.old.items ++ length string.now ∷ string.now) }
+{
+    out.push(string.len() as u8)?;
+    out.extend_from_slice(string)
 }
 
 impl<O: AsSlice<u8> + Drop> RecordData for Txt<O> {

@@ -1,4 +1,8 @@
-// Record data, type by type: their fields, how they are read, written and compared.
+//! Record data that have domain names, type by type: NS and the other types whose data are one name, MINFO, MX, SRV and SOA. What
+//! `rdata_octets` has is passed on, so that crates above name one crate for data of every type.
+//!
+//! A name may be of any kind that tells its labels: `parse` leaves it in its message, `flatten` keeps it in memory of its own. Data are
+//! equal where their fields are, names in any case; `specs/DataOrder.antt` has an order whose ties are equal data.
 #![tactic(auto)]
 
 mod examples;
