@@ -9,7 +9,7 @@ ghost use Rattle.zone_types.specs.Updates.{UpdateFault, apply_update, after_refu
 ghost use Rattle.zone_types.specs.Applying.{commits};
 ghost use Rattle.xfr_client.specs.declared.update.Error.TheVariants.{VersionsExhausted, Memory};
 ghost use Rattle.dns_rdata.specs.DataFields.{soa_fields};
-ghost use Rattle.zone_store.specs.Puts.{with_soa};
+ghost use Rattle.zone_versions.specs.Puts.{with_soa};
 ghost use Rattle.xfr_client.specs.Causes.{update_of, update_fault_of};
 ghost use Rattle.xfr_client.specs.Updating.{Leaves, progress_of, new_version, next_commit, lacks_number};
 

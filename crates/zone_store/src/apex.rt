@@ -2,12 +2,12 @@
 ghost use Rattle.std.specs.Prelude.{◌≡◌, [], IfOk, false};
 
 use crate::read::ReadZone;
-use crate::version::ZoneVersion;
 use crate::write::WriteZone;
 use dns_name::{Class, StoredName};
 use std::alloc::{AllocError, Global};
 use std::marker::Model;
 use std::sync::Arc;
+use zone_versions::ZoneVersion;
 
 /// A zone: its current version, and how the next one is written.
 #[derive(Drop)]

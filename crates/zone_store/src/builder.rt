@@ -4,17 +4,17 @@ ghost use Rattle.zone_types.specs.Version.{set_at, below_apex};
 ghost use Rattle.dns_name.specs.Names.{under};
 ghost use Rattle.zone_types.specs.Classify.{opened_with};
 ghost use Rattle.zone_types.specs.Edits as edits;
-ghost use Rattle.zone_store.specs.Puts.{adds_alias};
+ghost use Rattle.zone_versions.specs.Puts.{adds_alias};
 
 use crate::apex::ZoneApex;
 use crate::errors::InsertError;
 use crate::read::ReadZone;
-use crate::version::ZoneVersion;
 use dns_name::{Class, Labelled, Rtype, StoredName, ToName};
 use dns_rdata::StoredRecord;
 use std::alloc::{AllocError, Global};
 use std::marker::Model;
 use std::sync::Arc;
+use zone_versions::ZoneVersion;
 
 /// The records that a zone opens with, put one by one. It is seen as the version that they make.
 #[derive(Drop)]
