@@ -16,7 +16,7 @@ pub struct ZoneApex {
 }
 
 impl Model for ZoneApex {
-    ghost use Rattle.zone_types.specs.Commits.{Commit};
+    ghost use Rattle.zone_model.specs.Commits.{Commit};
 
     ghost Value = { Commit };
 

@@ -1,9 +1,9 @@
 // How a zone opens.
 ghost use Rattle.std.specs.Prelude.{◌≡◌, ◌↔◌, [], true, false, Err, OnOk, OnErr, IfOk, is_some};
-ghost use Rattle.zone_types.specs.Version.{set_at, below_apex};
+ghost use Rattle.zone_model.specs.Version.{set_at, below_apex};
 ghost use Rattle.dns_name.specs.Names.{under};
-ghost use Rattle.zone_types.specs.Classify.{opened_with};
-ghost use Rattle.zone_types.specs.Edits as edits;
+ghost use Rattle.zone_model.specs.Classify.{opened_with};
+ghost use Rattle.zone_model.specs.Edits as edits;
 ghost use Rattle.zone_versions.specs.Puts.{adds_alias};
 
 use crate::apex::ZoneApex;
@@ -24,7 +24,7 @@ pub struct ZoneBuilder {
 }
 
 impl Model for ZoneBuilder {
-    ghost use Rattle.zone_types.specs.Version.{Version};
+    ghost use Rattle.zone_model.specs.Version.{Version};
 
     ghost Value = { Version };
 

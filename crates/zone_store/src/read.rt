@@ -1,7 +1,7 @@
 // Reading one version of a zone.
 ghost use Rattle.std.specs.Prelude.{◌≡◌, IfOk, option_copied};
-ghost use Rattle.zone_types.specs.Version.{IsValid, set_at};
-ghost use Rattle.zone_types.specs.Walk.{next_stop, walk};
+ghost use Rattle.zone_model.specs.Version.{IsValid, set_at};
+ghost use Rattle.zone_model.specs.Walk.{next_stop, walk};
 ghost use Rattle.zone_versions.specs.Stops.{first_stop};
 
 use dns_name::{Class, Labelled, Rtype, StoredName};
@@ -18,8 +18,8 @@ pub struct ReadZone {
 }
 
 impl Model for ReadZone {
-    ghost use Rattle.zone_types.specs.Commits.{Commit};
-    ghost use Rattle.zone_types.specs.Version.{IsValid};
+    ghost use Rattle.zone_model.specs.Commits.{Commit};
+    ghost use Rattle.zone_model.specs.Version.{IsValid};
 
     ghost Value = { Commit };
 

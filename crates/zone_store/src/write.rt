@@ -1,9 +1,9 @@
 // A session that writes a zone's next versions.
 ghost use Rattle.std.specs.Prelude.{◌≡◌, ◌↔◌, ◌-◌, ◌^◌, [], Ok, Err, IfOk, IfErr, IfSome, OnOk, OnErr, IsOk, IsTrue, false};
-ghost use Rattle.zone_types.specs.Edits.{add, delete, with_sets};
-ghost use Rattle.zone_types.specs.Edits as edits;
-ghost use Rattle.zone_types.specs.Version.{IsValid};
-ghost use Rattle.zone_types.specs.Session.{opened_session, with_pending, committed, rolled_back};
+ghost use Rattle.zone_model.specs.Edits.{add, delete, with_sets};
+ghost use Rattle.zone_model.specs.Edits as edits;
+ghost use Rattle.zone_model.specs.Version.{IsValid};
+ghost use Rattle.zone_model.specs.Session.{opened_session, with_pending, committed, rolled_back};
 ghost use Rattle.zone_versions.specs.Causes.{refusal_of};
 ghost use Rattle.zone_versions.specs.Puts.{appended, without, with_soa};
 ghost use Rattle.dns_rdata.specs.DataFields.{soa_fields};
@@ -33,7 +33,7 @@ pub struct WriteZone<'z> {
 impl<'z> Model for WriteZone<'z> {
     ghost use Rattle.std.specs.Prelude.{◌≡◌, is_some, option_map, IfSome};
     ghost use Rattle.std.specs.Arc.{arc_value};
-    ghost use Rattle.zone_types.specs.Session.{Session};
+    ghost use Rattle.zone_model.specs.Session.{Session};
     ghost use Rattle.zone_store.specs.Pending.{pending_of};
 
     ghost Value = { Session };

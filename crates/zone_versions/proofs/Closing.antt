@@ -1,11 +1,11 @@
 -- A version that a commit leaves as it is.
 use Rattle.std.proofs.Common.{◌≡◌, Bool, true, false, cond, ◌||◌, not, List, [], ◌∷◌, refl, sym, ap, ◌∙◌, true≢false}
 use Rattle.std.specs.List.{list_any, filter}
-use Rattle.zone_types.specs.Version.{RecordSet, Key, Version}
+use Rattle.zone_model.specs.Version.{RecordSet, Key, Version}
 use Rattle.std.specs.Map.{keys_of}
 use Rattle.zone_versions.specs.Strays.{is_stray_at}
 use Rattle.zone_versions.proofs.Equality.{list_any_map}
-use Rattle.zone_types.specs.Edits.{is_stray, close, with_sets}
+use Rattle.zone_model.specs.Edits.{is_stray, close, with_sets}
 
 first_of_or : (a b : Bool) → (a || b) ≡ false → (a ≡ false) × (b ≡ false)
 first_of_or true b h = absurd (true≢false h)

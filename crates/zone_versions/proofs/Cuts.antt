@@ -4,8 +4,8 @@ use Rattle.std.specs.List.{list_any, find}
 use mathlib.Core.List.{reverse-cons}
 use Rattle.std.proofs.lemmas.List.Folds.{list_any-append}
 use Rattle.dns_name.specs.Names.{Name, upwards}
-use Rattle.zone_types.specs.Version.{Version, is_cut}
-use Rattle.zone_types.specs.Answer.{highest_cut}
+use Rattle.zone_model.specs.Version.{Version, is_cut}
+use Rattle.zone_model.specs.Answer.{highest_cut}
 
 or_false : (b : Bool) → (b || false) ≡ b
 or_false true = refl

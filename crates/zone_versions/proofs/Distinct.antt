@@ -8,9 +8,9 @@ use Rattle.std.proofs.lemmas.List.Elements.{filter-append}
 use Rattle.std.proofs.lemmas.List.Folds.{list_any-append}
 use Rattle.dns_name.specs.Names.{fold}
 use Rattle.dns_rdata.specs.Records.{Field, Record, same_data}
-use Rattle.zone_types.specs.Version.{RecordSet, Key, Sets, Version, has_key, set_in, all_differ}
-use Rattle.zone_types.specs.Edits.{distinct, put_set}
-use Rattle.zone_types.specs.Classify.{opened_with, lowest_ttl}
+use Rattle.zone_model.specs.Version.{RecordSet, Key, Sets, Version, has_key, set_in, all_differ}
+use Rattle.zone_model.specs.Edits.{distinct, put_set}
+use Rattle.zone_model.specs.Classify.{opened_with, lowest_ttl}
 use Rattle.dns_rdata.specs.SameData.{same_data_equiv}
 use Rattle.zone_versions.specs.Puts.{opened_by}
 use Rattle.zone_versions.proofs.Closing.{filter_none}

@@ -13,10 +13,10 @@ use Rattle.std.proofs.lemmas.Map.Keys.{sorted_tail}
 use Rattle.std.proofs.lemmas.Map.Entries.{none_below_head}
 use Rattle.dns_name.specs.Names.{Name, fold}
 use Rattle.dns_rdata.specs.Records.{Field, Record, same_data}
-use Rattle.zone_types.specs.Version.{RecordSet, Key, Sets, Version, key_cmp, has_key, set_in}
-use Rattle.zone_types.specs.Classify.{lowest_ttl}
-use Rattle.zone_types.specs.Edits.{with_sets, remove_set, put_set, has_data}
-use Rattle.zone_types.proofs.Folded.{key_total}
+use Rattle.zone_model.specs.Version.{RecordSet, Key, Sets, Version, key_cmp, has_key, set_in}
+use Rattle.zone_model.specs.Classify.{lowest_ttl}
+use Rattle.zone_model.specs.Edits.{with_sets, remove_set, put_set, has_data}
+use Rattle.zone_model.proofs.Folded.{key_total}
 use Rattle.zone_versions.specs.Puts.{appended, opened_by, put_with, last_set, opening_set}
 
 module _ {K X : Type 0} {R : K → K → Ordering} (o : IsTotalOrder R) where

@@ -6,8 +6,8 @@ use Rattle.std.specs.BTreeMap.{insert_entry}
 use Rattle.std.specs.Map.{remove_entry}
 use Rattle.dns_name.specs.Names.{fold}
 use Rattle.dns_rdata.specs.Records.{Field, Record, same_data}
-use Rattle.zone_types.specs.Version.{RecordSet, Key, Sets, Version, key_cmp, has_key, set_in}
-use Rattle.zone_types.specs.Edits.{with_sets, remove_set}
+use Rattle.zone_model.specs.Version.{RecordSet, Key, Sets, Version, key_cmp, has_key, set_in}
+use Rattle.zone_model.specs.Edits.{with_sets, remove_set}
 use Rattle.zone_versions.specs.Puts.{without, items_at, thinned, taken_out}
 use Rattle.zone_versions.proofs.Putting.{suc_not}
 

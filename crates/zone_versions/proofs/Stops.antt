@@ -7,9 +7,9 @@ use Rattle.std.specs.BTreeMap.Range.{entries_between}
 use Rattle.std.specs.declared.ops.Bound.TheVariants.{Excluded, Unbounded}
 use Rattle.dns_name.specs.Names.{Name, fold, same_name, spelling_cmp}
 use Rattle.std.specs.Ordering.{ordering_then, nat_cmp}
-use Rattle.zone_types.specs.Version.{RecordSet, Key, Sets, Version, key_cmp}
-use Rattle.zone_types.specs.Walk.{Stop, shown_owner}
-use Rattle.zone_types.proofs.Folded.{fold-fold, key_total, same_name-Decides}
+use Rattle.zone_model.specs.Version.{RecordSet, Key, Sets, Version, key_cmp}
+use Rattle.zone_model.specs.Walk.{Stop, shown_owner}
+use Rattle.zone_model.proofs.Folded.{fold-fold, key_total, same_name-Decides}
 use Rattle.zone_versions.specs.Stops.{stop_of}
 
 turned : (r : Ordering) → is_gt (ordering_reverse r) ≡ is_lt r

@@ -1,7 +1,7 @@
 -- What a refused edit says of the version (RFC 2136, 3.4.2, in this project's profile).
 use Rattle.std.specs.Prelude.{Option, Some, None}
-use Rattle.zone_types.specs.Edits as edits
-use Rattle.zone_types.specs.Edits.{Refusal}
+use Rattle.zone_model.specs.Edits as edits
+use Rattle.zone_model.specs.Edits.{Refusal}
 use Rattle.zone_versions.specs.declared.errors.EditError.{EditError}
 use Rattle.zone_versions.specs.declared.errors.EditError.TheVariants.{OutOfZone, Incompatible, InvalidData, Memory}
 

@@ -5,9 +5,9 @@ use Rattle.std.specs.BTreeMap.{insert_entry}
 use Rattle.std.specs.Map.{remove_entry}
 use Rattle.dns_name.specs.Codes.{type_soa}
 use Rattle.dns_rdata.specs.Records.{Field, Record, same_data}
-use Rattle.zone_types.specs.Version.{Version, RecordSet, Key, Sets, key_cmp, has_key, set_in, set_at, data_at}
-use Rattle.zone_types.specs.Edits.{put_set, has_data, second_alias}
-use Rattle.zone_types.specs.Classify.{lowest_ttl}
+use Rattle.zone_model.specs.Version.{Version, RecordSet, Key, Sets, key_cmp, has_key, set_in, set_at, data_at}
+use Rattle.zone_model.specs.Edits.{put_set, has_data, second_alias}
+use Rattle.zone_model.specs.Classify.{lowest_ttl}
 
 -- the version with a record's data last in its set, whose TTL is then the record's
 abbrev pub appended : Version → Record → Version

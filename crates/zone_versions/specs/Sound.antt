@@ -6,7 +6,7 @@ use Rattle.std.specs.Map.{keys_of}
 use Rattle.std.specs.List.Sorted.{IsStrictlySortedBy}
 use Rattle.dns_name.specs.Names.{fold}
 use Rattle.dns_name.specs.Codes.{type_cname}
-use Rattle.zone_types.specs.Version.{RecordSet, Key, Version, key_cmp, in_zone, below_apex, all_differ}
+use Rattle.zone_model.specs.Version.{RecordSet, Key, Version, key_cmp, in_zone, below_apex, all_differ}
 
 -- at one entry
 abbrev pub is_sound_at : Version → Key × RecordSet → Bool

@@ -3,9 +3,9 @@ use Rattle.std.specs.Prelude.{List, [], ◌∷◌, Option, Some, None, is_some, 
 use Rattle.std.specs.List.{find}
 use Rattle.std.specs.Ordering.{is_lt}
 use Rattle.dns_name.specs.Names.{Name, fold}
-use Rattle.zone_types.specs.Version.{RecordSet, Key, Version, key_cmp}
-use Rattle.zone_types.specs.Answer.{highest_cut}
-use Rattle.zone_types.specs.Walk.{Stop, shown_owner, walk}
+use Rattle.zone_model.specs.Version.{RecordSet, Key, Version, key_cmp}
+use Rattle.zone_model.specs.Answer.{highest_cut}
+use Rattle.zone_model.specs.Walk.{Stop, shown_owner, walk}
 
 -- the stop of an entry
 abbrev pub stop_of : Version → Key × RecordSet → Stop

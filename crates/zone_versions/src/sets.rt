@@ -4,7 +4,7 @@ ghost use Rattle.std.specs.List.{list_any};
 ghost use Rattle.dns_name.specs.Names.{fold};
 ghost use Rattle.dns_rdata.specs.Records.{same_data};
 ghost use Rattle.dns_rdata.specs.ZoneData.{data_fields};
-ghost use Rattle.zone_types.specs.Version.{key_cmp};
+ghost use Rattle.zone_model.specs.Version.{key_cmp};
 ghost use Rattle.zone_versions.specs.DataIndex.{IsIndexed};
 
 use crate::data_index::{FEW, forget, is_noted, note_last};
@@ -25,7 +25,7 @@ pub struct RecordSet {
 }
 
 impl Model for RecordSet {
-    ghost use Rattle.zone_types.specs.Version.{RecordSet as SetOfRecords};
+    ghost use Rattle.zone_model.specs.Version.{RecordSet as SetOfRecords};
 
     ghost Value = { SetOfRecords };
 
@@ -213,7 +213,7 @@ pub struct SetKey {
 impl Model for SetKey {
     ghost use Rattle.std.specs.Prelude.{◌≡◌};
     ghost use Rattle.dns_name.specs.Names.{fold};
-    ghost use Rattle.zone_types.specs.Version.{Key};
+    ghost use Rattle.zone_model.specs.Version.{Key};
 
     ghost Value = { Key };
 
@@ -262,8 +262,8 @@ impl Clone for SetKey {
 impl PartialEq for SetKey {
     ghost use Rattle.std.specs.Cmp.{eq_by_cmp_equiv, partial_equiv_from_equiv};
     ghost use Rattle.std.specs.Ordering.{eq_by_cmp};
-    ghost use Rattle.zone_types.specs.Version.{key_cmp};
-    ghost use Rattle.zone_types.proofs.Folded.{key_total};
+    ghost use Rattle.zone_model.specs.Version.{key_cmp};
+    ghost use Rattle.zone_model.proofs.Folded.{key_total};
 
     ghost eq = { eq_by_cmp key_cmp };
 
@@ -276,7 +276,7 @@ impl PartialEq for SetKey {
 
 impl Eq for SetKey {
     ghost use Rattle.std.specs.Cmp.{eq_by_cmp_equiv};
-    ghost use Rattle.zone_types.proofs.Folded.{key_total};
+    ghost use Rattle.zone_model.proofs.Folded.{key_total};
 
     ghost laws = { eq_by_cmp_equiv key_total };
 }
@@ -284,8 +284,8 @@ impl Eq for SetKey {
 impl PartialOrd for SetKey {
     ghost use Rattle.std.specs.Cmp.{partial_order_from_total};
     ghost use Rattle.std.specs.Ordering.{as_partial_cmp};
-    ghost use Rattle.zone_types.specs.Version.{key_cmp};
-    ghost use Rattle.zone_types.proofs.Folded.{key_total};
+    ghost use Rattle.zone_model.specs.Version.{key_cmp};
+    ghost use Rattle.zone_model.proofs.Folded.{key_total};
 
     ghost partial_cmp = { as_partial_cmp key_cmp };
 
@@ -298,8 +298,8 @@ impl PartialOrd for SetKey {
 
 impl Ord for SetKey {
     ghost use Rattle.std.specs.Prelude.{refl};
-    ghost use Rattle.zone_types.specs.Version.{key_cmp};
-    ghost use Rattle.zone_types.proofs.Folded.{key_total};
+    ghost use Rattle.zone_model.specs.Version.{key_cmp};
+    ghost use Rattle.zone_model.proofs.Folded.{key_total};
 
     ghost cmp = { key_cmp };
 

@@ -2,13 +2,13 @@
 ghost use Rattle.std.specs.Prelude.{◌≡◌, true, false, not, IsSome, ◌++◌, ◌∷◌, [], Some, None, Ok, Err, IfOk, IfErr, IfSome, OnOk, OnErr, IfNone, IsSomeAnd, is_some, option_copied, option_map, map, find, filter};
 ghost use Rattle.std.specs.List.{list_any};
 ghost use Rattle.dns_name.specs.Names.{fold, under};
-ghost use Rattle.zone_types.specs.Version.{IsValid, key_cmp, set_in, set_at, below_apex, is_cut};
-ghost use Rattle.zone_types.specs.Classify.{opened_with};
-ghost use Rattle.zone_types.specs.Answer.{highest_cut};
-ghost use Rattle.zone_types.specs.Walk.{next_stop};
+ghost use Rattle.zone_model.specs.Version.{IsValid, key_cmp, set_in, set_at, below_apex, is_cut};
+ghost use Rattle.zone_model.specs.Classify.{opened_with};
+ghost use Rattle.zone_model.specs.Answer.{highest_cut};
+ghost use Rattle.zone_model.specs.Walk.{next_stop};
 ghost use Rattle.zone_versions.specs.Stops.{stop_of, first_stop, first_from};
-ghost use Rattle.zone_types.specs.Edits.{add, delete, with_sets};
-ghost use Rattle.zone_types.specs.Edits as edits;
+ghost use Rattle.zone_model.specs.Edits.{add, delete, with_sets};
+ghost use Rattle.zone_model.specs.Edits as edits;
 ghost use Rattle.zone_versions.specs.Causes.{refusal_of};
 ghost use Rattle.zone_versions.specs.Strays.{is_stray_at};
 ghost use Rattle.zone_versions.specs.Puts.{adds_alias, appended, without, with_soa, items_at, put_with, last_set, opening_set, thinned, taken_out};
@@ -39,7 +39,7 @@ pub struct ZoneVersion {
 }
 
 impl Model for ZoneVersion {
-    ghost use Rattle.zone_types.specs.Version.{Version};
+    ghost use Rattle.zone_model.specs.Version.{Version};
     ghost use Rattle.zone_versions.specs.Sound.{IsSound};
 
     ghost Value = { Version };

@@ -1,7 +1,7 @@
 // A walk of a version as an iterator.
 ghost use Rattle.std.specs.Prelude.{◌≡◌, map};
 ghost use Rattle.dns_rdata.specs.ZoneData.{data_fields};
-ghost use Rattle.zone_types.specs.Walk.{walk};
+ghost use Rattle.zone_model.specs.Walk.{walk};
 
 use crate::sets::{RecordSet, SetKey};
 use crate::version::ZoneVersion;
@@ -20,7 +20,7 @@ pub struct WalkItem<'v> {
 }
 
 impl<'v> Model for WalkItem<'v> {
-    ghost use Rattle.zone_types.specs.Walk.{Stop};
+    ghost use Rattle.zone_model.specs.Walk.{Stop};
 
     ghost Value = { Stop };
 
@@ -92,7 +92,7 @@ pub struct RrsetIter<'v> {
 
 impl<'v> Model for RrsetIter<'v> {
     ghost use Rattle.std.specs.Prelude.{List, map};
-    ghost use Rattle.zone_types.specs.Walk.{Stop};
+    ghost use Rattle.zone_model.specs.Walk.{Stop};
     ghost use Rattle.zone_versions.specs.Stops.{stop_of};
 
     ghost Value = { List Stop };

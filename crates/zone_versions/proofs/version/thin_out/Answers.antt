@@ -3,8 +3,8 @@ use Rattle.std.specs.Option.{option_map_or}
 use Rattle.std.specs.BTreeMap.{insert_entry}
 use Rattle.dns_rdata.specs.Records.{same_data}
 use Rattle.dns_rdata.specs.ZoneData.{data_fields}
-use Rattle.zone_types.specs.Version.{RecordSet, key_cmp}
-use Rattle.zone_types.proofs.Folded.{key_total}
+use Rattle.zone_model.specs.Version.{RecordSet, key_cmp}
+use Rattle.zone_model.proofs.Folded.{key_total}
 use Rattle.zone_versions.proofs.Putting.{set_value-insert_entry}
 use Rattle.zone_versions.proofs.version.thin_out.Goals as goal
 

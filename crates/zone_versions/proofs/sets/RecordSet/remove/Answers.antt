@@ -1,7 +1,7 @@
 use Rattle.std.proofs.Common.{List, not, map, filter, ap, sym, subst, ◌∙◌}
 use Rattle.dns_rdata.specs.Records.{Field, same_data}
 use Rattle.dns_rdata.specs.ZoneData.{data_fields}
-use Rattle.zone_types.specs.Version.{RecordSet}
+use Rattle.zone_model.specs.Version.{RecordSet}
 use Rattle.zone_versions.specs.DataIndex.{IsIndexed}
 use Rattle.zone_versions.proofs.Equality.{filter_map}
 use Rattle.zone_versions.proofs.sets.RecordSet.remove.Goals as goal

@@ -1,6 +1,6 @@
 use Rattle.std.proofs.Common.{◌∙◌, sym, ap}
 use Rattle.dns_name.specs.Names.{fold}
-use Rattle.zone_types.proofs.Folded.{fold-fold}
+use Rattle.zone_model.proofs.Folded.{fold-fold}
 use Rattle.zone_versions.proofs.sets.SetKey.new.Goals as goal
 
 -- folding a folded owner changes nothing

@@ -1,7 +1,7 @@
 use Rattle.std.proofs.Common.{◌≡◌, Ok, ap, sym, subst, ◌∙◌}
 use Rattle.dns_name.specs.Names.{fold}
-use Rattle.zone_types.specs.Version.{Version}
-use Rattle.zone_types.specs.Edits.{add, with_sets}
+use Rattle.zone_model.specs.Version.{Version}
+use Rattle.zone_model.specs.Edits.{add, with_sets}
 use Rattle.zone_versions.specs.Puts.{appended, put_with, last_set}
 use Rattle.zone_versions.specs.Sound.{IsSound}
 use Rattle.zone_versions.proofs.Putting.{appended_is}

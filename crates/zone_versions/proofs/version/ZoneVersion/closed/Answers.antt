@@ -1,7 +1,7 @@
 use Rattle.std.proofs.Common.{◌≡◌, not, ap, sym, subst, ◌∙◌}
 use Rattle.std.specs.List.{filter}
-use Rattle.zone_types.specs.Version.{Key, RecordSet, Version, IsValid}
-use Rattle.zone_types.specs.Edits.{with_sets, close}
+use Rattle.zone_model.specs.Version.{Key, RecordSet, Version, IsValid}
+use Rattle.zone_model.specs.Edits.{with_sets, close}
 use Rattle.zone_versions.specs.Sound.{IsSound}
 use Rattle.zone_versions.specs.Strays.{is_stray_at}
 use Rattle.zone_versions.proofs.Sound.{close_sound, valid_sound}

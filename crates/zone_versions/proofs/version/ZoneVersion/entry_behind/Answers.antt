@@ -2,7 +2,7 @@ use Rattle.std.proofs.Common.{ap, ◌∙◌}
 use Rattle.std.specs.Map.Iter.{deref_pair}
 use Rattle.std.specs.List.{find}
 use Rattle.std.specs.Ordering.{is_lt}
-use Rattle.zone_types.specs.Version.{Key, RecordSet, Version, key_cmp}
+use Rattle.zone_model.specs.Version.{Key, RecordSet, Version, key_cmp}
 use Rattle.zone_versions.proofs.Stops.{takes_head, head_of, first_of_range}
 use Rattle.zone_versions.proofs.version.ZoneVersion.entry_behind.Goals as goal
 

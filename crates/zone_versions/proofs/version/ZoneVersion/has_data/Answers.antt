@@ -3,7 +3,7 @@ use Rattle.std.specs.List.{list_any}
 use Rattle.dns_name.specs.Names.{fold}
 use Rattle.dns_rdata.specs.Records.{Field, same_data}
 use Rattle.dns_rdata.specs.ZoneData.{data_fields}
-use Rattle.zone_types.specs.Version.{Key, data_at}
+use Rattle.zone_model.specs.Version.{Key, data_at}
 use Rattle.zone_versions.specs.Puts.{items_at}
 use Rattle.zone_versions.proofs.version.ZoneVersion.has_data.Goals as goal
 

@@ -1,7 +1,7 @@
 use Rattle.std.proofs.Common.{◌≡◌, ap, sym, subst, ◌∙◌}
 use Rattle.std.specs.List.{list_any}
 use Rattle.std.specs.Map.{keys_of}
-use Rattle.zone_types.specs.Version.{Version}
+use Rattle.zone_model.specs.Version.{Version}
 use Rattle.zone_versions.specs.Sound.{IsSound}
 use Rattle.zone_versions.specs.Strays.{is_stray_at}
 use Rattle.zone_versions.proofs.Sound.{closed_sound}

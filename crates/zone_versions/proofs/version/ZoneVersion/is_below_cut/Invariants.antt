@@ -1,7 +1,7 @@
 use Rattle.std.proofs.Common.{◌≡◌, length}
 use Rattle.std.specs.List.{list_any}
 use Rattle.dns_name.specs.Names.{upwards}
-use Rattle.zone_types.specs.Version.{is_cut}
+use Rattle.zone_model.specs.Version.{is_cut}
 use Rattle.zone_versions.proofs.version.ZoneVersion.is_below_cut.Given as goal
 
 -- the names passed are no cuts

@@ -2,7 +2,7 @@ use Rattle.std.proofs.Common.{Some, option_map, ap, sym, ◌∙◌}
 use Rattle.std.specs.List.{find}
 use Rattle.std.specs.Ordering.{is_lt}
 use Rattle.dns_name.specs.Names.{fold}
-use Rattle.zone_types.specs.Version.{Key, RecordSet, key_cmp}
+use Rattle.zone_model.specs.Version.{Key, RecordSet, key_cmp}
 use Rattle.zone_versions.specs.Stops.{stop_of}
 use Rattle.zone_versions.proofs.Stops.{first_behind}
 use Rattle.zone_versions.proofs.version.ZoneVersion.next_stop.Goals as goal

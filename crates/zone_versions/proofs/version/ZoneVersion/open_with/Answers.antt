@@ -1,9 +1,9 @@
 use Rattle.std.proofs.Common.{◌≡◌, true, false, ap, sym, subst, ◌∙◌}
 use Rattle.dns_name.specs.Names.{fold}
-use Rattle.zone_types.specs.Version.{Version}
+use Rattle.zone_model.specs.Version.{Version}
 use Rattle.dns_name.specs.Names.{under}
-use Rattle.zone_types.specs.Classify.{opened_with}
-use Rattle.zone_types.specs.Edits.{has_data, with_sets}
+use Rattle.zone_model.specs.Classify.{opened_with}
+use Rattle.zone_model.specs.Edits.{has_data, with_sets}
 use Rattle.zone_versions.specs.Puts.{opened_by, put_with, opening_set, adds_alias}
 use Rattle.zone_versions.specs.Sound.{IsSound}
 use Rattle.zone_versions.proofs.Distinct.{opens_as_file}
