@@ -1,10 +1,10 @@
 -- The stop behind a key.
-use Rattle.std.proofs.Common.{◌≡◌, Bool, true, false, cond, ◌&&◌, if◌then◌else◌, List, [], ◌∷◌, map, refl, sym, ap, ◌∙◌, Ordering, Less, Equal, Greater, is_gt, is_lt, Option, Some, None, option_map}
+use Rattle.std.proofs.Common.{◌≡◌, Bool, true, false, cond, ◌&&◌, if◌then◌else◌, List, [], ◌∷◌, map, refl, sym, ap, ◌∙◌, Ordering, Less, Equal, Greater, is_gt, is_lt, is_le, Option, Some, None, option_map}
 use Rattle.std.specs.List.{find}
 use Rattle.std.specs.Ordering.{ordering_reverse}
 use Rattle.std.specs.Map.Iter.{TakesFirst}
 use Rattle.std.specs.BTreeMap.Range.{entries_between}
-use Rattle.std.specs.declared.ops.Bound.TheVariants.{Excluded, Unbounded}
+use Rattle.std.specs.declared.ops.Bound.TheVariants.{Included, Excluded, Unbounded}
 use Rattle.dns_name.specs.Names.{Name, fold, same_name, spelling_cmp}
 use Rattle.std.specs.Ordering.{ordering_then, nat_cmp}
 use Rattle.zone_model.specs.Version.{RecordSet, Key, Sets, Version, key_cmp}
@@ -53,6 +53,16 @@ first_of_range k (e ∷ es) = by (is_lt (key_cmp k e.0)) (first_of_range k es)
   where
     by : (b : Bool) → head_of (entries_between key_cmp (Excluded k) Unbounded es) ≡ find (λ (f : Key × RecordSet). is_lt (key_cmp k f.0)) es
         → head_of (cond (b && true) (e ∷ entries_between key_cmp (Excluded k) Unbounded es) (entries_between key_cmp (Excluded k) Unbounded es)) ≡ cond b (Some e) (find (λ (f : Key × RecordSet). is_lt (key_cmp k f.0)) es)
+    by true h = refl
+    by false h = h
+
+-- the same with the bound's key
+pub first_of_range_from : (k : Key) (es : Sets) → head_of (entries_between key_cmp (Included k) Unbounded es) ≡ find (λ (e : Key × RecordSet). is_le (key_cmp k e.0)) es
+first_of_range_from k [] = refl
+first_of_range_from k (e ∷ es) = by (is_le (key_cmp k e.0)) (first_of_range_from k es)
+  where
+    by : (b : Bool) → head_of (entries_between key_cmp (Included k) Unbounded es) ≡ find (λ (f : Key × RecordSet). is_le (key_cmp k f.0)) es
+        → head_of (cond (b && true) (e ∷ entries_between key_cmp (Included k) Unbounded es) (entries_between key_cmp (Included k) Unbounded es)) ≡ cond b (Some e) (find (λ (f : Key × RecordSet). is_le (key_cmp k f.0)) es)
     by true h = refl
     by false h = h
 

@@ -1,7 +1,7 @@
 -- An entry of a version as a walk shows it.
-use Rattle.std.specs.Prelude.{List, [], ◌∷◌, Option, Some, None, is_some, not}
+use Rattle.std.specs.Prelude.{List, [], ◌∷◌, Option, Some, None, is_some}
 use Rattle.std.specs.List.{find}
-use Rattle.std.specs.Ordering.{is_lt}
+use Rattle.std.specs.Ordering.{is_le}
 use Rattle.dns_name.specs.Names.{Name, fold}
 use Rattle.zone_model.specs.Version.{RecordSet, Key, Version, key_cmp}
 use Rattle.zone_model.specs.Answer.{highest_cut}
@@ -21,4 +21,4 @@ first_stop v = first_of (walk v)
 
 -- the first entry whose owner isn't before a name
 abbrev pub first_from : Version → Name → Option (Key × RecordSet)
-first_from v n = find (λ (e : Key × RecordSet). not (is_lt (key_cmp e.0 (fold n, 0)))) v.sets
+first_from v n = find (λ (e : Key × RecordSet). is_le (key_cmp (fold n, 0) e.0)) v.sets
