@@ -1,4 +1,3 @@
-mod Equality
 mod Cuts
 pub mod Conditions
 pub mod Putting
@@ -7,4 +6,3 @@ pub mod Closing
 mod Stops
 mod Distinct
 mod Sound
-mod Indexing

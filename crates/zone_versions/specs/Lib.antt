@@ -3,4 +3,3 @@ pub mod Puts
 pub mod Stops
 pub mod Strays
 pub mod Sound
-pub mod DataIndex

@@ -20,7 +20,6 @@ ghost use Rattle.dns_rdata.specs.Records.{same_data};
 ghost use Rattle.dns_rdata.specs.ZoneData.{data_fields};
 
 use crate::errors::EditError;
-use crate::sets::{RecordSet, SetKey};
 use crate::walk::WalkItem;
 use dns_name::{Class, KeyName, Labelled, NameRef, Rtype, StoredName, ToName, Ttl};
 use dns_rdata::{RecordData, StoredRecord, StoredRecordData};
@@ -29,6 +28,7 @@ use std::collections::BTreeMap;
 use std::collections::btree_map::Iter;
 use std::marker::Model;
 use std::ops::Bound;
+use zone_sets::{RecordSet, SetKey};
 
 /// One version of a zone (RFC 1034, 4.2): the apex as it was given, the class, and the record sets.
 #[derive(Drop)]

@@ -3,12 +3,12 @@ ghost use Rattle.std.specs.Prelude.{◌≡◌, map};
 ghost use Rattle.dns_rdata.specs.ZoneData.{data_fields};
 ghost use Rattle.zone_model.specs.Walk.{walk};
 
-use crate::sets::{RecordSet, SetKey};
 use crate::version::ZoneVersion;
 use dns_name::{KeyName, Rtype, Ttl};
 use dns_rdata::StoredRecordData;
 use std::collections::btree_map::Iter;
 use std::marker::Model;
+use zone_sets::{RecordSet, SetKey};
 
 /// One stop of a walk: a set with its owner and type.
 #[derive(Drop)]

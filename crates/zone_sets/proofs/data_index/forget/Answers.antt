@@ -1,6 +1,6 @@
 use Rattle.std.proofs.Common.{subst}
-use Rattle.zone_versions.specs.DataIndex.{IsIndexed}
-use Rattle.zone_versions.proofs.data_index.forget.Goals as goal
+use Rattle.zone_sets.specs.DataIndex.{IsIndexed}
+use Rattle.zone_sets.proofs.data_index.forget.Goals as goal
 
 -- The index was there.
 pub returns-in-Ok : goal.returns-in-Ok

@@ -3,7 +3,7 @@ ghost use Rattle.std.specs.Prelude.{◌≡◌, ◌++◌, ◌∷◌, [], OnOk, On
 ghost use Rattle.std.specs.List.{list_any};
 ghost use Rattle.dns_rdata.specs.Records.{Field, same_data};
 ghost use Rattle.dns_rdata.specs.ZoneData.{data_fields};
-ghost use Rattle.zone_versions.specs.DataIndex.{Indexes, IsIndexed};
+ghost use Rattle.zone_sets.specs.DataIndex.{Indexes, IsIndexed};
 
 use crate::data_key::DataKey;
 use dns_rdata::StoredRecordData;

@@ -9,7 +9,7 @@ use Rattle.dns_rdata.specs.Records.{Field, same_data}
 use Rattle.dns_rdata.specs.SameData.{same_data_equiv}
 use Rattle.dns_rdata.specs.DataOrder.{data_cmp}
 use Rattle.dns_rdata.specs.DataTies.{data_ties}
-use Rattle.zone_versions.specs.DataIndex.{Indexes}
+use Rattle.zone_sets.specs.DataIndex.{Indexes}
 
 -- an index of the same keys
 pub kept : (s n : BTreeSet (List Field)) → IsUnchanged s n → (items : List (List Field)) → Indexes items s → Indexes items n

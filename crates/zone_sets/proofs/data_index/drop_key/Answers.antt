@@ -1,5 +1,5 @@
-use Rattle.zone_versions.proofs.Indexing.{without_item}
-use Rattle.zone_versions.proofs.data_index.drop_key.Goals as goal
+use Rattle.zone_sets.proofs.Indexing.{without_item}
+use Rattle.zone_sets.proofs.data_index.drop_key.Goals as goal
 
 -- The key is gone, and no other.
 pub returns : goal.returns

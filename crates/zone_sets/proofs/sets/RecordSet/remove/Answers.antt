@@ -2,9 +2,9 @@ use Rattle.std.proofs.Common.{List, not, map, filter, ap, sym, subst, ◌∙◌}
 use Rattle.dns_rdata.specs.Records.{Field, same_data}
 use Rattle.dns_rdata.specs.ZoneData.{data_fields}
 use Rattle.zone_model.specs.Version.{RecordSet}
-use Rattle.zone_versions.specs.DataIndex.{IsIndexed}
-use Rattle.zone_versions.proofs.Equality.{filter_map}
-use Rattle.zone_versions.proofs.sets.RecordSet.remove.Goals as goal
+use Rattle.zone_sets.specs.DataIndex.{IsIndexed}
+use Rattle.zone_sets.proofs.Equality.{filter_map}
+use Rattle.zone_sets.proofs.sets.RecordSet.remove.Goals as goal
 
 -- The fields of what is left are what is left of the fields.
 pub returns : goal.returns

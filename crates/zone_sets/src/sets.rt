@@ -5,7 +5,7 @@ ghost use Rattle.dns_name.specs.Names.{fold};
 ghost use Rattle.dns_rdata.specs.Records.{same_data};
 ghost use Rattle.dns_rdata.specs.ZoneData.{data_fields};
 ghost use Rattle.zone_model.specs.Version.{key_cmp};
-ghost use Rattle.zone_versions.specs.DataIndex.{IsIndexed};
+ghost use Rattle.zone_sets.specs.DataIndex.{IsIndexed};
 
 use crate::data_index::{FEW, forget, is_noted, note_last};
 use crate::data_key::DataKey;
@@ -31,7 +31,7 @@ impl Model for RecordSet {
 
     ghost use Rattle.std.specs.Prelude.{map};
     ghost use Rattle.dns_rdata.specs.ZoneData.{data_fields};
-    ghost use Rattle.zone_versions.specs.DataIndex.{IsIndexed};
+    ghost use Rattle.zone_sets.specs.DataIndex.{IsIndexed};
 
     ghost view = { λ s. record { ttl = s.ttl; items = map data_fields s.items.items } };
 
@@ -40,11 +40,7 @@ impl Model for RecordSet {
 
 impl RecordSet {
     /// A set of one record's data.
-    pub(crate) fn of_one(
-        alloc: Global,
-        ttl: Ttl,
-        item: StoredRecordData,
-    ) -> Result<RecordSet, AllocError>
+    pub fn of_one(alloc: Global, ttl: Ttl, item: StoredRecordData) -> Result<RecordSet, AllocError>
         ensures { IfOk result (λ s. s ≡ record { ttl = ttl; items = data_fields item ∷ [] }) }
     {
         let mut items = Vec::new(alloc);
@@ -72,7 +68,7 @@ impl RecordSet {
 
     /// Whether equal data stand in the set (RFC 2181, 5).
     #[tactic(auto, using(crate::proofs::Equality::list_any_map))]
-    pub(crate) fn contains(&self, item: &StoredRecordData) -> bool
+    pub fn contains(&self, item: &StoredRecordData) -> bool
         ensures { result ≡ list_any (same_data (data_fields item.now)) self.now.items }
     {
         match &self.seen {
@@ -86,14 +82,14 @@ impl RecordSet {
 
     /// Whether data other than these stand in the set.
     #[tactic(auto, using(crate::proofs::Equality::list_any_map))]
-    pub(crate) fn has_others(&self, item: &StoredRecordData) -> bool
+    pub fn has_others(&self, item: &StoredRecordData) -> bool
         ensures { result ≡ list_any (λ d. not (same_data (data_fields item.now) d)) self.now.items }
     {
         has_others(&self.items, item)
     }
 
     /// Puts the data last, and this TTL in place of the set's.
-    pub(crate) fn append(
+    pub fn append(
         &mut self,
         alloc: Global,
         ttl: Ttl,
@@ -109,7 +105,7 @@ impl RecordSet {
 
     /// Takes the data equal to these out, and puts this TTL in place of the set's.
     #[tactic(auto, using(crate::proofs::Equality::filter_map))]
-    pub(crate) fn remove(&mut self, ttl: Ttl, item: &StoredRecordData)
+    pub fn remove(&mut self, ttl: Ttl, item: &StoredRecordData)
         ensures { self.new ≡ record { ttl = ttl; items = filter (λ d. not (same_data (data_fields item.now) d)) self.old.items } }
     {
         drop_equal(&mut self.items, item);
@@ -118,7 +114,7 @@ impl RecordSet {
     }
 
     /// Puts the lower of this TTL and the set's, and the data last, unless the set had equal data.
-    pub(crate) fn open_with(
+    pub fn open_with(
         &mut self,
         alloc: Global,
         ttl: Ttl,

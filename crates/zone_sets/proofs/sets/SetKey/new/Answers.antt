@@ -1,7 +1,7 @@
 use Rattle.std.proofs.Common.{◌∙◌, sym, ap}
 use Rattle.dns_name.specs.Names.{fold}
 use Rattle.zone_model.proofs.Folded.{fold-fold}
-use Rattle.zone_versions.proofs.sets.SetKey.new.Goals as goal
+use Rattle.zone_sets.proofs.sets.SetKey.new.Goals as goal
 
 -- folding a folded owner changes nothing
 pub invariant_of-result : goal.invariant_of-result

@@ -2,7 +2,7 @@ use Rattle.std.proofs.Common.{rules, not}
 use Rattle.std.proofs.lemmas.Fn.{filter_same}
 use Rattle.dns_rdata.specs.Records.{same_data}
 use Rattle.dns_rdata.specs.ZoneData.{data_fields}
-use Rattle.zone_versions.proofs.sets.drop_equal.Goals as goal
+use Rattle.zone_sets.proofs.sets.drop_equal.Goals as goal
 
 -- The closure answers by the data alone.
 pub returns : goal.returns
