@@ -1,0 +1,4 @@
+mod Existence
+mod Highest
+mod Enclosers
+mod FirstSets
