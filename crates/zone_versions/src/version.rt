@@ -15,7 +15,7 @@ ghost use Rattle.zone_versions.specs.Puts.{adds_alias, appended, without, with_s
 ghost use Rattle.std.specs.BTreeMap.{insert_entry};
 ghost use Rattle.std.specs.Map.{keys_of};
 ghost use Rattle.std.specs.Map.Iter.{deref_pair};
-ghost use Rattle.std.specs.Ordering.{is_lt};
+ghost use Rattle.std.specs.Ordering.{is_le, is_lt};
 ghost use Rattle.dns_rdata.specs.Records.{same_data};
 ghost use Rattle.dns_rdata.specs.ZoneData.{data_fields};
 
@@ -188,14 +188,20 @@ impl ZoneVersion {
             .next()
     }
 
+    /// The first entry that isn't before a key.
+    fn entry_from(&self, key: &SetKey) -> Option<(&SetKey, &RecordSet)>
+        ensures { option_map deref_pair result ≡ find (λ e. is_le (key_cmp key.now e.0)) self.now.sets }
+    {
+        self.sets
+            .range((Bound::Included(key), Bound::Unbounded))
+            .next()
+    }
+
     /// The first set whose owner isn't before a name in canonical order (RFC 4034, 6.1).
     pub fn first_from<N: Labelled>(&self, owner: &N) -> Option<(&SetKey, &RecordSet)>
         ensures { option_map deref_pair result ≡ first_from self.now (N.labels owner.now) }
     {
-        let key = SetKey::new(owner, Rtype::from_int(0));
-        self.sets
-            .range((Bound::Included(&key), Bound::Unbounded))
-            .next()
+        self.entry_from(&SetKey::new(owner, Rtype::from_int(0)))
     }
 
     /// The first stop behind an owner and type.
