@@ -1,20 +1,20 @@
 // How a zone opens.
 ghost use Rattle.std.specs.Prelude.{◌≡◌, ◌↔◌, [], true, false, Err, OnOk, OnErr, IfOk, is_some};
-ghost use Rattle.zone_types.specs.Version.{set_at, below_apex};
+ghost use Rattle.zone_model.specs.Version.{set_at, below_apex};
 ghost use Rattle.dns_name.specs.Names.{under};
-ghost use Rattle.zone_types.specs.Classify.{opened_with};
-ghost use Rattle.zone_types.specs.Edits as edits;
-ghost use Rattle.zone_store.specs.Puts.{adds_alias};
+ghost use Rattle.zone_model.specs.Classify.{opened_with};
+ghost use Rattle.zone_model.specs.Edits as edits;
+ghost use Rattle.zone_versions.specs.Puts.{adds_alias};
 
 use crate::apex::ZoneApex;
 use crate::errors::InsertError;
 use crate::read::ReadZone;
-use crate::version::ZoneVersion;
 use dns_name::{Class, Labelled, Rtype, StoredName, ToName};
 use dns_rdata::StoredRecord;
 use std::alloc::{AllocError, Global};
 use std::marker::Model;
 use std::sync::Arc;
+use zone_versions::ZoneVersion;
 
 /// The records that a zone opens with, put one by one. It is seen as the version that they make.
 #[derive(Drop)]
@@ -24,7 +24,7 @@ pub struct ZoneBuilder {
 }
 
 impl Model for ZoneBuilder {
-    ghost use Rattle.zone_types.specs.Version.{Version};
+    ghost use Rattle.zone_model.specs.Version.{Version};
 
     ghost Value = { Version };
 
