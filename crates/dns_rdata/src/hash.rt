@@ -1,7 +1,7 @@
 // What data give to a hash: equal data give the same, whatever the case of their names.
 ghost use Rattle.std.specs.Prelude.{◌≡◌, fold};
 ghost use Rattle.dns_name.specs.NameOrder.{name_hash};
-ghost use Rattle.rdata_types.specs.DataFields.{ds_fields};
+ghost use Rattle.rdata_types.specs.OctetFields.{ds_fields};
 ghost use Rattle.dns_rdata.specs.ZoneData.{fields_of};
 ghost use Rattle.dns_rdata.specs.DataHash.{fields_hash, zone_data_hash, same_zone_data_hash};
 
@@ -70,7 +70,7 @@ pub(crate) fn hash_name<N: Labelled, H: Hasher>(name: &N, state: &mut H)
 }
 
 /// The numbers and the digest as one piece.
-#[tactic(auto, unfolding(rdata_types::specs::DataFields::ds_head))]
+#[tactic(auto, unfolding(rdata_octets::specs::OctetFields::ds_head))]
 fn hash_digest<O: AsSlice<u8> + Drop, H: Hasher>(digest: &Ds<O>, state: &mut H)
     ensures { state.new ≡ fold H.write state.old (fields_hash (ds_fields digest.now)) }
 {
