@@ -1,4 +1,4 @@
-use Rattle.std.proofs.Common.{◌++◌, [], sym, ap, ◌∙◌, bytes_eq}
+use Rattle.std.proofs.Common.{◌++◌, [], sym, ap, ◌∙◌}
 use Rattle.dns_name.specs.Octets.{u16_octets}
 use Rattle.dns_name.specs.Names.{name_wire}
 use Rattle.rdata_octets.proofs.Fronts.{wrong_front}
