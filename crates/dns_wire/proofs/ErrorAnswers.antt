@@ -44,6 +44,18 @@ error_refused octets limit header old new questions CountOverflow begun small re
     absurd (omega (arith, out))
 error_refused octets limit header old new questions Memory begun small refused = tt
 
+-- an error answer has room where its header has
+pub error_fits : (limit rcode : ℕ) (request : List ℕ) → 12 ≤ limit → length (questions_in request) < 2 ^ 16
+    → fits limit (message_wire (error_answer limit request rcode)) ≡ true
+error_fits limit rcode request room small =
+    let start = message_wire (answer_with request 0 []) in
+    let fit = fitting_in limit request in
+    let begins : fits limit start ≡ true = grind (arith, nat_tests) in
+    let listed : with_questions start fit ≡ message_wire (answer_with request 0 fit) =
+    all_questions fit request 0 [] (omega (arith, fitting_few limit start (questions_in request))) in
+    let P : List ℕ → Type 0 = λ m. fits limit m ≡ true in
+    subst P listed (fitting_fits limit start (questions_in request) begins)
+
 -- the questions that fit, and the rcode behind them, are the error answer
 pub error_built : (request : List ℕ) (rcode limit : ℕ) (all : Bool) (old now new : Building) (questions : List Question)
     → old ≡ building (header_wire (answer_header (header_in request) 0) ++ replicate 8 0) limit
@@ -55,14 +67,12 @@ error_built request rcode limit all old now new questions begun asked small room
     let start = message_wire (answer_with request 0 []) in
     let fit = fitting_in limit request in
     let few : length (questions_in request) < 2 ^ 16 = rw asked at small in
-    let twelve : length start ≤ limit = rw begun at room in
-    let begins : fits limit start ≡ true = grind (arith, nat_tests) in
+    let twelve : 12 ≤ limit = rw begun at room in
     let whole = rw (begun, asked) at added in
     let listed : with_questions start fit ≡ message_wire (answer_with request 0 fit) =
     all_questions fit request 0 [] (omega (arith, fitting_few limit start (questions_in request))) in
-    let octets : now.octets ≡ message_wire (answer_with request 0 fit) = ap (λ (b : Building). b.octets) whole.0 ∙ listed in
-    let P : List ℕ → Type 0 = λ m. fits limit m ≡ true in (
-      subst P listed (fitting_fits limit start (questions_in request) begins),
+    let octets : now.octets ≡ message_wire (answer_with request 0 fit) = ap (λ (b : Building). b.octets) whole.0 ∙ listed in (
+      error_fits limit rcode request twelve few,
       headed ∙ ap (λ o. building (header_wire (answer_header (header_in request) (if all then rcode else 2)) ++ drop 4 o) now.limit) octets
           ∙ ap (λ (b : Building). building (message_wire (answer_with request (if all then rcode else 2) fit)) b.limit) whole.0
           ∙ ap (λ b. building (message_wire (answer_with request (if b then rcode else 2) fit)) limit) whole.1,
