@@ -1,0 +1,2 @@
+pub mod HmacOnLiterals
+pub mod KeyBlocks

@@ -1,0 +1,4 @@
+pub mod Hmac
+pub mod HmacState
+pub mod TsigKeys
+pub mod Keys
