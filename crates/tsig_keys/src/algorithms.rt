@@ -1,10 +1,13 @@
 // TSIG's algorithms, and their names (RFC 8945, 6).
-ghost use Rattle.std.specs.Prelude.{◌≡◌, ◌≤◌, IsTrue, length};
+ghost use Rattle.std.specs.Prelude.{◌≡◌, ◌≤◌, IsTrue, Some, length};
 ghost use Rattle.dns_name.specs.Names.{is_name, labels_in, name_wire};
 ghost use Rattle.tsig_keys.specs.Hmac.{native_len, block_len};
-ghost use Rattle.tsig_keys.specs.TsigKeys.{algorithm_name, algorithm_of, is_mac_len};
+ghost use Rattle.tsig_keys.specs.TsigKeys.{algorithm_name, algorithm_of, algorithm_text, is_mac_len, ParsesAlgorithm};
 
+use crate::errors::AlgorithmError;
 use dns_name::{KeyName, NameOctets, ToName};
+use std::fmt;
+use std::str::FromStr;
 
 /// TSIG's algorithms.
 #[derive(Clone, Copy, Debug, PartialEq, Eq, Hash)]
@@ -73,6 +76,52 @@ impl Algorithm {
             Algorithm::Sha1 | Algorithm::Sha256 => 64,
             Algorithm::Sha384 | Algorithm::Sha512 => 128,
         }
+    }
+}
+
+impl Algorithm {
+    /// The text of its name (RFC 8945, 6).
+    fn text(self) -> &'static str
+        ensures { result.now ≡ algorithm_text self }
+    {
+        match self {
+            Algorithm::Sha1 => "hmac-sha1",
+            Algorithm::Sha256 => "hmac-sha256",
+            Algorithm::Sha384 => "hmac-sha384",
+            Algorithm::Sha512 => "hmac-sha512",
+        }
+    }
+}
+
+/// The algorithm of one of the texts `hmac-sha1`, `hmac-sha256`, `hmac-sha384` and `hmac-sha512`, in lower case (RFC 8945, 6).
+impl FromStr for Algorithm {
+    type Err = AlgorithmError;
+
+    ghost from_str_gives = { ParsesAlgorithm };
+
+    fn from_str(s: &str) -> Result<Algorithm, AlgorithmError> {
+        if s == Algorithm::Sha1.text() {
+            return Ok(Algorithm::Sha1);
+        }
+        if s == Algorithm::Sha256.text() {
+            return Ok(Algorithm::Sha256);
+        }
+        if s == Algorithm::Sha384.text() {
+            return Ok(Algorithm::Sha384);
+        }
+        if s == Algorithm::Sha512.text() {
+            return Ok(Algorithm::Sha512);
+        }
+        Err(AlgorithmError)
+    }
+}
+
+impl fmt::Display for Algorithm {
+    ghost output = { λ a. Some (algorithm_text a) };
+
+    fn fmt<W: fmt::Write>(&self, f: &mut fmt::Formatter<W>) -> fmt::Result {
+        let text = self.text();
+        write!(f, "{text}")
     }
 }
 

@@ -1,14 +1,17 @@
-// Shared keys, and where a server finds them (RFC 8945, 1.2 and 5.2.1).
-ghost use Rattle.std.specs.Prelude.{◌≡◌, ℕ, List, [], Option, Some, None, take};
+// Shared keys (RFC 8945, 1.2).
+ghost use Rattle.std.specs.Prelude.{◌≡◌, ℕ, List, [], Option, Some, Ok, take, length, IfOk, IfErr};
 ghost use Rattle.dns_name.specs.Names.{name_text};
 ghost use Rattle.tsig_keys.specs.Hmac.{block_len, native_len};
 ghost use Rattle.tsig_keys.specs.HmacState.{HoldsHmac};
-ghost use Rattle.tsig_keys.specs.TsigKeys.{new_key, compose_len};
+ghost use Rattle.tsig_keys.specs.TsigKeys.{new_key, compose_len, key_debug};
+ghost use Rattle.tsig_keys.specs.KeySources.{RefusesKey};
 
 use crate::Algorithm;
 use crate::digests::{Hmac, block_of};
-use crate::errors::NewKeyError;
+use crate::errors::{GenerateKeyError, NewKeyError};
+use crate::sources::KeySource;
 use dns_name::{KeyName, Labelled, ToName};
+use std::alloc::Global;
 use std::convert::AsRef;
 use std::fmt;
 use std::marker::Model;
@@ -63,6 +66,29 @@ impl Key {
             min_mac_len,
             signing_len,
         })
+    }
+
+    /// A new key of the next octets of a source, as many as a whole MAC has, and these octets. The lengths are as for `new`, and
+    /// tested before the source is asked: `BadMinMacLen`, then `BadSigningLen`. `GenerationFailed` where the source failed.
+    pub fn generate<S: KeySource>(
+        algorithm: Algorithm,
+        name: KeyName,
+        min_mac_len: Option<usize>,
+        signing_len: Option<usize>,
+        source: &mut S,
+        alloc: Global,
+    ) -> Result<(Key, Vec<u8>), GenerateKeyError>
+        ensures len { IfOk result (λ made. length made.1.items ≡ native_len algorithm) }
+        ensures octets { IfOk result (λ made. S.Gives source.old made.1.items source.new) }
+        ensures steady { IfOk result (λ made. S.faults source.new ≡ S.faults source.old) }
+        ensures key { IfOk result (λ made. new_key algorithm made.1.items name min_mac_len signing_len ≡ Ok made.0) }
+        ensures refusal { IfErr result (λ e. RefusesKey S.Gives S.faults (new_key algorithm [] name min_mac_len signing_len) source.old e source.new) }
+    {
+        let mut key = Key::new(algorithm, &[], name, min_mac_len, signing_len)?;
+        let mut octets = vec![in alloc; 0; algorithm.native_len()]?;
+        source.fill(&mut octets)?;
+        key.block = block_of(algorithm, &octets);
+        Ok((key, octets))
     }
 
     /// The algorithm of its MACs.
@@ -140,6 +166,17 @@ impl fmt::Display for Key {
     }
 }
 
+/// The name and the algorithm; the secret isn't told.
+impl fmt::Debug for Key {
+    ghost debug_output = { λ k. Some (key_debug k.name k.algorithm) };
+
+    fn fmt<W: fmt::Write>(&self, f: &mut fmt::Formatter<W>) -> fmt::Result {
+        let name = &self.name;
+        let algorithm = self.algorithm;
+        write!(f, "Key {{ name: {name}, algorithm: {algorithm}, .. }}")
+    }
+}
+
 /// What a key is kept by: the key itself, or a pointer to it.
 pub trait KeyRef: AsRef<Key> + Drop {
     ghost use Rattle.std.specs.Prelude.{◌≡◌};
@@ -165,37 +202,5 @@ impl KeyRef for Key {
 
     fn key_ref(&self) -> &Key {
         self
-    }
-}
-
-/// The keys that a server knows: at most one for a name, in any case, and an algorithm (RFC 8945, 5.2.1).
-pub trait KeyStore {
-    ghost use Rattle.std.specs.Prelude.{◌≡◌, ℕ, List, Option, option_map};
-    ghost use Rattle.dns_name.specs.Names.{fold};
-    ghost use Rattle.tsig_keys.specs.TsigKeys.{TsigKey};
-    ghost use Rattle.tsig_keys.specs.declared.algorithms.Algorithm.{Algorithm};
-
-    type Key: KeyRef;
-
-    ghost key_of: { Self → List (List ℕ) → Algorithm → Option TsigKey };
-
-    /// The key of that name, ASCII case aside, and algorithm, if the store has it.
-    fn get_key(&self, name: &KeyName, algorithm: Algorithm) -> Option<Self::Key>
-        ensures { option_map Self.Key.the_key result ≡ key_of self.now (fold name.now) algorithm };
-}
-
-/// A store of one key.
-impl KeyStore for Key {
-    ghost use Rattle.tsig_keys.specs.Keys.{own_key};
-
-    type Key = Key;
-
-    ghost key_of = { own_key };
-
-    fn get_key(&self, name: &KeyName, algorithm: Algorithm) -> Option<Key> {
-        if algorithm == self.algorithm && name.name_eq(&self.name) {
-            return Some(self.duplicate());
-        }
-        None
     }
 }
