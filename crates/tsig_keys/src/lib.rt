@@ -15,6 +15,8 @@ mod sources;
 mod stores;
 #[cfg(test)]
 mod tests;
+#[cfg(test)]
+mod vector_tests;
 
 pub use algorithms::Algorithm;
 pub use digests::{Hmac, Mac};

@@ -1,7 +1,16 @@
-// Vectors from outside, and the texts of errors.
-use crate::{Algorithm, Hmac, Key, NewKeyError};
+// Texts of algorithms and errors, stores, and keys made of a source.
+use crate::{
+    Algorithm, AlgorithmError, FromRng, GenerateKeyError, Key, KeySource, KeyStore,
+    MemoryKeySource, NewKeyError,
+};
 use dns_name::{KeyName, NameOctets};
+use rand_core::SeedableRng;
+use rand_pcg::Pcg32;
+use std::alloc::Global;
+use std::collections::HashMap;
 use std::process::Abort;
+use std::str::FromStr;
+use std::sync::Arc;
 
 fn name<R: Abort>(rt: &R, wire: &[u8]) -> KeyName {
     let mut octets = NameOctets::new();
@@ -14,58 +23,219 @@ fn key<R: Abort>(rt: &R) -> Key {
     Key::new(Algorithm::Sha256, &[0, 1, 2], name, None, None).expect(rt, "a key")
 }
 
-/// RFC 2202, 3, case 1; RFC 4231, 4.2 and 4.7, whose key is longer than a block.
-const HI_THERE_SHA1: [u8; 20] = [
-    0xb6, 0x17, 0x31, 0x86, 0x55, 0x05, 0x72, 0x64, 0xe2, 0x8b, 0xc0, 0xb6, 0xfb, 0x37, 0x8c, 0x8e,
-    0xf1, 0x46, 0xbe, 0x00,
-];
+/// The octets from 0 on, so many of them.
+fn counted<R: Abort>(rt: &R, alloc: Global, len: u8) -> Vec<u8> {
+    let mut octets = Vec::new(alloc);
+    for octet in 0..len {
+        octets.push(octet).expect(rt, "memory");
+    }
+    octets
+}
 
-const HI_THERE_SHA256: [u8; 32] = [
-    0xb0, 0x34, 0x4c, 0x61, 0xd8, 0xdb, 0x38, 0x53, 0x5c, 0xa8, 0xaf, 0xce, 0xaf, 0x0b, 0xf1, 0x2b,
-    0x88, 0x1d, 0xc2, 0x00, 0xc9, 0x83, 0x3d, 0xa7, 0x26, 0xe9, 0x37, 0x6c, 0x2e, 0x32, 0xcf, 0xf7,
-];
+/// A source of octets from 0 on, so many of them.
+fn source<R: Abort>(rt: &R, alloc: Global, len: u8) -> MemoryKeySource {
+    MemoryKeySource::new(counted(rt, alloc, len))
+}
 
-const LONG_KEY_SHA256: [u8; 32] = [
-    0x60, 0xe4, 0x31, 0x59, 0x1e, 0xe0, 0xb6, 0x7f, 0x0d, 0x8a, 0x26, 0xaa, 0xcb, 0xf5, 0xb7, 0x7f,
-    0x8e, 0x0b, 0xc6, 0x21, 0x37, 0x28, 0xc5, 0x14, 0x05, 0x46, 0x04, 0x0f, 0x0e, 0xe3, 0x7f, 0x54,
-];
-
-#[test]
-fn hmac_of_rfc_2202(rt: HostRuntime) {
-    let mut mac = Hmac::new(Algorithm::Sha1, &[0x0b; 20]);
-    mac.update(b"Hi There");
-    assert_eq!(rt; mac.finish().as_slice(), HI_THERE_SHA1.as_slice());
+/// The refusal of lengths of a key of that algorithm, if there is one.
+fn refusal<R: Abort>(
+    rt: &R,
+    algorithm: Algorithm,
+    min_mac_len: Option<usize>,
+    signing_len: Option<usize>,
+) -> Option<NewKeyError> {
+    let root = name(rt, b"\0");
+    Key::new(algorithm, &[0], root, min_mac_len, signing_len).err()
 }
 
 #[test]
-fn hmac_of_rfc_4231(rt: HostRuntime) {
-    let mut mac = Hmac::new(Algorithm::Sha256, &[0x0b; 20]);
-    mac.update(b"Hi ");
-    mac.update(b"There");
-    assert_eq!(rt; mac.finish().as_slice(), HI_THERE_SHA256.as_slice());
+fn lengths_of_sha1(rt: HostRuntime) {
+    for (len, wanted) in [(9, false), (10, true), (20, true), (21, false)] {
+        let least = refusal(&rt, Algorithm::Sha1, Some(len), None);
+        assert_eq!(rt; least.is_none(), wanted);
+        let signing = refusal(&rt, Algorithm::Sha1, None, Some(len));
+        assert_eq!(rt; signing.is_none(), wanted);
+    }
 }
 
 #[test]
-fn hmac_by_a_long_key(rt: HostRuntime) {
-    let mut mac = Hmac::new(Algorithm::Sha256, &[0xaa; 131]);
-    mac.update(b"Test Using Larger Than Block-Size Key - Hash Key First");
-    assert_eq!(rt; mac.finish().as_slice(), LONG_KEY_SHA256.as_slice());
+fn lengths_of_sha256(rt: HostRuntime) {
+    for (len, wanted) in [(15, false), (16, true), (32, true), (33, false)] {
+        let least = refusal(&rt, Algorithm::Sha256, Some(len), None);
+        assert_eq!(rt; least.is_none(), wanted);
+        let signing = refusal(&rt, Algorithm::Sha256, None, Some(len));
+        assert_eq!(rt; signing.is_none(), wanted);
+    }
+    let both = refusal(&rt, Algorithm::Sha256, Some(15), Some(15));
+    assert_eq!(rt; both, Some(NewKeyError::BadMinMacLen));
+    let signing = refusal(&rt, Algorithm::Sha256, Some(16), Some(15));
+    assert_eq!(rt; signing, Some(NewKeyError::BadSigningLen));
 }
 
 #[test]
-fn short_macs(rt: HostRuntime) {
-    let root = name(&rt, b"\0");
-    let short = Key::new(Algorithm::Sha256, &[0], root, Some(15), None);
-    assert_eq!(rt; short.err(), Some(NewKeyError::BadMinMacLen));
+fn texts_of_algorithms(rt: HostRuntime) {
+    let sha1 = Algorithm::from_str("hmac-sha1");
+    assert_eq!(rt; sha1, Ok(Algorithm::Sha1));
+    let sha256 = Algorithm::from_str("hmac-sha256");
+    assert_eq!(rt; sha256, Ok(Algorithm::Sha256));
+    let sha384 = Algorithm::from_str("hmac-sha384");
+    assert_eq!(rt; sha384, Ok(Algorithm::Sha384));
+    let sha512 = Algorithm::from_str("hmac-sha512");
+    assert_eq!(rt; sha512, Ok(Algorithm::Sha512));
+    for text in [
+        "HMAC-SHA256",
+        "hmac-sha256.",
+        "hmac-sha25",
+        "hmac-sha224",
+        "",
+    ] {
+        let refused = Algorithm::from_str(text);
+        assert_eq!(rt; refused, Err(AlgorithmError));
+    }
+    let text = Algorithm::Sha384
+        .to_string(rt.alloc())
+        .expect(&rt, "memory");
+    assert_eq!(rt; text.as_str(), "hmac-sha384");
+}
+
+#[test]
+fn keys_of_a_source(rt: HostRuntime) {
+    let alloc = rt.alloc();
+    let mut source = source(&rt, alloc, 70);
+    let first = name(&rt, b"\x05first\0");
+    let made = Key::generate(Algorithm::Sha256, first, None, None, &mut source, alloc);
+    let (key, octets) = made.expect(&rt, "a key");
+    assert_eq!(rt; octets.as_slice(), counted(&rt, alloc, 32).as_slice());
+    let mut mac = key.hmac();
+    mac.update(b"text");
+    let same = Key::new(
+        Algorithm::Sha256,
+        octets.as_slice(),
+        name(&rt, b"\0"),
+        None,
+        None,
+    );
+    let mut other = same.expect(&rt, "a key").hmac();
+    other.update(b"text");
+    assert_eq!(rt; mac.finish().as_slice(), other.finish().as_slice());
+    let second = name(&rt, b"\x06second\0");
+    let made = Key::generate(Algorithm::Sha256, second, None, None, &mut source, alloc);
+    let (_, octets) = made.expect(&rt, "a key");
+    assert_eq!(rt; octets.len(), 32);
+    assert_eq!(rt; octets.first(), Some(&32));
+}
+
+#[test]
+fn failing_sources(rt: HostRuntime) {
+    let alloc = rt.alloc();
+    let mut short = source(&rt, alloc, 31);
+    let made = Key::generate(
+        Algorithm::Sha256,
+        name(&rt, b"\0"),
+        None,
+        None,
+        &mut short,
+        alloc,
+    );
+    assert_eq!(rt; made.err(), Some(GenerateKeyError::GenerationFailed));
+    let made = Key::generate(
+        Algorithm::Sha1,
+        name(&rt, b"\0"),
+        None,
+        None,
+        &mut short,
+        alloc,
+    );
+    let (_, octets) = made.expect(&rt, "a key");
+    assert_eq!(rt; octets.as_slice(), counted(&rt, alloc, 20).as_slice());
+    let mut none = source(&rt, alloc, 0);
+    let made = Key::generate(
+        Algorithm::Sha1,
+        name(&rt, b"\0"),
+        Some(9),
+        Some(9),
+        &mut none,
+        alloc,
+    );
+    assert_eq!(rt; made.err(), Some(GenerateKeyError::BadMinMacLen));
+    let made = Key::generate(
+        Algorithm::Sha1,
+        name(&rt, b"\0"),
+        None,
+        Some(21),
+        &mut none,
+        alloc,
+    );
+    assert_eq!(rt; made.err(), Some(GenerateKeyError::BadSigningLen));
+}
+
+#[test]
+fn keys_of_a_generator(rt: HostRuntime) {
+    let alloc = rt.alloc();
+    let mut octets = [0; 64];
+    let mut same = FromRng::new(Pcg32::seed_from_u64(7));
+    same.fill(&mut octets).ok().expect(&rt, "octets");
+    let mut source = FromRng::new(Pcg32::seed_from_u64(7));
+    let made = Key::generate(
+        Algorithm::Sha512,
+        name(&rt, b"\0"),
+        None,
+        None,
+        &mut source,
+        alloc,
+    );
+    let (_, made) = made.expect(&rt, "a key");
+    assert_eq!(rt; made.as_slice(), octets.as_slice());
+}
+
+/// A store that has the key under a name of these octets.
+fn store<R: Abort>(rt: &R, alloc: Global, wire: &[u8]) -> HashMap<(KeyName, Algorithm), Key> {
+    let mut store = HashMap::new(alloc);
+    let put = store.insert((name(rt, wire), Algorithm::Sha256), key(rt));
+    assert!(rt; put.is_ok());
+    store
+}
+
+#[test]
+fn keys_of_a_map(rt: HostRuntime) {
+    let store = store(&rt, rt.alloc(), b"\x03key\0");
+    let found = store.get_key(&name(&rt, b"\x03KEY\0"), Algorithm::Sha256);
+    assert!(rt; found.is_some());
+    let found = store.get_key(&name(&rt, b"\x03key\0"), Algorithm::Sha384);
+    assert!(rt; found.is_none());
+    let found = store.get_key(&name(&rt, b"\x03kez\0"), Algorithm::Sha256);
+    assert!(rt; found.is_none());
+    let shared = Arc::new(rt.alloc(), store).expect(&rt, "memory");
+    let found = shared.get_key(&name(&rt, b"\x03key\0"), Algorithm::Sha256);
+    assert!(rt; found.is_some());
+}
+
+#[test]
+fn a_key_under_another_name(rt: HostRuntime) {
+    let store = store(&rt, rt.alloc(), b"\x05other\0");
+    let found = store.get_key(&name(&rt, b"\x05other\0"), Algorithm::Sha256);
+    assert!(rt; found.is_none());
 }
 
 #[test]
 fn texts(rt: HostRuntime) {
     let alloc = rt.alloc();
+    let text = GenerateKeyError::GenerationFailed
+        .to_string(alloc)
+        .expect(&rt, "memory");
+    assert_eq!(rt; text.as_str(), "generating key failed");
     let text = NewKeyError::BadSigningLen
         .to_string(alloc)
         .expect(&rt, "memory");
     assert_eq!(rt; text.as_str(), "created signature length out of bounds");
+    let text = AlgorithmError.to_string(alloc).expect(&rt, "memory");
+    assert_eq!(rt; text.as_str(), "invalid algorithm");
     let text = key(&rt).to_string(alloc).expect(&rt, "memory");
     assert_eq!(rt; text.as_str(), "key");
+    let key = key(&rt);
+    let text = format!(in alloc; "{key:?}").expect(&rt, "memory");
+    assert_eq!(rt;
+        text.as_str(),
+        "Key { name: key, algorithm: hmac-sha256, .. }"
+    );
 }
