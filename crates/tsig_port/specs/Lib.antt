@@ -14,7 +14,9 @@ pub use Rattle.dns_wire.specs.Written
 pub use Rattle.dns_wire.specs.MessageRows
 pub use Rattle.tsig_keys.specs.Hmac
 pub use Rattle.tsig_keys.specs.HmacState
+pub use Rattle.tsig_keys.specs.TsigKeys
 pub use Rattle.tsig_keys.specs.Keys
+pub use Rattle.tsig_keys.specs.KeySources
 pub mod Tsig
 pub mod Received
 pub mod Signers

@@ -1,11 +1,11 @@
 -- TSIG (RFC 8945): the record, the octets that are digested, and the MAC.
-use Rattle.std.specs.Prelude.{ℕ, ◌+◌, ◌-◌, ◌*◌, ◌==◌, ◌&&◌, nat_lt, nat_le, Bool, List, [], ◌∷◌, ◌++◌, length, take, drop, slice_range, codes, nat_eq, Option, Some, None, Result, Ok, Err, unwrap_or, is_some, not, if◌then◌else◌}
+use Rattle.std.specs.Prelude.{ℕ, ◌+◌, ◌-◌, ◌==◌, ◌&&◌, nat_lt, nat_le, Bool, List, [], ◌∷◌, ◌++◌, length, take, drop, slice_range, nat_eq, Option, Some, None, is_some, if◌then◌else◌}
 use Rattle.std.specs.Option.{option_map_or}
 use Rattle.std.specs.List.{concat, starts_with}
 use Rattle.std.specs.Int.{abs_diff}
 use Rattle.dns_name.specs.Octets.{◌>>=◌, u16_octets, u32_octets, u48_octets, octets_at, u16_at, u48_at}
 use Rattle.dns_name.specs.Codes.{noerror, badtime, type_tsig, class_any}
-use Rattle.dns_name.specs.Names.{Name, name_wire, fold, same_name}
+use Rattle.dns_name.specs.Names.{Name, name_wire, fold}
 use Rattle.dns_name.specs.Compression.{name_at}
 use Rattle.dns_rdata.specs.Records.{Record}
 use Rattle.dns_rdata.specs.Records.Field.{Octets, DomainName}
