@@ -5,7 +5,7 @@ use Rattle.std.specs.List.{last_or}
 use Rattle.std.proofs.lemmas.List.{append-nil}
 use Rattle.tsig_port.specs.Tsig.{TsigKey, Tsig, with_len, answer_tsig}
 use Rattle.tsig_port.specs.HmacState.{HoldsHmac}
-use Rattle.tsig_port.specs.declared.digests.Hmac.{Hmac}
+use Rattle.tsig_keys.specs.declared.digests.Hmac.{Hmac}
 use Rattle.tsig_port.specs.Signers.{later_tsig}
 use Rattle.tsig_port.specs.States.{digested_before}
 

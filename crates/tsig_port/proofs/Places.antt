@@ -1,12 +1,10 @@
 -- Where the additional records of a message begin: behind its header.
-use Rattle.std.proofs.Common.{◌≡◌, ℕ, zero, suc, ◌+◌, ◌<◌, ◌≤◌, Bool, true, false, List, [], ◌∷◌, length, refl, sym, ap, arith, nat_le, Option, Some, None}
-use Rattle.std.specs.Prelude.{option_map, unwrap_or, option_and_then, slice_get, slice_range, if◌then◌else◌}
+use Rattle.std.proofs.Common.{◌≡◌, ℕ, zero, suc, ◌<◌, ◌≤◌, List, [], ◌∷◌, length, refl, sym, ap, arith, Option, Some, None}
+use Rattle.std.specs.Prelude.{option_and_then, slice_get, if◌then◌else◌}
 use Rattle.std.specs.List.{AllByRecursion}
-use Rattle.std.specs.Int.{w16, w32, from_be_bytes}
-use Rattle.dns_name.specs.Octets.{◌>>=◌, octets_at, u16_at, u32_at}
+use Rattle.dns_name.specs.Octets.{octets_at, u16_at, u32_at}
 use Rattle.dns_name.specs.Names.{Name}
-use Rattle.dns_name.specs.Compression.{Element, element_at, element_from, SpelledName, spelled, with_label, with_pointer, name_of, within_limits, name_at}
-use Rattle.dns_name.specs.Compression.Element.{Root, Label, Pointer}
+use Rattle.dns_name.specs.Compression.{element_from, SpelledName, spelled, name_of, within_limits, name_at}
 use Rattle.dns_rdata.specs.Heads.{RawRecord, raw_record_at}
 use Rattle.dns_wire.specs.Parse.{readings, reading_then, additional_start, section_readings, additional_readings}
 use Rattle.dns_wire.proofs.Places.{bound, held, record_ends, additional_behind}

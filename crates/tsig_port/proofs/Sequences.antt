@@ -9,7 +9,7 @@ use Rattle.dns_wire.specs.Numbers.{with_number}
 use Rattle.tsig_port.specs.Tsig.{TsigKey, Tsig, Signature, with_len, variables, timers, answer_input, is_signed, tsig_by, mac_in, without_tsig, signature_of, digested_message}
 use Rattle.tsig_port.specs.Tsig.Signature.{Signed}
 use Rattle.tsig_port.specs.HmacState.{HoldsHmac}
-use Rattle.tsig_port.specs.declared.digests.Hmac.{Hmac}
+use Rattle.tsig_keys.specs.declared.digests.Hmac.{Hmac}
 use Rattle.tsig_port.specs.declared.errors.ValidationError.{ValidationError}
 use Rattle.tsig_port.specs.Checked.{prior_mac, unsigned_since, signed_fault, answer_fault, fault_by, taken_message, taken_by}
 use Rattle.tsig_port.specs.Signers.{behind_message}

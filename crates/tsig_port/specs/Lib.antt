@@ -12,10 +12,12 @@ pub use Rattle.dns_wire.specs.Parse
 pub use Rattle.dns_wire.specs.Reply
 pub use Rattle.dns_wire.specs.Written
 pub use Rattle.dns_wire.specs.MessageRows
-pub mod Hmac
-pub mod HmacState
+pub use Rattle.tsig_keys.specs.Hmac
+pub use Rattle.tsig_keys.specs.HmacState
+pub use Rattle.tsig_keys.specs.TsigKeys
+pub use Rattle.tsig_keys.specs.Keys
+pub use Rattle.tsig_keys.specs.KeySources
 pub mod Tsig
-pub mod Keys
 pub mod Received
 pub mod Signers
 pub mod Signing

@@ -1,62 +1,19 @@
--- TSIG (RFC 8945): keys, the record, the octets that are digested, and the MAC.
-use Rattle.std.specs.Prelude.{ℕ, ◌+◌, ◌-◌, ◌*◌, ◌==◌, ◌&&◌, nat_lt, nat_le, Bool, List, [], ◌∷◌, ◌++◌, length, take, drop, slice_range, codes, nat_eq, Option, Some, None, Result, Ok, Err, unwrap_or, is_some, not, if◌then◌else◌}
+-- TSIG (RFC 8945): the record, the octets that are digested, and the MAC.
+use Rattle.std.specs.Prelude.{ℕ, ◌+◌, ◌-◌, ◌==◌, ◌&&◌, nat_lt, nat_le, Bool, List, [], ◌∷◌, ◌++◌, length, take, drop, slice_range, nat_eq, Option, Some, None, is_some, if◌then◌else◌}
 use Rattle.std.specs.Option.{option_map_or}
 use Rattle.std.specs.List.{concat, starts_with}
 use Rattle.std.specs.Int.{abs_diff}
 use Rattle.dns_name.specs.Octets.{◌>>=◌, u16_octets, u32_octets, u48_octets, octets_at, u16_at, u48_at}
 use Rattle.dns_name.specs.Codes.{noerror, badtime, type_tsig, class_any}
-use Rattle.dns_name.specs.Names.{Name, name_wire, fold, same_name}
+use Rattle.dns_name.specs.Names.{Name, name_wire, fold}
 use Rattle.dns_name.specs.Compression.{name_at}
 use Rattle.dns_rdata.specs.Records.{Record}
 use Rattle.dns_rdata.specs.Records.Field.{Octets, DomainName}
 use Rattle.dns_wire.specs.Wire.{id_in, arcount_in, with_additional}
 use Rattle.dns_wire.specs.Parse.{Parsed, parsed}
 use Rattle.dns_rdata.specs.Heads.{RawRecord}
-use Rattle.tsig_port.specs.Hmac.{hmac, native_len, block_key}
-use Rattle.tsig_port.specs.declared.errors.NewKeyError.{NewKeyError}
-use Rattle.tsig_port.specs.declared.errors.NewKeyError.TheVariants.{BadMinMacLen, BadSigningLen}
-use Rattle.tsig_port.specs.declared.Algorithm.{Algorithm}
-use Rattle.tsig_port.specs.declared.Algorithm.TheVariants.{Sha1, Sha256, Sha384, Sha512}
-
--- ---- algorithms and keys
-
--- the name of the algorithm (RFC 8945, 6)
-abbrev pub algorithm_name : Algorithm → Name
-algorithm_name Sha1 = codes "hmac-sha1" ∷ []
-algorithm_name Sha256 = codes "hmac-sha256" ∷ []
-algorithm_name Sha384 = codes "hmac-sha384" ∷ []
-algorithm_name Sha512 = codes "hmac-sha512" ∷ []
-
--- the algorithm of that name, in any case (RFC 8945, 6)
-abbrev pub algorithm_of : Name → Option Algorithm
-algorithm_of name =
-    if same_name name (algorithm_name Sha1) then Some Sha1
-    else if same_name name (algorithm_name Sha256) then Some Sha256
-    else if same_name name (algorithm_name Sha384) then Some Sha384
-    else if same_name name (algorithm_name Sha512) then Some Sha512
-    else None
-
--- whether a MAC may be that long: 10 octets, half the whole MAC, and no more than the whole (RFC 8945, 5.2.2.1)
-abbrev pub is_mac_len : Algorithm → ℕ → Bool
-is_mac_len algorithm n = nat_le 10 n && nat_le (native_len algorithm) (2 * n) && nat_le n (native_len algorithm)
-
--- a shared key (RFC 8945, 1.2): its MACs have signing_len octets, and those taken have at least min_mac_len
-pub record TsigKey : Type 0 where
-  pub name : Name
-  pub algorithm : Algorithm
-  pub secret : List ℕ
-  pub min_mac_len : ℕ
-  pub signing_len : ℕ
-
--- the key that is made of these parts, a length that isn't given being the whole MAC's. Its secret is filled up to a block, by
--- which the MACs are the same (RFC 2104, 2)
-abbrev pub new_key : Algorithm → List ℕ → Name → Option ℕ → Option ℕ → Result TsigKey NewKeyError
-new_key algorithm secret name min_mac_len signing_len =
-    let least = unwrap_or min_mac_len (native_len algorithm) in
-    let signing = unwrap_or signing_len (native_len algorithm) in
-    if not (is_mac_len algorithm least) then Err BadMinMacLen
-    else if not (is_mac_len algorithm signing) then Err BadSigningLen
-    else Ok (record { name = name; algorithm = algorithm; secret = block_key algorithm secret; min_mac_len = least; signing_len = signing })
+use Rattle.tsig_port.specs.Hmac.{hmac}
+pub use Rattle.tsig_keys.specs.TsigKeys.{algorithm_name, algorithm_of, is_mac_len, TsigKey, new_key, compose_len}
 
 -- ---- the record
 
@@ -82,10 +39,6 @@ tsig_wire t = name_wire t.algorithm ++ tsig_rest t
 -- the record of a TSIG: type 250, class ANY, TTL 0 (RFC 8945, 4.2)
 abbrev pub tsig_record : Name → Tsig → Record
 tsig_record owner t = record { owner = owner; rtype = type_tsig; class = class_any; ttl = 0; fields = DomainName t.algorithm ∷ Octets (tsig_rest t) ∷ [] }
-
--- how many octets the record of a key's TSIG takes (RFC 8945, 4.2)
-abbrev pub compose_len : TsigKey → ℕ
-compose_len key = length (name_wire key.name) + 10 + length (name_wire (algorithm_name key.algorithm)) + 16 + key.signing_len
 
 -- the data at place p (RFC 8945, 4.2)
 abbrev pub tsig_at : List ℕ → ℕ → Option (Tsig × ℕ)

@@ -8,16 +8,15 @@ ghost use Rattle.tsig_port.specs.Signers.{behind_message};
 ghost use Rattle.tsig_port.specs.States.{Answers, ClientStands, bare_fault};
 ghost use Rattle.tsig_port.specs.Tsig.{request_tsig, tsig_record, signature_of as signature_in_octets, digested_message};
 ghost use Rattle.tsig_port.specs.Tsig.Signature.{Signed};
-ghost use Rattle.tsig_port.specs.declared.Algorithm.{Algorithm};
+ghost use Rattle.tsig_keys.specs.declared.algorithms.Algorithm.{Algorithm};
 
-use crate::digests::Hmac;
 use crate::errors::{Time48, ValidationError};
-use crate::keys::{Key, KeyRef};
 use crate::rdata::ReadTsig;
-use crate::signature::{SignedBy, signature};
+use crate::signature::{SignedBy, signature, update_message, update_timers, update_variables};
 use crate::signing::{DEFAULT_FUDGE, chained, record_of, sign_first};
 use dns_name::{Rcode, ToName, TsigRcode};
 use dns_wire::{AdditionalBuilder, Message, MessageBuf, PushError};
+use tsig_keys::{Hmac, Key, KeyRef};
 
 /// The client's state between the answers to a signed request: the MAC of the next answer is under way.
 #[derive(Drop)]
@@ -146,11 +145,16 @@ fn answer_context(
     requires within { signed.now.start ≤ length received.now }
     ensures { (algorithm : Algorithm) (key before : List ℕ) → HoldsHmac context algorithm key before → HoldsHmac result algorithm key (before ++ digested_message signed.now.start signed.now.tsig.original_id received.now ++ behind_message first signed.now.owner signed.now.tsig) }
 {
-    context.update_message(received, signed.start, signed.tsig.original_id());
+    update_message(
+        &mut context,
+        received,
+        signed.start,
+        signed.tsig.original_id(),
+    );
     if first {
-        context.update_variables(&signed.owner, &signed.tsig);
+        update_variables(&mut context, &signed.owner, &signed.tsig);
     } else {
-        context.update_timers(&signed.tsig);
+        update_timers(&mut context, &signed.tsig);
     }
     context
 }

@@ -3,13 +3,13 @@ ghost use Rattle.std.specs.Prelude.{◌≡◌, ◌≤◌, ◌<◌, ◌++◌, len
 ghost use Rattle.dns_rdata.specs.Records.{record_wire};
 ghost use Rattle.tsig_port.specs.Tsig.{tsig_at, tsig_of, tsig_wire, tsig_record, within_fudge};
 
-use crate::digests::Mac;
 use crate::errors::Time48;
 use dns_name::{Class, KeyName, Labelled, ParseError, ParsedName, Rtype, parse_octets, parse_u16};
 use dns_rdata::{ComposeRecord, ParsedRecord};
 use std::alloc::AllocError;
 use std::convert::AsSlice;
 use std::marker::Model;
+use tsig_keys::Mac;
 
 /// The data of a TSIG record: at most 65,535 octets, the algorithm's name written out (RFC 8945, 4.2). `O` are octets, `N` is a
 /// name.

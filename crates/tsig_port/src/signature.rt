@@ -4,14 +4,14 @@ ghost use Rattle.tsig_port.specs.HmacState.{HoldsHmac};
 ghost use Rattle.tsig_port.specs.Received.{IsBehindHeader};
 ghost use Rattle.tsig_port.specs.Tsig.{signature_of, signature_by, tsig_of, digested_message, variables, timers, with_len};
 ghost use Rattle.tsig_port.specs.Tsig.Signature.{Malformed, Unsigned, Signed};
-ghost use Rattle.tsig_port.specs.declared.Algorithm.{Algorithm};
+ghost use Rattle.tsig_keys.specs.declared.algorithms.Algorithm.{Algorithm};
 
-use crate::digests::Hmac;
 use crate::rdata::{ReadTsig, Tsig};
 use dns_name::{Labelled, ParseError, ParsedName, Rtype};
 use dns_rdata::ParsedRecord;
 use dns_wire::Message;
 use std::convert::AsSlice;
+use tsig_keys::Hmac;
 
 /// The TSIG that is the last record of a message: where it begins, its owner and its data.
 #[derive(Drop)]
@@ -60,54 +60,55 @@ pub fn signature<'m>(message: &Message<'m>) -> Result<Option<SignedBy<'m>>, Pars
     }))
 }
 
-impl Hmac {
-    /// Takes a received message up to where its TSIG begins, as it was before it was signed: with the original id, and ARCOUNT one
-    /// less (RFC 8945, 4.3.2).
-    pub fn update_message(&mut self, message: &Message<'_>, start: usize, original_id: u16)
-        requires header { 12 ≤ start }
-        requires within { start ≤ length message.now }
-        ensures { (algorithm : Algorithm) (key text : List ℕ) → HoldsHmac self.old algorithm key text → HoldsHmac self.new algorithm key (text ++ digested_message start original_id message.now) }
-    {
-        self.update(&original_id.to_be_bytes());
-        let octets = message.as_slice();
-        self.update(&octets[2..10]);
-        let arcount = message.counts().arcount;
-        self.update(&arcount.saturating_sub(1).to_be_bytes());
-        self.update(&octets[12..start]);
-    }
+/// Takes a received message up to where its TSIG begins, as it was before it was signed: with the original id, and ARCOUNT one
+/// less (RFC 8945, 4.3.2).
+pub fn update_message(context: &mut Hmac, message: &Message<'_>, start: usize, original_id: u16)
+    requires header { 12 ≤ start }
+    requires within { start ≤ length message.now }
+    ensures { (algorithm : Algorithm) (key text : List ℕ) → HoldsHmac context.old algorithm key text → HoldsHmac context.new algorithm key (text ++ digested_message start original_id message.now) }
+{
+    context.update(&original_id.to_be_bytes());
+    let octets = message.as_slice();
+    context.update(&octets[2..10]);
+    let arcount = message.counts().arcount;
+    context.update(&arcount.saturating_sub(1).to_be_bytes());
+    context.update(&octets[12..start]);
+}
 
-    /// Takes the TSIG variables (RFC 8945, 4.3.3).
-    pub fn update_variables<M: Labelled, O: AsSlice<u8> + Drop, N: Labelled + Drop>(
-        &mut self,
-        owner: &M,
-        tsig: &Tsig<O, N>,
-    )
-        ensures { (algorithm : Algorithm) (key text : List ℕ) → HoldsHmac self.old algorithm key text → HoldsHmac self.new algorithm key (text ++ variables (M.labels owner.now) tsig.now) }
-    {
-        let owner = owner.to_canonical();
-        self.update(owner.as_slice());
-        self.update(&[0, 255, 0, 0, 0, 0]);
-        let algorithm = tsig.algorithm().to_canonical();
-        self.update(algorithm.as_slice());
-        self.update_timers(tsig);
-        self.update(&tsig.error().to_be_bytes());
-        self.update_counted(tsig.other());
-    }
+/// Takes the TSIG variables (RFC 8945, 4.3.3).
+pub fn update_variables<M: Labelled, O: AsSlice<u8> + Drop, N: Labelled + Drop>(
+    context: &mut Hmac,
+    owner: &M,
+    tsig: &Tsig<O, N>,
+)
+    ensures { (algorithm : Algorithm) (key text : List ℕ) → HoldsHmac context.old algorithm key text → HoldsHmac context.new algorithm key (text ++ variables (M.labels owner.now) tsig.now) }
+{
+    let owner = owner.to_canonical();
+    context.update(owner.as_slice());
+    context.update(&[0, 255, 0, 0, 0, 0]);
+    let algorithm = tsig.algorithm().to_canonical();
+    context.update(algorithm.as_slice());
+    update_timers(context, tsig);
+    context.update(&tsig.error().to_be_bytes());
+    update_counted(context, tsig.other());
+}
 
-    /// Takes the time signed and the fudge (RFC 8945, 5.3.1).
-    pub fn update_timers<O: AsSlice<u8> + Drop, N: Labelled + Drop>(&mut self, tsig: &Tsig<O, N>)
-        ensures { (algorithm : Algorithm) (key text : List ℕ) → HoldsHmac self.old algorithm key text → HoldsHmac self.new algorithm key (text ++ timers tsig.now) }
-    {
-        self.update(&tsig.time_signed().into_octets());
-        self.update(&tsig.fudge().to_be_bytes());
-    }
+/// Takes the time signed and the fudge (RFC 8945, 5.3.1).
+pub fn update_timers<O: AsSlice<u8> + Drop, N: Labelled + Drop>(
+    context: &mut Hmac,
+    tsig: &Tsig<O, N>,
+)
+    ensures { (algorithm : Algorithm) (key text : List ℕ) → HoldsHmac context.old algorithm key text → HoldsHmac context.new algorithm key (text ++ timers tsig.now) }
+{
+    context.update(&tsig.time_signed().into_octets());
+    context.update(&tsig.fudge().to_be_bytes());
+}
 
-    /// Takes octets behind their number in two octets, as a prior MAC (RFC 8945, 4.3.1 and 5.3.1).
-    pub fn update_counted(&mut self, octets: &[u8])
-        requires { length octets.now < 65536 }
-        ensures { (algorithm : Algorithm) (key text : List ℕ) → HoldsHmac self.old algorithm key text → HoldsHmac self.new algorithm key (text ++ with_len octets.now) }
-    {
-        self.update(&(octets.len() as u16).to_be_bytes());
-        self.update(octets);
-    }
+/// Takes octets behind their number in two octets, as a prior MAC (RFC 8945, 4.3.1 and 5.3.1).
+pub fn update_counted(context: &mut Hmac, octets: &[u8])
+    requires { length octets.now < 65536 }
+    ensures { (algorithm : Algorithm) (key text : List ℕ) → HoldsHmac context.old algorithm key text → HoldsHmac context.new algorithm key (text ++ with_len octets.now) }
+{
+    context.update(&(octets.len() as u16).to_be_bytes());
+    context.update(octets);
 }

@@ -4,11 +4,11 @@ ghost use Rattle.tsig_port.specs.HmacState.{HoldsHmac};
 ghost use Rattle.tsig_port.specs.Tsig.{blank_tsig, signing_mac, with_len};
 ghost use Rattle.tsig_port.specs.Signers.{first_tsig, later_tsig};
 
-use crate::digests::{Hmac, Mac};
 use crate::errors::Time48;
-use crate::keys::Key;
 use crate::rdata::{SigningTsig, Tsig, TsigRecord};
+use crate::signature::{update_counted, update_timers, update_variables};
 use dns_wire::AdditionalBuilder;
+use tsig_keys::{Hmac, Key, Mac};
 
 /// The fudge that a signer gives where none is asked for, in seconds (RFC 8945, 10).
 pub const DEFAULT_FUDGE: u16 = 300;
@@ -49,7 +49,7 @@ pub fn sign_first(
     let tsig = blank(key, message.header().id, now, fudge);
     let mut context = context;
     context.update(message.as_slice());
-    context.update_variables(key.name(), &tsig);
+    update_variables(&mut context, key.name(), &tsig);
     tsig.with_mac(sent_mac(key, context))
 }
 
@@ -66,7 +66,7 @@ pub fn sign_later(
     let tsig = blank(key, message.header().id, now, fudge);
     let mut context = context;
     context.update(message.as_slice());
-    context.update_timers(&tsig);
+    update_timers(&mut context, &tsig);
     tsig.with_mac(sent_mac(key, context))
 }
 
@@ -76,7 +76,7 @@ pub fn chained(key: &Key, mac: &[u8]) -> Hmac
     ensures { HoldsHmac result key.now.algorithm key.now.secret (with_len mac.now) }
 {
     let mut context = key.hmac();
-    context.update_counted(mac);
+    update_counted(&mut context, mac);
     context
 }
 

@@ -3,8 +3,8 @@ use Rattle.std.specs.Prelude.{◌≡◌, ℕ, List, map, Option, Some, None, unw
 use Rattle.dns_name.specs.Names.{Name}
 use Rattle.dns_wire.specs.Wire.{Question}
 use Rattle.tsig_port.specs.Tsig.{TsigKey}
-use Rattle.tsig_port.specs.declared.Algorithm.{Algorithm}
-use Rattle.tsig_port.specs.declared.Algorithm.TheVariants.{Sha1, Sha256, Sha384, Sha512}
+use Rattle.tsig_keys.specs.declared.algorithms.Algorithm.{Algorithm}
+use Rattle.tsig_keys.specs.declared.algorithms.Algorithm.TheVariants.{Sha1, Sha256, Sha384, Sha512}
 use Rattle.zone_model.specs.Offer.{Offer, Denial, Provider, offered}
 use Rattle.zone_model.specs.Offer.Denial.{UnknownZone as NoSuchZone, NotGranted}
 use Rattle.xfr_server.specs.declared.providers.Grant.{Grant}

@@ -5,9 +5,9 @@ use Rattle.std.specs.Option.{option_map_or}
 use Rattle.std.specs.Result.{result_ok}
 use Rattle.dns_name.specs.Names.{Name}
 use Rattle.dns_name.specs.Octets.{◌>>=◌}
-use Rattle.tsig_port.specs.declared.Algorithm.{Algorithm}
-use Rattle.tsig_port.specs.declared.Algorithm.TheVariants.{Sha1, Sha256, Sha384, Sha512}
-use Rattle.tsig_port.specs.declared.errors.NewKeyError.TheVariants.{BadMinMacLen, BadSigningLen}
+use Rattle.tsig_keys.specs.declared.algorithms.Algorithm.{Algorithm}
+use Rattle.tsig_keys.specs.declared.algorithms.Algorithm.TheVariants.{Sha1, Sha256, Sha384, Sha512}
+use Rattle.tsig_keys.specs.declared.errors.NewKeyError.TheVariants.{BadMinMacLen, BadSigningLen}
 use Rattle.tsig_port.specs.Hmac.{native_len, block_key}
 use Rattle.tsig_port.specs.Tsig.{TsigKey, new_key, is_mac_len}
 use Rattle.zone_script.specs.Script.{number_of, hex_of, name_field}

@@ -6,8 +6,8 @@ use Rattle.dns_name.specs.Compression.{name_in}
 use Rattle.dns_name.specs.Codes.{type_a, type_ns, type_soa}
 use Rattle.dns_rdata.specs.Records.{Record}
 use Rattle.dns_rdata.specs.Heads.{record_in}
-use Rattle.tsig_port.specs.declared.Algorithm.{Algorithm}
-use Rattle.tsig_port.specs.declared.Algorithm.TheVariants.{Sha1, Sha256, Sha384, Sha512}
+use Rattle.tsig_keys.specs.declared.algorithms.Algorithm.{Algorithm}
+use Rattle.tsig_keys.specs.declared.algorithms.Algorithm.TheVariants.{Sha1, Sha256, Sha384, Sha512}
 use Rattle.tsig_port.specs.Tsig.{TsigKey, new_key}
 use Rattle.zone_script.specs.Script.{Readers, hex_of, number_of}
 

@@ -10,8 +10,8 @@ use Rattle.tsig_port.specs.ServerCheck.{Keys, verdict}
 use Rattle.tsig_port.specs.ServerCheck.Verdict.{Accepted}
 use Rattle.tsig_port.specs.Keys.{same_algorithm, own_key}
 use Rattle.tsig_port.specs.Checked.{taken_message}
-use Rattle.tsig_port.specs.declared.Algorithm.{Algorithm}
-use Rattle.tsig_port.specs.declared.Algorithm.TheVariants.{Sha1, Sha256, Sha384, Sha512}
+use Rattle.tsig_keys.specs.declared.algorithms.Algorithm.{Algorithm}
+use Rattle.tsig_keys.specs.declared.algorithms.Algorithm.TheVariants.{Sha1, Sha256, Sha384, Sha512}
 use Rattle.tsig_port.proofs.SignedExchange.{request_accepted}
 use Rattle.dns_wire.specs.Wire.{Question}
 use Rattle.dns_wire.specs.Parse.{sole_question_in}

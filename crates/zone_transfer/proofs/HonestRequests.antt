@@ -16,8 +16,8 @@ use Rattle.tsig_port.specs.Tsig.Signature.{Signed}
 use Rattle.tsig_port.specs.Hmac.{native_len}
 use Rattle.tsig_port.specs.Checked.{taken_message, taken_by}
 use Rattle.tsig_port.specs.Signing.{IsKey, CanSign}
-use Rattle.tsig_port.specs.declared.Algorithm.{Algorithm}
-use Rattle.tsig_port.specs.declared.Algorithm.TheVariants.{Sha1, Sha256, Sha384, Sha512}
+use Rattle.tsig_keys.specs.declared.algorithms.Algorithm.{Algorithm}
+use Rattle.tsig_keys.specs.declared.algorithms.Algorithm.TheVariants.{Sha1, Sha256, Sha384, Sha512}
 use Rattle.tsig_port.proofs.SignatureReading.{signature_written}
 use Rattle.tsig_port.proofs.SignedExchange.{signer_tsig, signer_short, without_again, mac_read}
 use Rattle.zone_model.specs.Messages.{type_of}

@@ -22,7 +22,7 @@ returns g c =
     (c.reserve_bytes.ensures.transport ∙ c.with_new_metadata-request.ensures.transport) (c.reserve_bytes.ensures.now ∙ c.with_new_metadata-request.ensures.now)
     (c.reserve_bytes.ensures.metadata ∙ c.with_new_metadata-request.ensures.metadata) room in
     let found : option_map the_key known ≡ keys (fold key.name) key.algorithm =
-    c.get_key-known.ensures ∙ rw (c.name.ensures, c.algorithm.ensures, c.key-key.ensures) refl in
+    c.get_key-known.ensures.key ∙ rw (c.name.ensures, c.algorithm.ensures, c.key-key.ensures) refl in
     let P : Request _ → Type 0 = λ q. Gives (g.S.Service.Sends c.self.inside.next q) g.S.Stream.ReplyStream.LeftOf c.in_ok-call.field-0 in
     rw (← c.self.view_is)
     (call_gives the_key keys (g.S.Service.Sends c.self.inside.next) g.S.Stream.ReplyStream.LeftOf r known _ c.in_ok-call.field-0 c.requires.stands refl refl refl found (subst P asked c.in_ok-call.ensures))

@@ -1,0 +1,3 @@
+pub mod HmacOnLiterals
+pub mod KeyBlocks
+pub mod KeyLookups
