@@ -15,6 +15,9 @@ pub use Rattle.dns_wire.specs.MessageRows
 pub mod Hmac
 pub mod HmacState
 pub mod Tsig
+pub mod TsigParts
+pub mod TsigOrder
+pub mod TsigText
 pub mod Keys
 pub mod Received
 pub mod Signers
