@@ -17,6 +17,7 @@ pub mod HmacState
 pub mod Tsig
 pub mod TsigParts
 pub mod TsigOrder
+pub mod CanonicalTsig
 pub mod TsigText
 pub mod Keys
 pub mod Received

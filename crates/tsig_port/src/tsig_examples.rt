@@ -1,7 +1,8 @@
 // Worked examples of TSIG data, proved by computation: equality, order, and parts of the text.
 ghost use Rattle.std.specs.Prelude.{◌≡◌, ◌∷◌, [], codes, true, false, Some, None};
-ghost use Rattle.std.specs.declared.cmp.Ordering.TheVariants.{Less, Equal};
+ghost use Rattle.std.specs.declared.cmp.Ordering.TheVariants.{Less, Equal, Greater};
 ghost use Rattle.tsig_port.specs.TsigOrder.{same_tsig, tsig_cmp};
+ghost use Rattle.tsig_port.specs.CanonicalTsig.{canonical_tsig_cmp};
 ghost use Rattle.tsig_port.specs.TsigParts.{tsig_with, time_in};
 ghost use Rattle.tsig_port.specs.TsigText.{absolute_text, base64_text};
 
@@ -43,4 +44,13 @@ pub fn order()
     ensures id { tsig_cmp (tsig_with (codes "a" ∷ []) 1 2 (3 ∷ []) 4 5 (6 ∷ [])) (tsig_with (codes "a" ∷ []) 1 2 (3 ∷ []) 5 0 []) ≡ Less }
     ensures error { tsig_cmp (tsig_with (codes "a" ∷ []) 1 2 (3 ∷ []) 4 5 (6 ∷ [])) (tsig_with (codes "a" ∷ []) 1 2 (3 ∷ []) 4 6 []) ≡ Less }
     ensures other { tsig_cmp (tsig_with (codes "a" ∷ []) 1 2 (3 ∷ []) 4 5 (6 ∷ [])) (tsig_with (codes "a" ∷ []) 1 2 (3 ∷ []) 4 5 (7 ∷ [])) ≡ Less }
+{}
+
+/// Canonical order goes by the octets as they are sent, in which a length stands before its octets; the order of fields doesn't.
+pub fn canonical_order()
+    ensures upper { canonical_tsig_cmp (tsig_with (codes "a" ∷ []) 1 2 (3 ∷ []) 4 5 (6 ∷ [])) (tsig_with (codes "A" ∷ []) 1 2 (3 ∷ []) 4 5 (6 ∷ [])) ≡ Equal }
+    ensures longer_name { canonical_tsig_cmp (tsig_with (codes "b" ∷ []) 1 2 (3 ∷ []) 4 5 (6 ∷ [])) (tsig_with (codes "aa" ∷ []) 0 0 [] 0 0 []) ≡ Less }
+    ensures name_by_field { tsig_cmp (tsig_with (codes "b" ∷ []) 1 2 (3 ∷ []) 4 5 (6 ∷ [])) (tsig_with (codes "aa" ∷ []) 0 0 [] 0 0 []) ≡ Greater }
+    ensures longer_mac { canonical_tsig_cmp (tsig_with (codes "a" ∷ []) 1 2 (9 ∷ []) 4 5 (6 ∷ [])) (tsig_with (codes "a" ∷ []) 1 2 (3 ∷ 0 ∷ []) 0 0 []) ≡ Less }
+    ensures mac_by_field { tsig_cmp (tsig_with (codes "a" ∷ []) 1 2 (9 ∷ []) 4 5 (6 ∷ [])) (tsig_with (codes "a" ∷ []) 1 2 (3 ∷ 0 ∷ []) 0 0 []) ≡ Greater }
 {}
