@@ -28,7 +28,7 @@ behind Less p q r e = refl
 behind Equal p q r e = e refl
 behind Greater p q r e = refl
 
-tied : (h f : List ℕ) → cmp h f ≡ Equal → h ≡ f
+pub tied : (h f : List ℕ) → cmp h f ≡ Equal → h ≡ f
 tied h f e = (bytes_decides h f).0 (texts_ties h f ∙ ap is_eq e)
 
 -- parts that split, one behind the other, where the second ones need to split only behind equal first ones
