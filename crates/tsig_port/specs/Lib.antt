@@ -18,6 +18,10 @@ pub use Rattle.tsig_keys.specs.TsigKeys
 pub use Rattle.tsig_keys.specs.Keys
 pub use Rattle.tsig_keys.specs.KeySources
 pub mod Tsig
+pub mod TsigParts
+pub mod TsigOrder
+pub mod CanonicalTsig
+pub mod TsigText
 pub mod Received
 pub mod Signers
 pub mod Signing

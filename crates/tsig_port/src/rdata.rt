@@ -1,12 +1,18 @@
 // The data of a TSIG record, and the record (RFC 8945, 4.2).
 ghost use Rattle.std.specs.Prelude.{◌≡◌, ◌≤◌, ◌<◌, ◌++◌, length, IfOk, IfSome, OnOk, OnErr, Some, None, take};
 ghost use Rattle.dns_rdata.specs.Records.{record_wire};
+ghost use Rattle.dns_name.specs.Codes.{type_tsig};
 ghost use Rattle.tsig_port.specs.Tsig.{tsig_at, tsig_of, tsig_wire, tsig_record, within_fudge};
+ghost use Rattle.tsig_port.specs.TsigParts.{tsig_with, time_in};
 
 use crate::errors::Time48;
-use dns_name::{Class, KeyName, Labelled, ParseError, ParsedName, Rtype, parse_octets, parse_u16};
+use bytes::Bytes;
+use dns_name::{
+    Class, KeyName, Labelled, ParseError, ParsedName, Rtype, StoredName, parse_octets, parse_u16,
+};
 use dns_rdata::{ComposeRecord, ParsedRecord};
-use std::alloc::AllocError;
+use rdata_types::LongRecordData;
+use std::alloc::{AllocError, Global};
 use std::convert::AsSlice;
 use std::marker::Model;
 use tsig_keys::Mac;
@@ -27,6 +33,9 @@ pub struct Tsig<O: AsSlice<u8> + Drop, N: Labelled + Drop> {
 /// The data as they stand in a message.
 pub type ReadTsig<'m> = Tsig<&'m [u8], ParsedName<'m>>;
 
+/// The data in memory of their own.
+pub type StoredTsig = Tsig<Bytes, StoredName>;
+
 /// The data that a signer makes.
 pub type SigningTsig = Tsig<Mac, KeyName>;
 
@@ -43,6 +52,45 @@ impl<O: AsSlice<u8> + Drop, N: Labelled + Drop> Model for Tsig<O, N> {
 }
 
 impl<O: AsSlice<u8> + Drop, N: Labelled + Drop> Tsig<O, N> {
+    /// The data of these parts: the algorithm's name, when the message was signed, the fudge in seconds, the MAC, the id of the message when
+    /// it was signed, the error with 0 for none, and the other octets. Refused exactly where they have more than 65,535 octets, the
+    /// algorithm's name written out (RFC 8945, 4.2).
+    pub fn new(
+        algorithm: N,
+        time_signed: Time48,
+        fudge: u16,
+        mac: O,
+        original_id: u16,
+        error: u16,
+        other: O,
+    ) -> Result<Tsig<O, N>, LongRecordData>
+        ensures ok { IfOk result (λ t. t ≡ tsig_with (N.labels algorithm) time_signed fudge (O.items mac) original_id error (O.items other)) }
+        ensures fits { OnOk result (length (tsig_wire (tsig_with (N.labels algorithm) time_signed fudge (O.items mac) original_id error (O.items other))) < 65536) }
+        ensures err { OnErr result (65536 ≤ length (tsig_wire (tsig_with (N.labels algorithm) time_signed fudge (O.items mac) original_id error (O.items other)))) }
+    {
+        let most = 65519 - usize::from(algorithm.compose_len());
+        let mac_len = mac.as_slice().len();
+        if mac_len > most || other.as_slice().len() > most - mac_len {
+            return Err(LongRecordData);
+        }
+        Ok(Tsig {
+            algorithm,
+            time_signed,
+            fudge,
+            mac,
+            original_id,
+            error,
+            other,
+        })
+    }
+
+    /// The type: TSIG (RFC 8945, 4.1).
+    pub fn rtype(&self) -> Rtype
+        ensures { result ≡ type_tsig }
+    {
+        Rtype::TSIG
+    }
+
     /// The algorithm's name.
     pub fn algorithm(&self) -> &N
         ensures { N.labels result.now ≡ self.now.algorithm }
@@ -62,6 +110,20 @@ impl<O: AsSlice<u8> + Drop, N: Labelled + Drop> Tsig<O, N> {
         ensures { result ≡ self.now.fudge }
     {
         self.fudge
+    }
+
+    /// The MAC.
+    pub fn mac(&self) -> &O
+        ensures { O.items result.now ≡ self.now.mac }
+    {
+        &self.mac
+    }
+
+    /// The MAC alone.
+    pub fn into_mac(self) -> O
+        ensures { O.items result ≡ self.mac }
+    {
+        self.mac
     }
 
     /// The octets of the MAC.
@@ -94,6 +156,13 @@ impl<O: AsSlice<u8> + Drop, N: Labelled + Drop> Tsig<O, N> {
         self.other.as_slice()
     }
 
+    /// The server's time, which a BADTIME answer has as its other octets; None where those aren't six (RFC 8945, 5.2.3).
+    pub fn other_time(&self) -> Option<Time48>
+        ensures { result ≡ time_in self.now.other }
+    {
+        Time48::from_octets(self.other.as_slice())
+    }
+
     /// How many octets the data have, the algorithm's name written out.
     pub fn rdlen(&self) -> u16
         ensures { result ≡ length (tsig_wire self.now) }
@@ -122,6 +191,21 @@ impl<O: AsSlice<u8> + Drop, N: Labelled + Drop> Tsig<O, N> {
             out.truncate(start);
         }
         composed
+    }
+
+    /// The same data in memory of their own.
+    pub fn flatten(&self, alloc: Global) -> Result<StoredTsig, AllocError>
+        ensures { IfOk result (λ t. t ≡ self.now) }
+    {
+        Ok(Tsig {
+            algorithm: self.algorithm.to_stored(alloc)?,
+            time_signed: self.time_signed,
+            fudge: self.fudge,
+            mac: Bytes::copy_from_slice(alloc, self.mac.as_slice())?,
+            original_id: self.original_id,
+            error: self.error,
+            other: Bytes::copy_from_slice(alloc, self.other.as_slice())?,
+        })
     }
 
     /// The data at the end of `out`; without memory `out` may have some of them.
@@ -192,8 +276,8 @@ impl<'m> Tsig<&'m [u8], ParsedName<'m>> {
 }
 
 impl Tsig<Mac, KeyName> {
-    /// The data of these parts.
-    pub fn new(
+    /// The data of these parts, which always fit.
+    pub fn signing(
         algorithm: KeyName,
         time_signed: Time48,
         fudge: u16,

@@ -17,7 +17,7 @@ pub const DEFAULT_FUDGE: u16 = 300;
 pub fn blank(key: &Key, id: u16, now: Time48, fudge: u16) -> SigningTsig
     ensures { result ≡ blank_tsig key.now now fudge id 0 [] }
 {
-    Tsig::new(
+    Tsig::signing(
         key.algorithm().to_name(),
         now,
         fudge,
