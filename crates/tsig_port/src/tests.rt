@@ -11,19 +11,19 @@ const REQUEST_MAC: [u8; 32] = [
     0x26, 0x2e, 0x46, 0x1f, 0x38, 0xb7, 0x6b, 0x83, 0x3c, 0x64, 0xeb, 0x9e, 0x91, 0xa9, 0xbe, 0x01,
 ];
 
-fn name<R: Abort>(rt: &R, wire: &[u8]) -> KeyName {
+pub(crate) fn name<R: Abort>(rt: &R, wire: &[u8]) -> KeyName {
     let mut octets = NameOctets::new();
     octets.append(wire).expect(rt, "no more than 255 octets");
     KeyName::from_octets(octets).expect(rt, "a name")
 }
 
-fn key<R: Abort>(rt: &R) -> Key {
+pub(crate) fn key<R: Abort>(rt: &R) -> Key {
     let name = name(rt, b"\x03key\0");
     Key::new(Algorithm::Sha256, &[0, 1, 2], name, None, None).expect(rt, "a key")
 }
 
 /// A message with the question for the whole zone `example.`; a reply where `qr` is set.
-fn message<R: Abort>(rt: &R, alloc: Global, qr: bool) -> AdditionalBuilder {
+pub(crate) fn message<R: Abort>(rt: &R, alloc: Global, qr: bool) -> AdditionalBuilder {
     let mut builder = MessageBuilder::new(alloc).expect(rt, "memory");
     let mut header = Header::new(1000);
     header.qr = qr;

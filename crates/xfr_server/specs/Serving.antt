@@ -1,14 +1,13 @@
 -- What the services of a primary send in answer to a request.
 use Rattle.std.specs.Prelude.{◌≡◌, ℕ, ◌+◌, min, List, Option, Some, None, option_map, Result}
-use Rattle.dns_name.specs.Codes.{formerr}
 use Rattle.dns_name.specs.Names.{fold}
 use Rattle.tsig_port.specs.Tsig.{TsigKey, mac_in, compose_len}
 use Rattle.tsig_port.specs.Checked.{taken_message}
-use Rattle.tsig_port.specs.ServerCheck.{Keys, Verdict, verdict}
+use Rattle.tsig_port.specs.ServerCheck.{Keys, Verdict, verdict, reply_to}
 use Rattle.tsig_port.specs.ServerCheck.Verdict.{NoTsig, Accepted, Refused, BadTime}
 use Rattle.zone_model.specs.Offer.{Offer}
-use Rattle.xfr_server.specs.Items.{Sending, all_given}
-use Rattle.xfr_server.specs.Replying.{error_replies}
+use Rattle.xfr_server.specs.Items.{Sending, all_given, one_reply}
+use Rattle.xfr_server.specs.Replying.{built, error_replies}
 use Rattle.xfr_server.specs.Transfers.{transfer_mode, transfer_replies}
 use Rattle.xfr_server.specs.Signing.{Signer, signed_items}
 use Rattle.xfr_server.specs.declared.requests.Request.{Request}
@@ -68,12 +67,16 @@ pub record SendsSigned {M K : Type 0} (the_key : K → TsigKey) (keys : Keys) (N
   pub next : Next (accepted_request r key known) given
   pub signed : sent ≡ option_map (signed_items (signer_for r key) First None) given
 
+-- the one reply to a request that was refused for this, and None where even the request's questions and one TSIG pass 65,535 octets (RFC 8945, 5.2)
+abbrev pub refusal_sends : {M : Type 0} → Request M → Verdict → Option (List Sending)
+refusal_sends r found = option_map (λ reply. all_given (one_reply reply)) (built (reply_to found r.message r.message r.at))
+
 abbrev pub SendsBy : {M K : Type 0} → (K → TsigKey) → Keys → (Request (Option K) → Option (List Sending) → Type 0) → Request M → Option (List Sending) → Verdict → Type 0
 SendsBy the_key keys Next r sent NoTsig = Next (with_metadata r None) sent
 SendsBy the_key keys Next r sent (Accepted key) = SendsSigned the_key keys Next r key sent
-SendsBy the_key keys Next r sent (Refused error) = sent ≡ error_sends r.message formerr
-SendsBy the_key keys Next r sent (BadTime key) = sent ≡ error_sends r.message formerr
+SendsBy the_key keys Next r sent (Refused error) = sent ≡ refusal_sends r (Refused error)
+SendsBy the_key keys Next r sent (BadTime key) = sent ≡ refusal_sends r (BadTime key)
 
--- unsigned requests are handed on, accepted ones too and their replies signed, and a refused one is a FORMERR
+-- unsigned requests are handed on, accepted ones too and their replies signed, and a refused one is answered with its error
 abbrev pub SendsChecked : {M K : Type 0} → (K → TsigKey) → Keys → (Request (Option K) → Option (List Sending) → Type 0) → Request M → Option (List Sending) → Type 0
 SendsChecked the_key keys Next r sent = SendsBy the_key keys Next r sent (verdict keys r.at r.message)

@@ -12,7 +12,6 @@ ghost use Rattle.xfr_server.specs.declared.signing.Signing.{Signing as SigningOf
 use crate::replies;
 use crate::requests::Request;
 use crate::services::{CallResult, ReplyStream, Service, ServiceError, ServiceFeedback};
-use dns_name::Rcode;
 use dns_wire::{AdditionalBuilder, MessageBuf, PushError};
 use std::alloc::Global;
 use std::marker::Model;
@@ -241,8 +240,8 @@ where
                 Ok(TsigStream::Unsigned(self.next.call(alloc, request)?))
             }
             Ok(Some(sequence)) => self.call_signed(alloc, request, received, sequence),
-            Err(_) => {
-                let reply = replies::error_reply(alloc, &received, Rcode::FORMERR)?;
+            Err(refusal) => {
+                let reply = replies::refusal_reply(alloc, refusal, &received)?;
                 Ok(TsigStream::Refused(Some(reply)))
             }
         }

@@ -9,7 +9,7 @@ use dns_rdata::{A, Ns, Record, Soa, StoredRecord, StoredRecordData, ZoneRecordDa
 use dns_wire::{AdditionalBuilder, Header, MessageBuf, MessageBuilder, Question};
 use std::alloc::Global;
 use std::process::Abort;
-use tsig_port::{Algorithm, ClientSequence, Key, Time48};
+use tsig_port::{Algorithm, ClientSequence, Key, Time48, ValidationError};
 use zone_store::{ReadZone, WriteZone, ZoneApex};
 
 type Primary = PrimaryStack<RefuseSvc, HistoryProvider, Key>;
@@ -187,6 +187,25 @@ fn unsigned_request_is_refused_without_tsig(rt: HostRuntime) {
     assert_eq!(rt; reply.len(), 25);
     assert!(rt; reply[..12] == [3, 232, 128, 5, 0, 1, 0, 0, 0, 0, 0, 0]);
     assert!(rt; reply[12..] == question_octets(1)[..]);
+}
+
+#[test]
+fn unknown_key_is_told_so(rt: HostRuntime) {
+    let alloc = rt.alloc();
+    let mut question = axfr_question(&rt, alloc, Class::IN);
+    let name = stored(&rt, alloc, NS_EXAMPLE).to_key_name();
+    let other = Key::new(Algorithm::Sha256, &[0, 1, 2], name, None, None).expect(&rt, "a key");
+    let signed = ClientSequence::request(other, &mut question, at());
+    let mut client = signed.expect(&rt, "a signature");
+    let primary = primary(&rt, alloc, true);
+    let items = items(&rt, alloc, &primary, question.finish());
+    let reply = only_reply(&rt, alloc, items);
+    assert_eq!(rt; reply.len(), 25 + 51);
+    assert!(rt; reply[..12] == [3, 232, 128, 9, 0, 1, 0, 0, 0, 0, 0, 1]);
+    assert!(rt; reply[68..] == [0, 0, 3, 232, 0, 17, 0, 0]);
+    let mut message = MessageBuf::from_octets(reply).expect(&rt, "a header");
+    let taken = client.answer(&mut message, at());
+    assert_eq!(rt; taken, Err(ValidationError::ServerBadKey));
 }
 
 #[test]

@@ -99,7 +99,7 @@ fn words_of_no_form(rt: HostRuntime) {
 
 #[test]
 fn fudge_of_300_seconds(rt: HostRuntime) {
-    let refused = b"refused tsig server-unsigned\n".as_slice();
+    let refused = b"refused tsig server-bad-time 1000 1301\n".as_slice();
     for (at, status, output) in [
         (b"at 1300 1000\n".as_slice(), Status::Done, REPORT),
         (b"at 1301 1000\n".as_slice(), Status::Refused, refused),
