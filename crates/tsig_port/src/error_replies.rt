@@ -13,7 +13,7 @@ ghost use Rattle.tsig_port.specs.Tsig.{badtime_tsig as badtime_tsig_of, blank_ts
 use crate::errors::Time48;
 use crate::rdata::{SigningTsig, Tsig, TsigRecord};
 use crate::server::ServerError;
-use crate::signature::{SignedBy, signature};
+use crate::signature::{SignedBy, signature, update_variables};
 use crate::signing::{record_of, sent_mac};
 use dns_name::{Labelled, Rcode, TsigRcode};
 use dns_wire::{AdditionalBuilder, Message, MessageBuilder, PushError};
@@ -113,7 +113,7 @@ fn unsigned_record(signed: &SignedBy<'_>, received_id: u16, error: TsigRcode) ->
     ensures tsig { result.tsig ≡ record signed.now.tsig { mac = []; original_id = received_id; error = error; other = [] } }
 {
     let tsig = &signed.tsig;
-    let unsigned = Tsig::new(
+    let unsigned = Tsig::signing(
         tsig.algorithm().to_key_name(),
         tsig.time_signed(),
         tsig.fudge(),
@@ -155,7 +155,7 @@ fn badtime_tsig(
     let tsig = blank_badtime(key, reply.header().id, time_signed, fudge, now);
     let mut context = context;
     context.update(reply.as_slice());
-    context.update_variables(key.name(), &tsig);
+    update_variables(&mut context, key.name(), &tsig);
     tsig.with_mac(sent_mac(key, context))
 }
 
@@ -163,7 +163,7 @@ fn badtime_tsig(
 fn blank_badtime(key: &Key, id: u16, time_signed: Time48, fudge: u16, now: Time48) -> SigningTsig
     ensures { result ≡ blank_tsig key.now time_signed fudge id badtime (u48_octets now) }
 {
-    Tsig::new(
+    Tsig::signing(
         key.algorithm().to_name(),
         time_signed,
         fudge,
