@@ -32,19 +32,6 @@ const NS_IN_CAPITALS: [u8; 31] =
 const DS: [u8; 28] =
     *b"\x07example\x00\x00\x2b\x00\x01\x00\x00\x0e\x10\x00\x09\xec\x45\x05\x01Abcde";
 
-/// Records in their order: by owner, then by class, by type and by data.
-const IN_ORDER: [&[u8]; 9] = [
-    b"\x07example\x00\x00\x02\x00\x01\x00\x00\x00\x00\x00\x04\x02ns\x00",
-    b"\x07EXAMPLE\x00\x00\x10\x00\x01\x00\x00\x00\x00\x00\x02\x01a",
-    b"\x07example\x00\x00\x10\x00\x01\x00\x00\x00\x00\x00\x03\x02Aa",
-    b"\x07example\x00\x00\x10\x00\x01\x00\x00\x00\x00\x00\x03\x02aa",
-    b"\x07example\x00\x00\x01\x00\x03\x00\x00\x00\x00\x00\x04\xc0\x00\x02\x01",
-    b"\x01a\x07example\x00\x00\x01\x00\x01\x00\x00\x00\x09\x00\x04\xc0\x00\x02\x02",
-    b"\x01Z\x01a\x07example\x00\x00\x01\x00\x01\x00\x00\x00\x00\x00\x04\xc0\x00\x02\x01",
-    b"\x04zABC\x01a\x07EXAMPLE\x00\x00\x01\x00\x01\x00\x00\x00\x00\x00\x04\xc0\x00\x02\x01",
-    b"\x01z\x07example\x00\x00\x01\x00\x01\x00\x00\x00\x00\x00\x04\xc0\x00\x02\x01",
-];
-
 type LentData<'a> = ZoneRecordData<&'a [u8], NameRef<'a>>;
 
 fn name(octets: &[u8]) -> Result<NameRef<'_>, Fail> {
@@ -104,18 +91,6 @@ fn hash_of<T: Hash>(value: &T) -> u64 {
     let mut state = DefaultHasher::new();
     value.hash(&mut state);
     state.finish()
-}
-
-/// Asserts that the first record comes before the second one, and isn't equal to it.
-fn comes_before<R: Abort>(rt: &R, first: &[u8], second: &[u8]) {
-    let first = read(rt, first);
-    let second = read(rt, second);
-    let order = first.cmp(&second);
-    assert!(rt; order == Ordering::Less);
-    let turned = second.cmp(&first);
-    assert!(rt; turned == Ordering::Greater);
-    let equal = first == second;
-    assert!(rt; !equal);
 }
 
 #[test]
@@ -219,17 +194,6 @@ fn records_are_equal_in_any_case(rt: HostRuntime) {
     assert!(rt; equal);
     let other = hash_of(&stored);
     assert_eq!(rt; hash, other);
-}
-
-#[test]
-fn records_are_ordered(rt: HostRuntime) {
-    let mut before: Option<&[u8]> = None;
-    for octets in IN_ORDER {
-        if let Some(first) = before {
-            comes_before(&rt, first, octets);
-        }
-        before = Some(octets);
-    }
 }
 
 #[test]

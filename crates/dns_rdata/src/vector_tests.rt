@@ -1,4 +1,4 @@
-// Records as dnspython makes them, and record data that are damaged.
+// Records as dnspython makes them, record data that are damaged, and records in their order.
 
 use crate::{
     ComposeRecord, Ds, LongRecordData, ParsedRecord, ReadRecord, Txt, UnknownRecordData,
@@ -6,6 +6,7 @@ use crate::{
 };
 use dns_name::{Labelled, ParsedName, Rtype};
 use std::alloc::Global;
+use std::cmp::Ordering;
 use std::process::Abort;
 
 /// What tools/record_vectors.py prints: in each line a type, its number in hexadecimal digits, and a record of that type.
@@ -90,6 +91,23 @@ const TAKEN: &str = "\
 0021:00000000000000\n\
 002b:00000000\n\
 ff00:\n\
+";
+
+/// Records in their order: by owner (the names of RFC 4034, 6.1), then by class, by type and by data.
+const IN_ORDER: &str = "\
+076578616d706c650000020001000000000004026e7300\n\
+074558414d504c4500001000010000000000020161\n\
+076578616d706c650000100001000000000003024161\n\
+076578616d706c650000100001000000000003026161\n\
+076578616d706c650000010003000000000004c0000201\n\
+0161076578616d706c650000010001000000090004c0000202\n\
+08796c6a6b6a6c6a6b0161076578616d706c650000010001000000000004c0000201\n\
+015a0161076578616d706c650000010001000000000004c0000201\n\
+047a4142430161074558414d504c450000010001000000000004c0000201\n\
+017a076578616d706c650000010001000000000004c0000201\n\
+0101017a076578616d706c650000010001000000000004c0000201\n\
+012a017a076578616d706c650000010001000000000004c0000201\n\
+01c8017a076578616d706c650000010001000000000004c0000201\n\
 ";
 
 /// What a hexadecimal digit says; 0 for any other octet.
@@ -457,6 +475,31 @@ fn data_that_are_refused(rt: HostRuntime) {
 fn data_that_are_taken(rt: HostRuntime) {
     for row in TAKEN.trim_end().split('\n') {
         reads_row(&rt, rt.alloc(), row, true);
+    }
+}
+
+/// Asserts that the first record comes before the second one, and isn't equal to it.
+fn comes_before<R: Abort>(rt: &R, alloc: Global, first: &str, second: &str) {
+    let octets = hex(rt, alloc, first);
+    let others = hex(rt, alloc, second);
+    let before = read_record(rt, octets.as_slice());
+    let behind = read_record(rt, others.as_slice());
+    let order = before.cmp(&behind);
+    assert!(rt; order == Ordering::Less, "{second}");
+    let turned = behind.cmp(&before);
+    assert!(rt; turned == Ordering::Greater, "{second}");
+    let equal = before == behind;
+    assert!(rt; !equal, "{second}");
+}
+
+#[test]
+fn records_are_ordered(rt: HostRuntime) {
+    let mut before = "";
+    for row in IN_ORDER.trim_end().split('\n') {
+        if !before.is_empty() {
+            comes_before(&rt, rt.alloc(), before, row);
+        }
+        before = row;
     }
 }
 
