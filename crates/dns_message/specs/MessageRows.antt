@@ -25,6 +25,12 @@ axfr_query = query 252 []
 abbrev pub ixfr_query : Message
 ixfr_query = query 251 (soa 1 ∷ [])
 
+-- three questions for SOA records: of the root, of `example.`, and of the root again
+abbrev pub three_questions : Message
+three_questions = record axfr_query {
+  questions = record { qname = []; qtype = 6; qclass = 1 } ∷ record { qname = example; qtype = 6; qclass = 1 } ∷ record { qname = []; qtype = 6; qclass = 1 } ∷ [];
+}
+
 -- a reply with these answer records
 abbrev pub reply : List Record → Message
 reply answers = record {

@@ -1,8 +1,8 @@
 // Messages as they were received (RFC 1035, 4.1).
 
-ghost use Rattle.std.specs.Prelude.{◌≡◌, ◌≢◌, ◌↔◌, ◌^◌, ◌<◌, ◌≤◌, length, IsTrue, IfOk, OnOk, OnErr, Some, None};
+ghost use Rattle.std.specs.Prelude.{◌≡◌, ◌≢◌, ◌↔◌, ◌^◌, ◌<◌, ◌≤◌, ◌++◌, drop, length, IsTrue, IfOk, OnOk, OnErr, Some, None};
 ghost use Rattle.dns_name.specs.Codes.{noerror};
-ghost use Rattle.dns_message.specs.Wire.{header_in, qdcount_in, without_last_additional};
+ghost use Rattle.dns_message.specs.Wire.{header_in, header_wire, qdcount_in, without_last_additional};
 ghost use Rattle.dns_message.specs.Numbers.{counts_in, with_number};
 ghost use Rattle.dns_message.specs.Reads.{ReadsAs};
 ghost use Rattle.dns_message.specs.Parse.{Parsed, parsed, question_at, readings, sole_question_in, qtype_in, answers_start, authority_start, additional_start, message_end, answer_readings, authority_readings, additional_readings};
@@ -350,6 +350,15 @@ impl MessageBuf {
         ensures { self.new ≡ with_number 0 self.old id }
     {
         set_number(&mut self.octets, 0, id);
+    }
+
+    /// Writes id and flags, the first four octets; counts and items stay as they were.
+    pub fn set_header(&mut self, header: Header)
+        ensures after { self.new ≡ header_wire header ++ drop 4 self.old }
+        ensures read { header_in self.new ≡ header }
+    {
+        set_number(&mut self.octets, 0, header.id);
+        set_number(&mut self.octets, 2, header.to_word());
     }
 
     /// ARCOUNT one less, and nothing where it is 0. No octet is cut off: what stands behind the last counted item isn't read.

@@ -1,7 +1,7 @@
 // Messages read: octets that aren't messages, sections and where they end.
 
 use crate::{Message, MessageBuf, RecordSection};
-use dns_name::{Labelled, Rtype};
+use dns_name::{Labelled, Rcode, Rtype};
 use dns_rdata::ParsedRecord;
 use std::alloc::Global;
 use std::process::Abort;
@@ -70,4 +70,20 @@ fn octets_behind_are_unread(rt: HostRuntime) {
     assert_eq!(rt; message.as_slice().len(), 37);
     let end = message.end().expect(&rt, "a message");
     assert_eq!(rt; end, 35);
+}
+
+#[test]
+fn header_written_over(rt: HostRuntime) {
+    let mut message = message(
+        &rt,
+        rt.alloc(),
+        b"\x00\x07\x01\x20\x00\x00\x00\x00\x00\x00\x00\x01\xff",
+    );
+    let mut header = message.header();
+    header.id = 1000;
+    header.qr = true;
+    header.rcode = Rcode::REFUSED;
+    message.set_header(header);
+    let due = *b"\x03\xe8\x81\x25\x00\x00\x00\x00\x00\x00\x00\x01\xff";
+    assert_eq!(rt; message.as_slice(), due.as_slice());
 }

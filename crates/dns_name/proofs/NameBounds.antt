@@ -1,6 +1,6 @@
 -- Names in messages: what stands at a place, where it ends, and that octets behind the message change nothing.
-use Rattle.std.proofs.Common.{◌≡◌, ℕ, zero, suc, ◌+◌, ◌-◌, ◌*◌, ◌<◌, ◌≤◌, Bool, true, false, List, [], ◌∷◌, ◌++◌, length, length-append, take, drop, refl, sym, ap, subst, ◌∙◌, arith, lt-ltb, ltb-true, ltb-false, eqb-true, nat_lt, ◌&&◌, ◌==◌, Option, Some, None, ◌⊎◌, inl, inr, ne_eqb}
-use Rattle.std.specs.Prelude.{IsTrue, slice_get, slice_range, option_and_then, unwrap_or, flat_map, if◌then◌else◌}
+use Rattle.std.proofs.Common.{◌≡◌, ℕ, zero, suc, ◌+◌, ◌-◌, ◌*◌, ◌<◌, ◌≤◌, Bool, true, false, List, [], ◌∷◌, ◌++◌, length, length-append, take, drop, refl, ap, subst, ◌∙◌, arith, lt-ltb, ltb-true, ltb-false, eqb-true, nat_lt, ◌==◌, Option, Some, None, ◌⊎◌, inl, inr, ne_eqb}
+use Rattle.std.specs.Prelude.{IsTrue, slice_get, slice_range, option_and_then, unwrap_or, if◌then◌else◌}
 use Rattle.std.specs.List.{list_all}
 use Rattle.std.proofs.lemmas.Bool.{le-ltb}
 use Rattle.std.proofs.lemmas.Option.{slice_get_within}

@@ -3,7 +3,8 @@ use Rattle.std.proofs.Common.{◌≡◌, ℕ, List, [], ◌∷◌, ◌++◌, map
 use Rattle.std.specs.Prelude.{flat_map}
 use Rattle.std.specs.List.{join_with_byte}
 use Rattle.std.proofs.lemmas.List.{append-nil}
-use Rattle.dns_name.specs.Names.{Name, name_text, octet_text}
+use Rattle.dns_label.specs.LabelText.{octet_text}
+use Rattle.dns_name.specs.Names.{Name, name_text}
 use Rattle.dns_name.specs.Text.{rest_text}
 
 joined : (x : List ℕ) (n : Name) → join_with_byte 46 (x ∷ map (flat_map octet_text) n) ≡ x ++ rest_text n

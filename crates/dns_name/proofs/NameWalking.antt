@@ -1,9 +1,9 @@
 -- A name in a message, one element after another.
-use Rattle.std.proofs.Common.{◌≡◌, ℕ, ◌+◌, ◌<◌, Bool, true, List, [], ◌∷◌, length, length-append, refl, sym, ap, subst, ◌∙◌, arith, Option, Some, None}
+use Rattle.std.proofs.Common.{◌≡◌, ℕ, ◌+◌, ◌<◌, true, List, [], ◌∷◌, length, length-append, refl, sym, ap, subst, ◌∙◌, arith, Option, Some, None}
 use Rattle.std.specs.Prelude.{IsTrue, is_some}
 use Rattle.std.specs.Option.{option_map_or}
-use Rattle.dns_name.specs.Names.{Name, is_name, name_wire, labels_in}
-use Rattle.dns_name.specs.Compression.{Element, element_at, name_at, labels_at, NameAt}
+use Rattle.dns_name.specs.Names.{Name, is_name, name_wire}
+use Rattle.dns_name.specs.Compression.{element_at, name_at, labels_at, NameAt}
 use Rattle.dns_name.specs.Compression.Element.{Root, Label, Pointer}
 use Rattle.dns_name.specs.Compression.NameAt.{at_root, at_label, at_pointer}
 use Rattle.dns_name.proofs.NameReading.{name_at-NameAt, NameAt-name_at}

@@ -3,27 +3,14 @@ ghost use Rattle.std.specs.Prelude.{◌≡◌, ◌≤◌, ◌∷◌, [], ℕ, Li
 ghost use Rattle.std.specs.Bool.{OnTrue};
 ghost use Rattle.dns_name.specs.Names.{Name as LabelList, is_name, name_wire, fold, labels_in};
 
-use crate::label::Label;
 use crate::labels::Labels;
 use crate::name_octets::NameOctets;
 use crate::parsed::{ParsedName, decode};
 use bytes::Bytes;
-use dns_numbers::ParseError;
+use dns_label::{Label, NameError};
 use std::alloc::{AllocError, Global};
 use std::convert::AsSlice;
 use std::marker::Model;
-use thiserror::Error;
-
-/// The octets are no name, or the labels of one are too long together.
-#[derive(Clone, Copy, Debug, PartialEq, Eq, Drop, Error)]
-#[error("not a domain name")]
-pub struct NameError;
-
-impl From<NameError> for ParseError {
-    fn from(_: NameError) -> ParseError {
-        ParseError
-    }
-}
 
 /// A domain name in wire form, without a pointer: 1 to 255 octets, the root label last (RFC 1035, 3.1).
 #[derive(Drop)]

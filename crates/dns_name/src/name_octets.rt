@@ -3,7 +3,7 @@ ghost use Rattle.std.specs.Prelude.{◌≡◌, ◌≤◌, ◌<◌, ◌+◌, ◌+
 ghost use Rattle.std.specs.Char.{to_ascii_lowercase};
 ghost use Rattle.std.specs.Prelude.{if◌then◌else◌, nat_le, OnErr, OnOk};
 
-use crate::name::NameError;
+use dns_label::NameError;
 use std::convert::AsSlice;
 use std::marker::Model;
 

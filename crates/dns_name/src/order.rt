@@ -54,7 +54,7 @@ impl<Octs: AsSlice<u8>> Hash for Name<Octs> {
     ghost respects_eq = { same_hash };
 
     fn hash<H: Hasher>(&self, state: &mut H) {
-        self.to_canonical().as_slice().hash(state);
+        self.in_place().into_canonical().as_slice().hash(state);
     }
 }
 

@@ -1,5 +1,5 @@
 // Vectors from outside, and each kind of call once.
-use crate::{KeyName, Label, Labelled, Name, NameRef, ParseError, ParsedName, StoredName, ToName};
+use crate::{KeyName, Labelled, Name, NameRef, ParseError, ParsedName, StoredName, ToName};
 use bytes::Bytes;
 use std::fmt;
 use std::hash::{DefaultHasher, Hash, Hasher};
@@ -157,14 +157,15 @@ fn texts(rt: HostRuntime) -> Result<(), fmt::Error> {
     Ok(())
 }
 
+/// The example of the crate's documentation.
 #[test]
-fn labels(rt: HostRuntime) -> Result<(), ParseError> {
-    assert!(rt; Label::from_slice(&[b'a'; 64]).is_err());
-    let upper = Label::from_slice(b"NS").map_err(|_| ParseError)?;
-    let lower = Label::from_slice(b"ns").map_err(|_| ParseError)?;
-    assert!(rt; upper == lower && !lower.is_wildcard() && !lower.is_root());
-    assert_eq!(rt; hash_of(&upper), hash_of(&lower));
-    assert_eq!(rt; upper.to_canonical().as_slice(), b"ns".as_slice());
-    assert!(rt; Label::root().is_root() && Label::wildcard().is_wildcard());
-    Ok(())
+fn documentation_example(rt: HostRuntime) {
+    // A header, a question about `example.`, and the name `ns.example.`, which ends in a pointer to the question's.
+    let message = b"\0\0\0\0\0\0\0\0\0\0\0\0\x07example\0\0\x06\0\x01\x02ns\xc0\x0c";
+    let (server, after) = ParsedName::parse(message, 25).expect(&rt, "a name");
+    assert_eq!(rt; after, 30);
+    let zone = NameRef::from_octets(b"\x07EXAMPLE\0").expect(&rt, "a name");
+    assert!(rt; server.ends_with(&zone) && !server.name_eq(&zone));
+    let text = server.to_string(rt.alloc()).expect(&rt, "memory");
+    assert_eq!(rt; text.as_str(), "ns.example");
 }

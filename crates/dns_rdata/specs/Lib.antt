@@ -6,6 +6,7 @@ pub use Rattle.dns_name.specs.Serial
 pub use Rattle.rdata_types.specs.Records
 pub use Rattle.rdata_types.specs.Soa
 pub use Rattle.rdata_types.specs.DataValues
+pub use Rattle.rdata_types.specs.OctetFields
 pub use Rattle.rdata_types.specs.DataFields
 pub use Rattle.rdata_types.specs.SameData
 pub use Rattle.rdata_types.specs.DataOrder
@@ -16,3 +17,7 @@ pub mod ZoneData
 pub mod SameZoneData
 pub mod ZoneDataOrder
 pub mod RecordHead
+pub mod DataHash
+pub mod SameRecord
+pub mod RecordOrder
+pub mod RecordHash

@@ -2,7 +2,8 @@
 ghost use Rattle.std.specs.Prelude.{◌≡◌, ◌∷◌, []};
 ghost use Rattle.rdata_types.specs.Records.Field.{Octets, DomainName};
 ghost use Rattle.rdata_types.specs.DataOrder.{data_cmp};
-ghost use Rattle.rdata_types.specs.DataFields.{ds_fields, minfo_fields, soa_fields};
+ghost use Rattle.rdata_types.specs.OctetFields.{ds_fields};
+ghost use Rattle.rdata_types.specs.DataFields.{minfo_fields, soa_fields};
 ghost use Rattle.dns_rdata.specs.ZoneData.{fields_of};
 
 use crate::zone_data::ZoneRecordData;

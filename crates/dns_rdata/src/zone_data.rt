@@ -3,7 +3,7 @@ ghost use Rattle.std.specs.Prelude.{◌≡◌, ◌+◌, ◌∷◌, [], IfOk, OnE
 ghost use Rattle.std.specs.Str.{bytes_eq};
 ghost use Rattle.rdata_types.specs.Records.{data_wire, fields_at, parts, same_data};
 ghost use Rattle.rdata_types.specs.Records.Field.{Octets, DomainName};
-ghost use Rattle.rdata_types.specs.DataFields.{ds_fields};
+ghost use Rattle.rdata_types.specs.OctetFields.{ds_fields};
 ghost use Rattle.dns_rdata.specs.ZoneData.{rtype_of, fields_of, data_fields, same_zone_data};
 
 use bytes::Bytes;

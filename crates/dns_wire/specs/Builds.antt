@@ -1,8 +1,9 @@
 -- What adding to a message under construction, or taking back from it, leaves, and what is refused.
-use Rattle.std.specs.Prelude.{◌≡◌, ◌≢◌, ℕ, ◌+◌, ◌<◌, true, false, List, [], ◌∷◌, length, take, Option, Some, None, Result, Ok, Err}
+use Rattle.std.specs.Prelude.{◌≡◌, ◌≢◌, ℕ, ◌+◌, ◌<◌, ◌==◌, Bool, true, false, List, [], ◌∷◌, length, take, Option, Some, None, Result, Ok, Err}
 use Rattle.dns_rdata.specs.Records.{Record, record_wire}
 use Rattle.dns_message.specs.Wire.{Building, Question, with_item, with_question, header_number, fits}
 use Rattle.dns_message.specs.Numbers.{with_number}
+use Rattle.dns_message.specs.Reply.{fitting}
 use Rattle.dns_wire.specs.declared.builder.PushError.{PushError}
 use Rattle.dns_wire.specs.declared.builder.PushError.TheVariants.{ShortBuf, CountOverflow, Memory}
 
@@ -44,6 +45,15 @@ AddsQuestions questions old (Ok a) new = (fits old.limit (with_questions old.oct
 AddsQuestions questions old (Err ShortBuf) new = fits old.limit (with_questions old.octets questions) ≡ false
 AddsQuestions questions old (Err CountOverflow) new = 65535 < header_number 4 old.octets + length questions
 AddsQuestions questions old (Err Memory) new = Unit {0}
+
+-- One case for each answer of a call that adds questions up to the first without room: those that fit, and whether that is all of them;
+-- CountOverflow only where all can't be counted. Want of room is no error.
+abbrev pub AddsFitting : List Question → Building → Result Bool PushError → Building → Type 0
+AddsFitting questions old (Ok all) new = (new ≡ record old { octets = with_questions old.octets (fitting old.limit old.octets questions) })
+    × (all ≡ (length (fitting old.limit old.octets questions) == length questions))
+AddsFitting questions old (Err ShortBuf) new = ⊥
+AddsFitting questions old (Err CountOverflow) new = 65535 < header_number 4 old.octets + length questions
+AddsFitting questions old (Err Memory) new = Unit {0}
 
 -- the message without what stands from a place on, the count at place k of its header 0
 abbrev pub cut_at : ℕ → ℕ → Building → Building

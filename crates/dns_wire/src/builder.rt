@@ -1,12 +1,12 @@
 // A message that is being built.
 
-ghost use Rattle.std.specs.Prelude.{◌≡◌, ◌+◌, ◌^◌, ◌<◌, ◌≤◌, ◌++◌, length, take, drop, replicate, vec_len, IfOk, IsTrue, Some};
+ghost use Rattle.std.specs.Prelude.{◌≡◌, ◌+◌, ◌^◌, ◌<◌, ◌≤◌, ◌++◌, length, take, drop, replicate, vec_len, if◌then◌else◌, IfOk, IsTrue, Some};
 ghost use Rattle.std.specs.List.{filter_map};
 ghost use Rattle.dns_rdata.specs.Records.{record_wire};
 ghost use Rattle.dns_message.specs.Wire.{header_in, header_wire, header_number, question_wire, message_wire, fits, Message as MessageOf};
 ghost use Rattle.dns_message.specs.Numbers.{counts_in};
-ghost use Rattle.dns_wire.specs.Builds.{Adds, AddsQuestions, Builds, building, cut_at, rewound};
-ghost use Rattle.dns_message.specs.Reply.{empty_answer};
+ghost use Rattle.dns_wire.specs.Builds.{Adds, AddsFitting, AddsQuestions, Builds, building, cut_at, rewound};
+ghost use Rattle.dns_message.specs.Reply.{answer_header, empty_answer, error_answer};
 ghost use Rattle.dns_message.specs.Parse.{parsed, answers_start, authority_start, additional_start};
 ghost use Rattle.dns_message.specs.Written.{IsMessage, parsed_of};
 
@@ -209,6 +209,25 @@ impl MessageBuilder {
         }
     }
 
+    /// Adds the questions that are left, up to the first that can't be read or has no room. Tells whether none was without room.
+    fn push_fitting(&mut self, mut questions: QuestionSection<'_>) -> Result<bool, PushError>
+        requires header { 12 ≤ length self.old.octets }
+        requires count { header_number 4 self.old.octets < 2 ^ 16 }
+        ensures { AddsFitting (filter_map (λ q. q) questions.entry.left) self.old result self.new }
+    {
+        loop {
+            match questions.next_question() {
+                Some(Ok(question)) => match self.push_question(&question) {
+                    Ok(()) => {}
+                    Err(PushError::ShortBuf) => return Ok(false),
+                    Err(error) => return Err(error),
+                },
+                Some(Err(_)) => return Ok(true),
+                None => return Ok(true),
+            }
+        }
+    }
+
     /// A message of this header and no item, with the same push limit.
     fn restarted(self, header: Header) -> Result<MessageBuilder, AllocError>
         ensures { IfOk result (λ b. b ≡ record { octets = header_wire header ++ replicate 8 0; limit = self.limit }) }
@@ -242,6 +261,35 @@ impl MessageBuilder {
             return Err(PushError::ShortBuf);
         }
         message.push_questions(request.question())?;
+        Ok(message.answer())
+    }
+
+    /// Writes the header of an error answer to a request with that header: SERVFAIL where not all its questions had room.
+    fn set_error_header(&mut self, asked: &Header, all: bool, rcode: Rcode)
+        ensures { self.new ≡ record self.old { octets = header_wire (answer_header asked.now (if all then rcode else 2)) ++ drop 4 self.old.octets } }
+    {
+        let rcode = if all { rcode } else { Rcode::SERVFAIL };
+        self.set_header(asked.answer(rcode));
+    }
+
+    /// Starts over with an error answer to a request: as `start_answer`, but the first question without room ends the questions,
+    /// and the rcode is then SERVFAIL (RFC 1035, 4.1.1). Refused where the header alone is more than the push limit, or memory runs out.
+    pub fn start_error(
+        self,
+        request: &Message<'_>,
+        rcode: Rcode,
+    ) -> Result<AnswerBuilder, PushError>
+        ensures { Builds (message_wire (error_answer self.limit request.now rcode)) self.limit result }
+    {
+        let asked = request.header();
+        let Ok(mut message) = self.restarted(asked.answer(Rcode::NOERROR)) else {
+            return Err(PushError::Memory);
+        };
+        if message.limit < message.octets.len() {
+            return Err(PushError::ShortBuf);
+        }
+        let all = message.push_fitting(request.question())?;
+        message.set_error_header(&asked, all, rcode);
         Ok(message.answer())
     }
 

@@ -196,3 +196,96 @@ fn type_and_error(rt: HostRuntime) {
     let refused = answer(&rt, rt.alloc(), Rcode::REFUSED).finish();
     assert!(rt; refused.is_error());
 }
+
+/// An error answer to a request, under a push limit.
+fn error<R: Abort>(
+    rt: &R,
+    alloc: Global,
+    request: &[u8],
+    limit: usize,
+    rcode: Rcode,
+) -> Result<AnswerBuilder, PushError> {
+    let request = Message::from_octets(request).expect(rt, "a header");
+    let mut started = builder(rt, alloc);
+    started.set_push_limit(limit);
+    started.start_error(&request, rcode)
+}
+
+/// Id 1000, QR, opcode 0, rcode REFUSED, one question, and the question.
+const REFUSED: [u8; 25] =
+    *b"\x03\xe8\x80\x05\x00\x01\x00\x00\x00\x00\x00\x00\x07example\x00\x00\xfc\x00\x01";
+
+/// Id 1000, QR, opcode 0, rcode SERVFAIL, and no item.
+const FAILED: [u8; 12] = *b"\x03\xe8\x80\x02\x00\x00\x00\x00\x00\x00\x00\x00";
+
+#[test]
+fn error_with_its_question(rt: HostRuntime) {
+    let started = error(&rt, rt.alloc(), AXFR_QUERY.as_slice(), 25, Rcode::REFUSED);
+    let answers = started.expect(&rt, "an answer");
+    assert_eq!(rt; answers.as_slice(), REFUSED.as_slice());
+}
+
+#[test]
+fn error_without_room_for_its_question(rt: HostRuntime) {
+    let started = error(&rt, rt.alloc(), AXFR_QUERY.as_slice(), 24, Rcode::REFUSED);
+    let answers = started.expect(&rt, "an answer");
+    assert_eq!(rt; answers.as_slice(), FAILED.as_slice());
+}
+
+#[test]
+fn error_without_room_for_its_header(rt: HostRuntime) {
+    let started = error(&rt, rt.alloc(), AXFR_QUERY.as_slice(), 12, Rcode::REFUSED);
+    assert!(rt; started.is_ok());
+    let started = error(&rt, rt.alloc(), AXFR_QUERY.as_slice(), 11, Rcode::REFUSED);
+    assert_eq!(rt; started.err(), Some(PushError::ShortBuf));
+}
+
+/// Opcode 4 (NOTIFY), RD, and three questions: for `a`, for `example` and for the root, each of type SOA in class IN.
+const THREE_QUESTIONS: &[u8] = b"\x03\xe8\x21\x00\x00\x03\x00\x00\x00\x00\x00\x00\
+\x01a\x00\x00\x06\x00\x01\x07example\x00\x00\x06\x00\x01\x00\x00\x06\x00\x01";
+
+#[test]
+fn error_without_room_for_its_second_question(rt: HostRuntime) {
+    let started = error(&rt, rt.alloc(), THREE_QUESTIONS, 31, Rcode::NOTIMP);
+    let answers = started.expect(&rt, "an answer");
+    let due = *b"\x03\xe8\xa1\x02\x00\x01\x00\x00\x00\x00\x00\x00\x01a\x00\x00\x06\x00\x01";
+    assert_eq!(rt; answers.as_slice(), due.as_slice());
+}
+
+#[test]
+fn error_where_no_question_is_read(rt: HostRuntime) {
+    let started = error(&rt, rt.alloc(), HALF_A_QUESTION, 25, Rcode::FORMERR);
+    let answers = started.expect(&rt, "an answer");
+    let due = *b"\x03\xe8\x80\x01\x00\x00\x00\x00\x00\x00\x00\x00";
+    assert_eq!(rt; answers.as_slice(), due.as_slice());
+}
+
+#[test]
+fn documentation_example(rt: HostRuntime) {
+    let name = Name::from_octets(b"\x07example\x00".as_slice()).expect(&rt, "a name");
+    let mut query = MessageBuilder::new(rt.alloc()).expect(&rt, "memory");
+    query.set_header(Header::new(1000));
+    let mut questions = query.question();
+    let question = Question::new(name, Rtype::A, Class::IN);
+    questions.push(&question).expect(&rt, "room");
+    let query = questions.finish();
+
+    let mut builder = MessageBuilder::new(rt.alloc()).expect(&rt, "memory");
+    builder.set_push_limit(512);
+    let started = builder.start_answer(&query.as_message(), Rcode::NOERROR);
+    let mut answers = started.expect(&rt, "room");
+    let name = Name::from_octets(b"\x07example\x00".as_slice()).expect(&rt, "a name");
+    let address = A::new([192, 0, 2, 1]);
+    let record = Record::new(name, Class::IN, Ttl::from_int(3600), address);
+    answers.push(&record).expect(&rt, "room");
+    let reply = answers.finish();
+
+    assert_eq!(rt; reply.header().id, 1000);
+    assert_eq!(rt; reply.qtype(), Some(Rtype::A));
+    let mut section = reply.answer().expect(&rt, "a section");
+    let next = section.next_record().expect(&rt, "a record");
+    let read = next.expect(&rt, "no error");
+    assert_eq!(rt; read.rtype(), Rtype::A);
+    assert_eq!(rt; read.rdata_octets(), [192, 0, 2, 1].as_slice());
+    assert!(rt; section.next_record().is_none());
+}

@@ -1,17 +1,16 @@
 -- Data that are read have the pieces of their type.
-use Rattle.std.proofs.Common.{◌≡◌, ℕ, ◌+◌, ◌-◌, ◌<◌, ◌≤◌, Bool, true, false, List, [], ◌∷◌, length, take, drop, refl, sym, ap, subst, ◌∙◌, arith, nat_lt, ◌&&◌, ◌==◌, eqb-true, eq-eqb, leb-true, le-leb, Option, Some, None}
+use Rattle.std.proofs.Common.{◌≡◌, ℕ, ◌+◌, ◌-◌, ◌≤◌, true, List, [], ◌∷◌, length, drop, refl, ap, subst, arith, nat_lt, ◌==◌, eq-eqb, leb-true, Some, None}
 use Rattle.std.specs.Prelude.{IsTrue, nat_le, slice_range, unwrap_or, if◌then◌else◌}
 use Rattle.std.specs.List.{list_all}
 use Rattle.std.specs.Cmp.Lexicographic.{pointwise}
 use Rattle.std.proofs.lemmas.List.{length-take-le, length-drop}
 use Rattle.dns_name.specs.Octets.{◌>>=◌, octets_at}
-use Rattle.dns_name.specs.Names.{Name}
 use Rattle.dns_name.specs.Compression.{name_at}
 use Rattle.dns_name.proofs.NameReading.{bound, guarded}
 use Rattle.dns_name.proofs.NameBounds.{read_is_name}
-use Rattle.rdata_types.specs.Records.{Field, Part, part_allows, rest_at, field_at, fields_at, are_strings}
-use Rattle.rdata_types.specs.Records.Field.{Octets, DomainName}
-use Rattle.rdata_types.specs.Records.Part.{Exactly, AtLeast, Strings, Named}
+use Rattle.rdata_octets.specs.Records.{Field, Part, part_allows, rest_at, field_at, fields_at, are_strings}
+use Rattle.rdata_octets.specs.Records.Field.{Octets, DomainName}
+use Rattle.rdata_octets.specs.Records.Part.{Exactly, AtLeast, Strings, Named}
 
 inside : {A : Type 0} (x y : A) → Some x ≡ Some y → x ≡ y
 inside x y e = ap (λ r. unwrap_or r x) e

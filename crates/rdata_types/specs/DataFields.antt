@@ -1,23 +1,12 @@
--- The fields of record data, type by type (RFC 1035, 3.3 and 3.4.1; RFC 2782; RFC 3596, 2.2; RFC 4034, 5.1; RFC 3597, 3).
+-- The fields of record data that have names, type by type (RFC 1035, 3.3; RFC 2782); those of octets alone are in `OctetFields`.
 use Rattle.std.specs.Prelude.{ℕ, List, [], ◌∷◌, ◌++◌}
 use Rattle.dns_name.specs.Octets.{u16_octets, u32_octets}
-use Rattle.rdata_types.specs.Records.{Field}
-use Rattle.rdata_types.specs.Records.Field.{Octets, DomainName}
-use Rattle.rdata_types.specs.DataValues.{DsValue, UnknownValue}
-use Rattle.rdata_types.specs.declared.addresses.A.{A}
-use Rattle.rdata_types.specs.declared.addresses.Aaaa.{Aaaa}
+use Rattle.rdata_octets.specs.Records.{Field}
+use Rattle.rdata_octets.specs.Records.Field.{Octets, DomainName}
 use Rattle.rdata_types.specs.declared.mail.Minfo.{Minfo}
 use Rattle.rdata_types.specs.declared.mail.Mx.{Mx}
 use Rattle.rdata_types.specs.declared.soa.Soa.{Soa}
 use Rattle.rdata_types.specs.declared.srv.Srv.{Srv}
-
--- the address of an A record
-abbrev pub a_fields : A → List Field
-a_fields a = Octets a.octets ∷ []
-
--- the address of an AAAA record
-abbrev pub aaaa_fields : Aaaa → List Field
-aaaa_fields a = Octets a.octets ∷ []
 
 -- data that are one name
 abbrev pub name_fields : {N : Type 0} → (N → List (List ℕ)) → N → List Field
@@ -46,19 +35,3 @@ soa_times soa = u32_octets soa.serial ++ u32_octets soa.refresh ++ u32_octets so
 -- the two names and the five numbers of an SOA record
 abbrev pub soa_fields : {N : Type 0} → (N → List (List ℕ)) → Soa N → List Field
 soa_fields labels soa = DomainName (labels soa.mname) ∷ DomainName (labels soa.rname) ∷ Octets (soa_times soa) ∷ []
-
--- the character strings of a TXT record, each led by an octet that tells its length
-abbrev pub txt_fields : List ℕ → List Field
-txt_fields strings = Octets strings ∷ []
-
--- what stands before the digest: key tag, algorithm, digest type
-unfoldable pub ds_head : DsValue → List ℕ
-ds_head d = u16_octets d.key_tag ++ d.algorithm ∷ d.digest_type ∷ []
-
--- key tag, algorithm, digest type and digest of a DS record
-abbrev pub ds_fields : DsValue → List Field
-ds_fields d = Octets (ds_head d ++ d.digest) ∷ []
-
--- the octets of data of a type that isn't known
-abbrev pub unknown_fields : UnknownValue → List Field
-unknown_fields d = Octets d.octets ∷ []

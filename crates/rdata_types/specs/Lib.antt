@@ -3,9 +3,10 @@ pub use Rattle.dns_name.specs.Codes
 pub use Rattle.dns_name.specs.Names
 pub use Rattle.dns_name.specs.Compression
 pub use Rattle.dns_name.specs.Serial
-pub mod Records
+pub use Rattle.rdata_octets.specs.Records
+pub use Rattle.rdata_octets.specs.DataValues
+pub use Rattle.rdata_octets.specs.OctetFields
 pub mod Soa
-pub mod DataValues
 pub mod DataFields
 pub mod SameData
 pub mod DataOrder

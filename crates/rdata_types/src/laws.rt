@@ -2,7 +2,7 @@
 ghost use Rattle.std.specs.Prelude.{◌≡◌, ◌↔◌, ℕ, List, map, nat_lt, Some, IsTrue};
 ghost use Rattle.std.specs.List.{list_all};
 ghost use Rattle.std.specs.Cmp.Lexicographic.{pointwise};
-ghost use Rattle.rdata_types.specs.Records.{Field, Part, part_allows, fields_at, fold_field, same_data};
+ghost use Rattle.rdata_octets.specs.Records.{Field, Part, part_allows, fields_at, fold_field, same_data};
 
 /// Data are equal exactly where their fields are, the names in lower case (RFC 2181, 5; RFC 4343, 3).
 pub fn equal_data_have_equal_folded_fields()

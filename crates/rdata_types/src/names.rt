@@ -1,19 +1,20 @@
 // Data that are one domain name.
 ghost use Rattle.std.specs.Prelude.{◌≡◌, ◌+◌, IfOk, OnErr, Some, None};
 ghost use Rattle.std.specs.Str.{bytes_eq};
-ghost use Rattle.rdata_types.specs.Records.{data_wire, fields_at, parts, same_data};
+ghost use Rattle.rdata_octets.specs.Records.{data_wire, fields_at, parts, same_data};
 ghost use Rattle.rdata_types.specs.DataFields.{name_fields};
 
-use crate::fields::{RecordData, ends_at};
 use crate::name_types::{
     CnameType, MbType, MdType, MfType, MgType, MrType, NameType, NsType, PtrType,
 };
 use dns_name::{Labelled, ParseError, ParsedName, Rtype, StoredName, ToName};
+use rdata_octets::{RecordData, ends_at};
 use std::alloc::{AllocError, Global};
 use std::marker::{Model, PhantomData};
 
 /// Data of type `T` that are one name. Each type of this kind has a name of its own below (RFC 1035, 3.3).
 #[derive(Drop)]
+#[derive_where(Debug; N)]
 pub struct NameData<N: Labelled + Drop, T: NameType> {
     name: N,
     of_type: PhantomData<T>,
@@ -168,7 +169,7 @@ impl<N: ToName + Drop, T: NameType> NameData<N, T> {
 
 impl<'m, T: NameType> NameData<ParsedName<'m>, T> {
     /// The name in the `len` octets at place `pos` of a message, which it fills exactly; else an error.
-    #[tactic(auto, unfolding(crate::specs::Records::fields_at))]
+    #[tactic(auto, unfolding(rdata_octets::specs::Records::fields_at))]
     pub fn parse(
         message: &'m [u8],
         pos: usize,
@@ -210,10 +211,10 @@ impl<N: Labelled + Drop, T: NameType> RecordData for NameData<N, T> {
     }
 }
 
-impl<T: NameType> Clone for NameData<StoredName, T> {
-    ghost is_clone = { λ d copy. copy ≡ d };
+impl<N: Labelled + Clone + Drop, T: NameType> Clone for NameData<N, T> {
+    ghost is_clone = { N.is_clone };
 
-    fn clone(&self) -> Result<NameData<StoredName, T>, AllocError> {
+    fn clone(&self) -> Result<NameData<N, T>, AllocError> {
         Ok(NameData {
             name: self.name.clone()?,
             of_type: PhantomData,

@@ -4,9 +4,9 @@ use Rattle.std.specs.Prelude.{◌&&◌, not, if◌then◌else◌, List, [], ◌+
 use Rattle.std.proofs.lemmas.List.{append-nil}
 use Rattle.dns_name.specs.Names.{under}
 use Rattle.dns_rdata.specs.Records.{Record}
-use Rattle.zone_types.specs.Version.{Version}
-use Rattle.zone_types.specs.Edits.{Refusal, OutOfZone, Incompatible, InvalidData, add, has_data, second_alias}
-use Rattle.zone_types.specs.Updates.{Progress, Update, UpdateFault, Edit, AfterFinish, AddRecord, apply, apply_update, edited}
+use Rattle.zone_model.specs.Version.{Version}
+use Rattle.zone_model.specs.Edits.{Refusal, OutOfZone, Incompatible, InvalidData, add, has_data, second_alias}
+use Rattle.zone_model.specs.Updates.{Progress, Update, UpdateFault, Edit, AfterFinish, AddRecord, apply, apply_update, edited}
 
 -- the order of the refusals
 abbrev picked : Bool → Bool → Bool → Version → Result Version Refusal

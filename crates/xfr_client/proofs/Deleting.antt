@@ -1,9 +1,9 @@
 -- One record deleted, as an update of the progress.
 use Rattle.std.proofs.Common.{◌≡◌, false, Ok, Err, ap, ◌∙◌}
 use Rattle.dns_rdata.specs.Records.{Record}
-use Rattle.zone_types.specs.Version.{Version}
-use Rattle.zone_types.specs.Edits.{Refusal, delete}
-use Rattle.zone_types.specs.Updates.{Progress, Edit, DeleteRecord, apply_update, edited}
+use Rattle.zone_model.specs.Version.{Version}
+use Rattle.zone_model.specs.Edits.{Refusal, delete}
+use Rattle.zone_model.specs.Updates.{Progress, Edit, DeleteRecord, apply_update, edited}
 use Rattle.xfr_client.proofs.Adding.{not_finished}
 
 pub update_deleted : (p : Progress) (r : Record) (w : Version) → p.finished ≡ false → delete p.pending r ≡ Ok w → apply_update p (DeleteRecord r) ≡ Ok (record p { pending = w })

@@ -1,9 +1,9 @@
 -- The updates and refusals of the calls, as those of the definitions.
 use Rattle.std.specs.Prelude.{Option, Some, None}
 use Rattle.dns_rdata.specs.Records.{Record}
-use Rattle.zone_types.specs.Edits as edits
-use Rattle.zone_types.specs.Updates as updates
-use Rattle.zone_types.specs.Read as faults
+use Rattle.zone_model.specs.Edits as edits
+use Rattle.zone_model.specs.Updates as updates
+use Rattle.zone_model.specs.Read as faults
 use Rattle.xfr_client.specs.declared.update.ZoneUpdate.{ZoneUpdate}
 use Rattle.xfr_client.specs.declared.update.ZoneUpdate.TheVariants as update
 use Rattle.xfr_client.specs.declared.update.Error.{Error}

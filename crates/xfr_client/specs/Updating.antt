@@ -1,11 +1,11 @@
 -- What an updater keeps beside its session, and what both stand for.
 use Rattle.std.specs.Prelude.{◌≡◌, ◌⊎◌, ℕ, ◌+◌, ◌-◌, ◌^◌, ◌==◌, ◌&&◌, Bool, true, false, List, [], ◌∷◌}
-use Rattle.zone_types.specs.Version.{Version}
-use Rattle.zone_types.specs.Commits.{Commit}
-use Rattle.zone_types.specs.Session.{Session, with_pending}
-use Rattle.zone_types.specs.Updates.{Update, Finished, Progress}
-use Rattle.zone_types.specs.Applying.{commits}
-use Rattle.zone_types.specs.Edits.{set_soa}
+use Rattle.zone_model.specs.Version.{Version}
+use Rattle.zone_model.specs.Commits.{Commit}
+use Rattle.zone_model.specs.Session.{Session, with_pending}
+use Rattle.zone_model.specs.Updates.{Update, Finished, Progress}
+use Rattle.zone_model.specs.Applying.{commits}
+use Rattle.zone_model.specs.Edits.{set_soa}
 
 -- whether equal data are passed over, and whether the end has come
 pub record Updating : Type 0 where

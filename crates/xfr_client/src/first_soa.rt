@@ -1,7 +1,7 @@
 // The SOA record that a transfer begins with, kept without memory of its own.
 ghost use Rattle.std.specs.Prelude.{◌≡◌, IfSome, IfNone, true, false};
 ghost use Rattle.dns_rdata.specs.Soa.{serial_of};
-ghost use Rattle.zone_types.specs.TransferText.{is_soa, is_same_soa};
+ghost use Rattle.zone_model.specs.TransferText.{is_soa, is_same_soa};
 
 use dns_name::{KeyName, Labelled, Serial};
 use dns_rdata::{ReadRecord, Record, RecordData, Soa, ZoneRecordData};

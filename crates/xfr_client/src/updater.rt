@@ -1,15 +1,15 @@
 // The updater of a zone.
 ghost use Rattle.std.specs.Prelude.{◌≡◌, ◌↔◌, ◌++◌, ◌^◌, ◌-◌, [], true, false, List, IfOk, IfErr, IfSome, OnOk, OnErr, IsOk, Some, None, Ok, Err};
-ghost use Rattle.zone_types.specs.TransferText.{is_soa};
-ghost use Rattle.zone_types.specs.Version.{Version};
-ghost use Rattle.zone_types.specs.Edits.{with_sets, set_soa};
-ghost use Rattle.zone_types.specs.Session.{with_pending, committed};
-ghost use Rattle.zone_types.specs.Updates as updates;
-ghost use Rattle.zone_types.specs.Updates.{UpdateFault, apply_update, after_refusal};
-ghost use Rattle.zone_types.specs.Applying.{commits};
+ghost use Rattle.zone_model.specs.TransferText.{is_soa};
+ghost use Rattle.zone_model.specs.Version.{Version};
+ghost use Rattle.zone_model.specs.Edits.{with_sets, set_soa};
+ghost use Rattle.zone_model.specs.Session.{with_pending, committed};
+ghost use Rattle.zone_model.specs.Updates as updates;
+ghost use Rattle.zone_model.specs.Updates.{UpdateFault, apply_update, after_refusal};
+ghost use Rattle.zone_model.specs.Applying.{commits};
 ghost use Rattle.xfr_client.specs.declared.update.Error.TheVariants.{VersionsExhausted, Memory};
 ghost use Rattle.dns_rdata.specs.DataFields.{soa_fields};
-ghost use Rattle.zone_store.specs.Puts.{with_soa};
+ghost use Rattle.zone_versions.specs.Puts.{with_soa};
 ghost use Rattle.xfr_client.specs.Causes.{update_of, update_fault_of};
 ghost use Rattle.xfr_client.specs.Updating.{Leaves, progress_of, new_version, next_commit, lacks_number};
 

@@ -1,13 +1,13 @@
 -- A client that gives up anywhere has committed a first part of the versions made.
 use Rattle.std.proofs.Common.{◌≡◌, ℕ, true, false, if◌then◌else◌, List, [], ◌∷◌, ◌++◌, length, append_assoc, append-nil, sym, ap, ◌∙◌, is_some, Result, Ok, Err}
 use Rattle.std.specs.Prelude.{nat_lt}
-use Rattle.zone_types.specs.Version.{Version}
+use Rattle.zone_model.specs.Version.{Version}
 use Rattle.xfr_course.specs.Outcome.{Checked, Course, room}
-use Rattle.zone_types.specs.Updates.{Update, Progress, UpdateFault, apply_update}
-use Rattle.zone_types.specs.Machine.{Run}
-use Rattle.zone_types.specs.Applying.{NoNumber, Held, apply_within, unless_halted, within}
+use Rattle.zone_model.specs.Updates.{Update, Progress, UpdateFault, apply_update}
+use Rattle.zone_model.specs.Machine.{Run}
+use Rattle.zone_model.specs.Applying.{NoNumber, Held, apply_within, unless_halted, within}
 use Rattle.xfr_course.specs.Client.{IsPart, PartIsMade, Client, new_client, client_after, run_message, take_checked, take_course}
-use Rattle.zone_types.proofs.Limits.{then_held, within-append, GrowsIf, update_grows}
+use Rattle.zone_model.proofs.Limits.{then_held, within-append, GrowsIf, update_grows}
 use Rattle.xfr_course.proofs.Clients.{client_meets, course_on}
 
 -- Parts.

@@ -5,18 +5,18 @@ use Rattle.std.specs.Cmp.{first_so, second_so}
 use Rattle.std.specs.Cmp.Lexicographic.{pointwise}
 use Rattle.dns_rdata.specs.Records.{Record}
 use Rattle.dns_name.specs.Serial.{serial_lt, serial_upto}
-use Rattle.zone_types.specs.Version.{Version, Same, same_version, has_one_apex_soa}
-use Rattle.zone_types.specs.Answer.{apex_soa_record}
-use Rattle.zone_types.specs.Edits.{with_sets}
-use Rattle.zone_types.specs.Difference.{zone_serial}
-use Rattle.zone_types.specs.TransferText.{Mode, Axfr, Ixfr, OnIxfr}
-use Rattle.zone_types.specs.Offer.{IsHistory, text_of, whole_text, changes_or_whole, changes_text, successive, first_is}
-use Rattle.zone_types.specs.Spells.{Spelling, spelling}
+use Rattle.zone_model.specs.Version.{Version, Same, same_version, has_one_apex_soa}
+use Rattle.zone_model.specs.Answer.{apex_soa_record}
+use Rattle.zone_model.specs.Edits.{with_sets}
+use Rattle.zone_model.specs.Difference.{zone_serial}
+use Rattle.zone_model.specs.TransferText.{Mode, Axfr, Ixfr, OnIxfr}
+use Rattle.zone_model.specs.Offer.{IsHistory, text_of, whole_text, changes_or_whole, changes_text, successive, first_is}
+use Rattle.zone_model.specs.Spells.{Spelling, spelling}
 use Rattle.xfr_course.specs.Granting.{Ends, IsGranting, asked_serial, sent_text, begins_together, has_more, GrantingSpells}
-use Rattle.zone_types.specs.TransferLaws.{HasMiddle, IsPublished, SpellsAll, EndsIn}
-use Rattle.zone_types.proofs.Valid.{one_soa}
-use Rattle.zone_types.proofs.WholeText.{apex_soa_record-is, whole_spells}
-use Rattle.zone_types.proofs.ChangesText.{last_published, changes_is_text, changes_spell}
+use Rattle.zone_model.specs.TransferLaws.{HasMiddle, IsPublished, SpellsAll, EndsIn}
+use Rattle.zone_model.proofs.Valid.{one_soa}
+use Rattle.zone_model.proofs.WholeText.{apex_soa_record-is, whole_spells}
+use Rattle.zone_model.proofs.ChangesText.{last_published, changes_is_text, changes_spell}
 use Rattle.std.proofs.lemmas.Bool.{or_cases}
 
 -- ---- serials

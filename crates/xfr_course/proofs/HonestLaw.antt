@@ -1,7 +1,7 @@
 -- Built answers that carry what a granting primary sends, signed in sequence and handed as they were sent, bring a secondary that fits it up to date.
 use Rattle.std.proofs.Common.{◌≡◌, List, [], ◌∷◌, map, refl, sym, ap, subst, ◌∙◌}
 use Rattle.dns_wire.specs.Wire.{Message, Question, id_in}
-use Rattle.zone_types.specs.TransferText.{Mode}
+use Rattle.zone_model.specs.TransferText.{Mode}
 use Rattle.xfr_course.specs.Outcome.{Outcome, Checked, Course}
 use Rattle.xfr_course.specs.Courses.{course_of, request_question}
 use Rattle.xfr_course.specs.Joining.{built_checked, signed_handed}

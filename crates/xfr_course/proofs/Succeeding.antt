@@ -10,22 +10,22 @@ use Rattle.dns_rdata.specs.Records.{Field, Record}
 use Rattle.dns_name.specs.Codes.{type_soa}
 use Rattle.tsig_port.specs.declared.errors.ValidationError.TheVariants.{TooManyUnsigned}
 use Rattle.dns_rdata.specs.Soa.{serial_of}
-use Rattle.zone_types.specs.Version.{RecordSet, first_or_none, Version, Same, data_at, has_one_apex_soa}
-use Rattle.zone_types.specs.Answer.{apex_soa_record}
-use Rattle.zone_types.specs.Difference.{zone_serial}
-use Rattle.zone_types.specs.TransferText.{Mode, Axfr, Ixfr, OnIxfr, ending}
-use Rattle.zone_types.specs.Offer.{IsHistory, text_of, whole_text, changes_or_whole, successive}
-use Rattle.zone_types.specs.Spells.{Spelling, spelling}
-use Rattle.zone_types.specs.Messages.{ReadMessage}
-use Rattle.zone_types.specs.Read.{items_of, Fault, lone_soa, retry, request_fault, messages_read, read_by, read, ReadText, fault_of_all}
-use Rattle.zone_types.specs.TransferLaws.{IsPublished, IsWhole, IsChanges, EndsIn}
-use Rattle.zone_types.specs.Carried.{Carrier, Carries, carried_messages, carried_text, EndsWhole}
-use Rattle.zone_types.proofs.Valid.{one_soa}
-use Rattle.zone_types.proofs.WholeText.{apex_soa_record-is, whole_is_text, soa_of}
-use Rattle.zone_types.proofs.ChangesText.{last_published, changes_is_text}
-use Rattle.zone_types.proofs.Readers.{read_behind}
-use Rattle.zone_types.proofs.InTurn.{messages_begin}
-use Rattle.zone_types.proofs.PageReading.{pages_are_read}
+use Rattle.zone_model.specs.Version.{RecordSet, first_or_none, Version, Same, data_at, has_one_apex_soa}
+use Rattle.zone_model.specs.Answer.{apex_soa_record}
+use Rattle.zone_model.specs.Difference.{zone_serial}
+use Rattle.zone_model.specs.TransferText.{Mode, Axfr, Ixfr, OnIxfr, ending}
+use Rattle.zone_model.specs.Offer.{IsHistory, text_of, whole_text, changes_or_whole, successive}
+use Rattle.zone_model.specs.Spells.{Spelling, spelling}
+use Rattle.zone_model.specs.Messages.{ReadMessage}
+use Rattle.zone_model.specs.Read.{items_of, Fault, lone_soa, retry, request_fault, messages_read, read_by, read, ReadText, fault_of_all}
+use Rattle.zone_model.specs.TransferLaws.{IsPublished, IsWhole, IsChanges, EndsIn}
+use Rattle.zone_model.specs.Carried.{Carrier, Carries, carried_messages, carried_text, EndsWhole}
+use Rattle.zone_model.proofs.Valid.{one_soa}
+use Rattle.zone_model.proofs.WholeText.{apex_soa_record-is, whole_is_text, soa_of}
+use Rattle.zone_model.proofs.ChangesText.{last_published, changes_is_text}
+use Rattle.zone_model.proofs.Readers.{read_behind}
+use Rattle.zone_model.proofs.InTurn.{messages_begin}
+use Rattle.zone_model.proofs.PageReading.{pages_are_read}
 use Rattle.xfr_course.specs.Outcome.{Outcome, Updated, UpToDate, RetrySignal, VersionsExhausted, Tsig, Checked, Course, outcome, made, made_unless, unless_retry, after_fault, base_serial, is_end_signed, room, messages_of}
 use Rattle.xfr_course.specs.Granting.{Ends, IsGranting, asked_serial, sent_text, begins_together, has_more}
 use Rattle.xfr_course.specs.Success.{signed_checked, sent_course, CarrySent, Succeeds, GrantedSucceeds}

@@ -6,12 +6,12 @@ use Rattle.dns_wire.specs.Wire.{Message, message_wire, question_wire}
 use Rattle.dns_wire.specs.MessageRows as message_rows
 use Rattle.tsig_port.specs.Tsig.{signed_answer, signed_answers, signed_by, with_mac, blank_tsig, later_input, mac_in}
 use Rattle.tsig_port.specs.ExchangeRows.{row_key, row_request, first_reply}
-use Rattle.zone_types.specs.Version.{Version}
-use Rattle.zone_types.specs.TransferText.{Mode, Axfr, Ixfr}
-use Rattle.zone_types.specs.Offer.{successive}
-use Rattle.zone_types.specs.ZoneRows.{asked, history_1, history_2, history_3}
-use Rattle.zone_types.specs.ZoneRows as zone_rows
-use Rattle.zone_types.specs.Carried.{Carrier}
+use Rattle.zone_model.specs.Version.{Version}
+use Rattle.zone_model.specs.TransferText.{Mode, Axfr, Ixfr}
+use Rattle.zone_model.specs.Offer.{successive}
+use Rattle.zone_model.specs.ZoneRows.{asked, history_1, history_2, history_3}
+use Rattle.zone_model.specs.ZoneRows as zone_rows
+use Rattle.zone_model.specs.Carried.{Carrier}
 use Rattle.xfr_course.specs.Outcome.{Outcome, Course, Checked, Ended}
 use Rattle.xfr_course.specs.Granting.{Ends, sent_text}
 use Rattle.xfr_course.specs.Courses.{Handed}

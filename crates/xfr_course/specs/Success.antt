@@ -1,11 +1,11 @@
 -- The law of success: what a granting primary sends, carried by signed messages, brings a secondary that fits it up to date (RFC 5936, 2 and 6; RFC 1995, 2).
 use Rattle.std.specs.Prelude.{◌≡◌, ℕ, ◌⊎◌, true, false, ◌||◌, nat_le, List, ◌∷◌, map, length, Some, IsTrue}
 use Rattle.std.specs.List.{AllByRecursion, last_or}
-use Rattle.zone_types.specs.Version.{Version, Same}
-use Rattle.zone_types.specs.TransferText.{OnIxfr}
-use Rattle.zone_types.specs.TransferLaws.{IsPublished}
-use Rattle.zone_types.specs.Read.{request_fault}
-use Rattle.zone_types.specs.Carried.{Carrier, Carries, carried_text}
+use Rattle.zone_model.specs.Version.{Version, Same}
+use Rattle.zone_model.specs.TransferText.{OnIxfr}
+use Rattle.zone_model.specs.TransferLaws.{IsPublished}
+use Rattle.zone_model.specs.Read.{request_fault}
+use Rattle.zone_model.specs.Carried.{Carrier, Carries, carried_text}
 use Rattle.xfr_course.specs.Outcome.{Outcome, Updated, UpToDate, Checked, Course, outcome, made}
 use Rattle.xfr_course.specs.Granting.{Ends, IsGranting, sent_text}
 

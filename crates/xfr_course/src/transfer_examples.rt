@@ -1,20 +1,20 @@
 // Worked transfers, proved by computation.
 ghost use Rattle.std.specs.Prelude.{map, ◌≡◌, [], ◌∷◌, ◌++◌, true, false, Some, None, take, drop, replicate, length};
-ghost use Rattle.zone_types.specs.Version.{same_version};
+ghost use Rattle.zone_model.specs.Version.{same_version};
 ghost use Rattle.dns_name.specs.Codes.{type_axfr, type_ixfr};
-ghost use Rattle.zone_types.specs.Edits.{Incompatible};
-ghost use Rattle.zone_types.specs.TransferText.{Axfr, Ixfr};
-ghost use Rattle.zone_types.specs.Spells.{spelling};
-ghost use Rattle.zone_types.specs.Read.{spelt};
-ghost use Rattle.zone_types.specs.ZoneRows as rows;
+ghost use Rattle.zone_model.specs.Edits.{Incompatible};
+ghost use Rattle.zone_model.specs.TransferText.{Axfr, Ixfr};
+ghost use Rattle.zone_model.specs.Spells.{spelling};
+ghost use Rattle.zone_model.specs.Read.{spelt};
+ghost use Rattle.zone_model.specs.ZoneRows as rows;
 ghost use Rattle.xfr_course.specs.CourseRows as examples;
-ghost use Rattle.zone_types.specs.Read as reads;
+ghost use Rattle.zone_model.specs.Read as reads;
 ghost use Rattle.xfr_course.specs.Granting as granting;
 ghost use Rattle.xfr_course.specs.Outcome as outcomes;
 ghost use Rattle.xfr_course.specs.Courses as courses;
 ghost use Rattle.xfr_course.specs.Client as clients;
 ghost use Rattle.tsig_port.specs.declared.errors.ValidationError.{ValidationError};
-ghost use Rattle.zone_types.specs.Walk.{records_of_version};
+ghost use Rattle.zone_model.specs.Walk.{records_of_version};
 ghost use Rattle.dns_rdata.specs.RecordRows as data_rows;
 ghost use Rattle.dns_wire.specs.Wire.{message_wire};
 ghost use Rattle.dns_wire.specs.MessageRows.{ixfr_query, reply};

@@ -12,14 +12,14 @@ use Rattle.dns_wire.specs.Parse.{Parsed, parsed, readings, question_at, question
 use Rattle.dns_wire.specs.Written.{IsQuestion, parsed_of}
 use Rattle.dns_wire.proofs.Headers.{header_of-flags_word, word_small}
 use Rattle.dns_wire.proofs.Parsing.{unread, reads}
-use Rattle.zone_types.specs.Version.{RecordSet, Version, set_at}
-use Rattle.zone_types.specs.Answer.{apex_soa_record, first_only, records_of, records_of_option}
-use Rattle.zone_types.specs.Offer.{is_apex_soa, whole_text}
-use Rattle.zone_types.specs.Walk.{records_of_version}
-use Rattle.zone_types.specs.Messages.{ReadMessage}
-use Rattle.zone_types.specs.Read.{request_fault}
-use Rattle.zone_types.specs.TransferText.{is_soa}
-use Rattle.zone_types.proofs.Folded.{same_name-Decides}
+use Rattle.zone_model.specs.Version.{RecordSet, Version, set_at}
+use Rattle.zone_model.specs.Answer.{apex_soa_record, first_only, records_of, records_of_option}
+use Rattle.zone_model.specs.Offer.{is_apex_soa, whole_text}
+use Rattle.zone_model.specs.Walk.{records_of_version}
+use Rattle.zone_model.specs.Messages.{ReadMessage}
+use Rattle.zone_model.specs.Read.{request_fault}
+use Rattle.zone_model.specs.TransferText.{is_soa}
+use Rattle.zone_model.proofs.Folded.{same_name-Decides}
 use Rattle.xfr_server.specs.Texts.{transfer_header}
 use Rattle.xfr_server.specs.Transfers.{transfer_mode, mode_of_type}
 use Rattle.xfr_server.specs.FullTransfer.{WholeIsTaken, TransferIsMessage}

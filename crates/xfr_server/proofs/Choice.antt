@@ -2,7 +2,7 @@
 use Rattle.std.proofs.Common.{◌≡◌, ℕ, Bool, false, ◌&&◌, not, List, Option, refl, sym, subst}
 use Rattle.std.specs.Prelude.{Result, Ok, is_some}
 use Rattle.dns_wire.specs.Parse.{sole_question_in}
-use Rattle.zone_types.specs.Offer.{Offer}
+use Rattle.zone_model.specs.Offer.{Offer}
 use Rattle.xfr_server.specs.Transfers.{asked_serial, is_ixfr, chosen, choice_of}
 use Rattle.xfr_server.specs.declared.providers.XfrDataProviderError.{XfrDataProviderError}
 use Rattle.xfr_server.specs.declared.transfer.XfrMode.{XfrMode}

@@ -8,8 +8,8 @@ use Rattle.dns_wire.specs.Parse.{sole_question_in, questions_in}
 use Rattle.tsig_port.specs.Tsig.{TsigKey, mac_in, is_mac_len, compose_len, signed_answer, signed_answers, signed_from}
 use Rattle.tsig_port.specs.Checked.{taken_message}
 use Rattle.tsig_port.specs.ServerCheck.{Keys, Verdict}
-use Rattle.zone_types.specs.Version.{has_one_apex_soa}
-use Rattle.zone_types.specs.Offer.{Offer, whole_text}
+use Rattle.zone_model.specs.Version.{has_one_apex_soa}
+use Rattle.zone_model.specs.Offer.{Offer, whole_text}
 use Rattle.xfr_server.specs.Items.{Sending, sent_by, all_given}
 use Rattle.xfr_server.specs.Texts.{transfer_header, transfer_message, can_hold}
 use Rattle.xfr_server.specs.Transfers.{chosen, transfer_replies, reply_limit, transaction, asked_serial, asks_for_apex}

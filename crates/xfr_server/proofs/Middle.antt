@@ -3,10 +3,10 @@ use Rattle.std.proofs.Common.{◌≡◌, Bool, true, false, not, cond, List, [],
 use Rattle.std.specs.Prelude.{flat_map}
 use Rattle.std.proofs.lemmas.List.Elements.{filter-append}
 use Rattle.dns_rdata.specs.Records.{Record, Field}
-use Rattle.zone_types.specs.Version.{Version}
-use Rattle.zone_types.specs.Answer.{records_of}
-use Rattle.zone_types.specs.Offer.{is_apex_soa}
-use Rattle.zone_types.specs.Walk.{Stop, walk, records_of_version}
+use Rattle.zone_model.specs.Version.{Version}
+use Rattle.zone_model.specs.Answer.{records_of}
+use Rattle.zone_model.specs.Offer.{is_apex_soa}
+use Rattle.zone_model.specs.Walk.{Stop, walk, records_of_version}
 use Rattle.xfr_server.specs.Texts.{is_soa_stop, stop_records}
 
 -- records of which all pass, or none

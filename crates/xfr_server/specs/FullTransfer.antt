@@ -10,10 +10,10 @@ use Rattle.tsig_port.specs.Tsig.{TsigKey, mac_in, is_mac_len, compose_len, signe
 use Rattle.tsig_port.specs.Checked.{taken_message}
 use Rattle.tsig_port.specs.ServerCheck.{Keys, verdict}
 use Rattle.tsig_port.specs.ServerCheck.Verdict.{Accepted}
-use Rattle.zone_types.specs.Version.{Version, has_one_apex_soa}
-use Rattle.zone_types.specs.Messages.{read_of}
-use Rattle.zone_types.specs.Offer.{Offer, Provider, is_granted, offer_of, whole_text}
-use Rattle.zone_types.specs.Read.{request_fault}
+use Rattle.zone_model.specs.Version.{Version, has_one_apex_soa}
+use Rattle.zone_model.specs.Messages.{read_of}
+use Rattle.zone_model.specs.Offer.{Offer, Provider, is_granted, offer_of, whole_text}
+use Rattle.zone_model.specs.Read.{request_fault}
 use Rattle.xfr_server.specs.Items.{Sending, sent_by}
 use Rattle.xfr_server.specs.Offers.{answer_to}
 use Rattle.xfr_server.specs.Texts.{transfer_message}

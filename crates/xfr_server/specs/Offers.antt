@@ -5,8 +5,8 @@ use Rattle.dns_wire.specs.Wire.{Question}
 use Rattle.tsig_port.specs.Tsig.{TsigKey}
 use Rattle.tsig_keys.specs.declared.algorithms.Algorithm.{Algorithm}
 use Rattle.tsig_keys.specs.declared.algorithms.Algorithm.TheVariants.{Sha1, Sha256, Sha384, Sha512}
-use Rattle.zone_types.specs.Offer.{Offer, Denial, Provider, offered}
-use Rattle.zone_types.specs.Offer.Denial.{UnknownZone as NoSuchZone, NotGranted}
+use Rattle.zone_model.specs.Offer.{Offer, Denial, Provider, offered}
+use Rattle.zone_model.specs.Offer.Denial.{UnknownZone as NoSuchZone, NotGranted}
 use Rattle.xfr_server.specs.declared.providers.Grant.{Grant}
 use Rattle.xfr_server.specs.declared.providers.XfrDataProviderError.{XfrDataProviderError}
 use Rattle.xfr_server.specs.declared.providers.XfrDataProviderError.TheVariants.{ParseError, UnknownZone, Refused, TemporarilyUnavailable, Memory}

@@ -6,7 +6,7 @@ use Rattle.tsig_port.specs.Tsig.{TsigKey, mac_in, compose_len}
 use Rattle.tsig_port.specs.Checked.{taken_message}
 use Rattle.tsig_port.specs.ServerCheck.{Keys, Verdict, verdict}
 use Rattle.tsig_port.specs.ServerCheck.Verdict.{NoTsig, Accepted, Refused, BadTime}
-use Rattle.zone_types.specs.Offer.{Offer}
+use Rattle.zone_model.specs.Offer.{Offer}
 use Rattle.xfr_server.specs.Items.{Sending, all_given}
 use Rattle.xfr_server.specs.Replying.{error_replies}
 use Rattle.xfr_server.specs.Transfers.{transfer_mode, transfer_replies}

@@ -8,9 +8,9 @@ use Rattle.dns_wire.specs.Parse.{questions_in}
 use Rattle.dns_wire.specs.Reply.{answer_header}
 use Rattle.dns_wire.specs.declared.builder.PushError.{PushError}
 use Rattle.dns_wire.specs.declared.builder.PushError.TheVariants.{ShortBuf, CountOverflow, Memory}
-use Rattle.zone_types.specs.Version.{Version}
-use Rattle.zone_types.specs.Answer.{records_of}
-use Rattle.zone_types.specs.Walk.{Stop}
+use Rattle.zone_model.specs.Version.{Version}
+use Rattle.zone_model.specs.Answer.{records_of}
+use Rattle.zone_model.specs.Walk.{Stop}
 
 -- the header of a transfer message: id, opcode and RD of the request, QR and AA set (RFC 5936, 2.2.1)
 abbrev pub transfer_header : Header → Header

@@ -7,10 +7,10 @@ use Rattle.dns_rdata.specs.Heads.{RawRecord, readable}
 use Rattle.dns_rdata.specs.Soa.{serial_of}
 use Rattle.dns_wire.specs.Wire.{Building, Question, header_in, message_wire}
 use Rattle.dns_wire.specs.Parse.{sole_question_in, authority_readings}
-use Rattle.zone_types.specs.Version.{Version, has_one_apex_soa}
-use Rattle.zone_types.specs.Answer.{apex_soa_record}
-use Rattle.zone_types.specs.Difference.{zone_serial}
-use Rattle.zone_types.specs.Offer.{Offer, whole_text}
+use Rattle.zone_model.specs.Version.{Version, has_one_apex_soa}
+use Rattle.zone_model.specs.Answer.{apex_soa_record}
+use Rattle.zone_model.specs.Difference.{zone_serial}
+use Rattle.zone_model.specs.Offer.{Offer, whole_text}
 use Rattle.xfr_server.specs.Items.{one_reply, reply_item, feedback_item}
 use Rattle.xfr_server.specs.Replying.{notimp, refused, error_reply, error_replies}
 use Rattle.xfr_server.specs.Texts.{transfer_message, can_hold}

@@ -1,7 +1,7 @@
 // Worked replies of a primary, proved by computation.
 ghost use Rattle.std.specs.Prelude.{map, ◌≡◌, [], ◌∷◌, true, false, Some, None};
 ghost use Rattle.dns_name.specs.Codes.{type_axfr, type_ixfr, type_soa};
-ghost use Rattle.zone_types.specs.ZoneRows as rows;
+ghost use Rattle.zone_model.specs.ZoneRows as rows;
 ghost use Rattle.xfr_server.specs.Transfers as transfers;
 ghost use Rattle.xfr_server.specs.Transfers.Choice.{Refuse, SoaAlone, Whole};
 ghost use Rattle.xfr_server.specs.Signing as signed;

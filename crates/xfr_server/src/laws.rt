@@ -1,7 +1,7 @@
 // Laws of what a primary sends, each the contract of a function with an empty body.
 ghost use Rattle.std.specs.Prelude.{List, Option};
 ghost use Rattle.tsig_port.specs.Tsig.{TsigKey};
-ghost use Rattle.zone_types.specs.Offer.{Offer};
+ghost use Rattle.zone_model.specs.Offer.{Offer};
 ghost use Rattle.xfr_server.specs.Items.{Sending};
 ghost use Rattle.xfr_server.specs.FullTransfer.{SendsWhole, WholeIsTaken, TransferIsMessage, HistoryGrants};
 ghost use Rattle.xfr_server.specs.declared.requests.Request.{Request as RequestOf};

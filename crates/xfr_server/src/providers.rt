@@ -3,7 +3,7 @@ ghost use Rattle.std.specs.Prelude.{◌≡◌, ◌++◌, ◌∷◌, [], ℕ, fal
 ghost use Rattle.std.specs.Prelude.{◌&&◌, ◌==◌};
 ghost use Rattle.std.specs.List.{list_any};
 ghost use Rattle.dns_name.specs.Names.{same_name};
-ghost use Rattle.zone_types.specs.Offer.{is_granted};
+ghost use Rattle.zone_model.specs.Offer.{is_granted};
 ghost use Rattle.xfr_server.specs.Offers.{algorithm_number, key_id};
 
 use crate::requests::Request;
@@ -24,7 +24,7 @@ pub struct XfrData {
 
 impl Model for XfrData {
     ghost use Rattle.std.specs.Prelude.{[]};
-    ghost use Rattle.zone_types.specs.Offer.{Offer};
+    ghost use Rattle.zone_model.specs.Offer.{Offer};
 
     ghost Value = { Offer };
 
@@ -109,7 +109,7 @@ impl From<ParseError> for XfrDataProviderError {
 /// What knows the zones that may be transferred.
 pub trait XfrDataProvider<M> {
     ghost use Rattle.std.specs.Prelude.{ℕ, List, Option, Result};
-    ghost use Rattle.zone_types.specs.Offer.{Offer};
+    ghost use Rattle.zone_model.specs.Offer.{Offer};
     ghost use Rattle.xfr_server.specs.declared.providers.XfrDataProviderError.{XfrDataProviderError};
     ghost use Rattle.xfr_server.specs.Offers.{Answers};
 
@@ -159,7 +159,7 @@ pub struct HistoryProvider {
 
 impl Model for HistoryProvider {
     ghost use Rattle.std.specs.Prelude.{[]};
-    ghost use Rattle.zone_types.specs.Offer.{Provider};
+    ghost use Rattle.zone_model.specs.Offer.{Provider};
 
     ghost Value = { Provider };
 

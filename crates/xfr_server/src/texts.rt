@@ -2,11 +2,11 @@
 ghost use Rattle.std.specs.Prelude.{◌≡◌, ◌++◌, ◌↔◌, map, flat_map, not, filter, IfSome, IsSome, IsTrue};
 ghost use Rattle.dns_rdata.specs.Soa.{serial_of};
 ghost use Rattle.dns_rdata.specs.ZoneData.{data_fields};
-ghost use Rattle.zone_types.specs.Version.{has_one_apex_soa};
-ghost use Rattle.zone_types.specs.Answer.{apex_soa_record, records_of};
-ghost use Rattle.zone_types.specs.Difference.{zone_serial as serial_of_version};
-ghost use Rattle.zone_types.specs.Offer.{whole_text};
-ghost use Rattle.zone_types.specs.Walk.{walk};
+ghost use Rattle.zone_model.specs.Version.{has_one_apex_soa};
+ghost use Rattle.zone_model.specs.Answer.{apex_soa_record, records_of};
+ghost use Rattle.zone_model.specs.Difference.{zone_serial as serial_of_version};
+ghost use Rattle.zone_model.specs.Offer.{whole_text};
+ghost use Rattle.zone_model.specs.Walk.{walk};
 ghost use Rattle.xfr_server.specs.Texts.{transfer_message, Writes, AddsAnswers, is_soa_stop, stop_records};
 
 use crate::replies::start_transfer;

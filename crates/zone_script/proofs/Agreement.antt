@@ -6,9 +6,9 @@ use Rattle.std.proofs.lemmas.List.Elements.{filter-append}
 use Rattle.dns_name.specs.Names.{Name, under}
 use Rattle.dns_rdata.specs.Records.{Record}
 use Rattle.tsig_port.specs.Tsig.{TsigKey}
-use Rattle.zone_types.specs.Version.{Version}
-use Rattle.zone_types.specs.Edits.{close}
-use Rattle.zone_types.specs.Classify.{ZoneFile, opened_with, opened}
+use Rattle.zone_model.specs.Version.{Version}
+use Rattle.zone_model.specs.Edits.{close}
+use Rattle.zone_model.specs.Classify.{ZoneFile, opened_with, opened}
 use Rattle.zone_script.specs.Script as scripts
 use Rattle.zone_script.specs.Script.{Line, ZoneLine, KeyLine, AtLine, PrimaryLine, SecondaryLine, ChangeLine, QueryLine, stage_of, is_skipped, read_line, read_lines, read_next, next_line, take_from, or_line, script_of, script_lines, no_script, converts, at_end, accept, begun, begin_edits, opening_fault}
 use Rattle.zone_script.specs.ScriptReaders.{readers_so_far, is_read_type}

@@ -5,11 +5,11 @@ use Rattle.std.specs.Cmp.{tied_itself, Equal-is, unsigned_Decides}
 use Rattle.std.specs.BTreeMap.{insert_entry}
 use Rattle.dns_name.specs.Names.{Name, fold, same_name, under}
 use Rattle.dns_rdata.specs.Records.{Field, Record}
-use Rattle.zone_types.specs.Version.{RecordSet, Key, Version, key_cmp, set_at, data_at}
-use Rattle.zone_types.specs.Edits.{distinct, put_set, remove_set, with_sets}
-use Rattle.zone_types.specs.Classify.{ZoneFile, opened_with, opened, lowest_ttl}
-use Rattle.zone_types.proofs.Folded.{key_total, key_from_tie, fold-fold, same_name-Decides}
-use Rattle.zone_types.proofs.Steps.{found-insert}
+use Rattle.zone_model.specs.Version.{RecordSet, Key, Version, key_cmp, set_at, data_at}
+use Rattle.zone_model.specs.Edits.{distinct, put_set, remove_set, with_sets}
+use Rattle.zone_model.specs.Classify.{ZoneFile, opened_with, opened, lowest_ttl}
+use Rattle.zone_model.proofs.Folded.{key_total, key_from_tie, fold-fold, same_name-Decides}
+use Rattle.zone_model.proofs.Steps.{found-insert}
 
 pub both_ways : (a b : Bool) → (a ≡ true → b ≡ true) → (b ≡ true → a ≡ true) → a ≡ b
 both_ways true true f g = refl

@@ -6,10 +6,10 @@ use Rattle.std.specs.Cmp.{unsigned_Decides}
 use Rattle.dns_name.specs.Names.{Name, same_name, under}
 use Rattle.dns_name.specs.Codes.{type_ns, type_cname, type_soa, type_ds}
 use Rattle.dns_rdata.specs.Records.{Record}
-use Rattle.zone_types.specs.Version.{Version, set_at, below_apex}
-use Rattle.zone_types.specs.Edits.{second_alias}
-use Rattle.zone_types.specs.Classify.{ZoneFile, Kind, Normal, Cut, Alias, Outside, BadRecord, ClassMismatch, IllegalZoneCut, IllegalRecord, RecordVerdict, Accepted, Rejected, classify, classify_as, kind_of, same_kind, types_at, least, is_address, no_glue_at, cut_at, alias_at, refuse_if, opened}
-use Rattle.zone_types.proofs.Folded.{under_alike, same_name_alike, same_name-Decides}
+use Rattle.zone_model.specs.Version.{Version, set_at, below_apex}
+use Rattle.zone_model.specs.Edits.{second_alias}
+use Rattle.zone_model.specs.Classify.{ZoneFile, Kind, Normal, Cut, Alias, Outside, BadRecord, ClassMismatch, IllegalZoneCut, IllegalRecord, RecordVerdict, Accepted, Rejected, classify, classify_as, kind_of, same_kind, types_at, least, is_address, no_glue_at, cut_at, alias_at, refuse_if, opened}
+use Rattle.zone_model.proofs.Folded.{under_alike, same_name_alike, same_name-Decides}
 use Rattle.zone_script.specs.Script.{accept, accept_if, with_record, converts}
 use Rattle.zone_script.specs.ScriptReaders.{is_read_type}
 use Rattle.zone_script.specs.ZoneFiles.{clashes, is_taken}

@@ -3,8 +3,8 @@ use Rattle.std.specs.Prelude.{ℕ, zero, suc, ◌/◌, ◌%◌, ◌^◌, List, [
 use Rattle.dns_name.specs.Names.{Name}
 use Rattle.dns_rdata.specs.Records.{Octets, DomainName, Record}
 use Rattle.dns_name.specs.Codes.{type_a, type_ns, type_soa}
-use Rattle.zone_types.specs.Version.{Version}
-use Rattle.zone_types.specs.Classify.{ZoneFile, opened}
+use Rattle.zone_model.specs.Version.{Version}
+use Rattle.zone_model.specs.Classify.{ZoneFile, opened}
 use Rattle.zone_script.specs.Words.{drawn}
 
 abbrev pub generated_apex : Name

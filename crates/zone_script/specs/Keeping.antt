@@ -3,9 +3,9 @@ use Rattle.std.specs.Prelude.{◌≡◌, ℕ, ◌+◌, Bool, false, ◌&&◌, �
 use Rattle.dns_name.specs.Names.{Name, under}
 use Rattle.dns_rdata.specs.Records.{Record}
 use Rattle.tsig_port.specs.Tsig.{TsigKey}
-use Rattle.zone_types.specs.Edits.{close}
-use Rattle.zone_types.specs.Commits.{Commit}
-use Rattle.zone_types.specs.Classify.{opened_with, opened}
+use Rattle.zone_model.specs.Edits.{close}
+use Rattle.zone_model.specs.Commits.{Commit}
+use Rattle.zone_model.specs.Classify.{opened_with, opened}
 use Rattle.zone_script.specs.Script as scripts
 use Rattle.zone_script.specs.Script.{script_lines, stage_of, is_once, is_skipped, read_line}
 use Rattle.zone_script.specs.ScriptReaders.{readers_so_far}

@@ -1,6 +1,6 @@
 -- The program's words, and its statuses.
 use Rattle.std.specs.Prelude.{ℕ, ◌+◌, ◌*◌, ◌^◌, ◌%◌, ◌&&◌, nat_le, if◌then◌else◌, List, [], ◌∷◌, Option, Some, None, option_map, option_and_then, codes, bytes_eq}
-use Rattle.zone_types.specs.TransferText.{Mode, Axfr, Ixfr}
+use Rattle.zone_model.specs.TransferText.{Mode, Axfr, Ixfr}
 use Rattle.zone_script.specs.Script.{number_of, number_below}
 
 -- what the words ask for

@@ -3,8 +3,8 @@ use Rattle.std.specs.Prelude.{ℕ, Bool, ◌&&◌, ◌||◌, ◌==◌, not, is_s
 use Rattle.dns_name.specs.Names.{Name}
 use Rattle.dns_name.specs.Codes.{type_ns, type_soa}
 use Rattle.dns_rdata.specs.Records.{Record}
-use Rattle.zone_types.specs.Version.{Version, set_at, below_apex}
-use Rattle.zone_types.specs.Edits.{second_alias}
+use Rattle.zone_model.specs.Version.{Version, set_at, below_apex}
+use Rattle.zone_model.specs.Edits.{second_alias}
 
 -- whether a set of that type stands at an owner below the apex
 abbrev pub has_below : Version → Name → ℕ → Bool

@@ -1,13 +1,11 @@
 //! A zone as its opening records are read.
 ghost use Rattle.std.specs.Prelude.{◌≡◌, Ok, Err, IfOk, IfErr, IfSome, OnOk};
-ghost use Rattle.zone_types.specs.Version.{below_apex};
-ghost use Rattle.zone_types.specs.Edits.{second_alias};
 ghost use Rattle.zone_script.specs.ZoneFiles.{has_below, clashes, is_taken};
 ghost use Rattle.zone_script.specs.Keeping as keeping;
 ghost use Rattle.zone_script.specs.Causes.{line_in};
 
 use crate::script::ScriptError;
-use dns_name::{Class, Rtype, StoredName, ToName};
+use dns_name::{Class, Rtype, StoredName};
 use dns_rdata::StoredRecord;
 use std::alloc::{AllocError, Global};
 use zone_store::{InsertError, ZoneApex, ZoneBuilder};
@@ -33,8 +31,7 @@ impl OpeningZone {
     }
 
     /// Takes the record of a line. Refused are a record of another class, and below the apex NS beside SOA (RFC 1034, 4.2.1) or a
-    /// second CNAME (RFC 2181, 10.1). A record whose
-    /// owner is outside the zone is taken, and refuses the zone at its end.
+    /// second CNAME (RFC 2181, 10.1). A record whose owner is outside the zone is taken, and refuses the zone at its end.
     pub(crate) fn take(&mut self, found: StoredRecord, number: u64) -> Result<(), ScriptError>
         ensures ok { OnOk result (keeping.take_record self.old number found ≡ Ok self.new) }
         ensures bad { IfErr result (λ e. IfSome (line_in e) (λ n. keeping.take_record self.old number found ≡ Err n)) }
@@ -58,20 +55,7 @@ impl OpeningZone {
     {
         found.class() == self.builder.class()
             && !self.clashes(found)
-            && !self.is_second_alias(found)
-    }
-
-    /// Whether a record would be a second CNAME below the apex.
-    fn is_second_alias(&self, found: &StoredRecord) -> bool
-        ensures { result ≡ second_alias self.now.builder found.now }
-    {
-        if !self.is_below_apex(found.owner()) {
-            return false;
-        }
-        if found.rtype() != Rtype::CNAME {
-            return false;
-        }
-        self.builder.has_set(found.owner(), Rtype::CNAME)
+            && !self.builder.is_second_alias(found)
     }
 
     /// Whether NS and SOA would stand side by side below the apex.
@@ -86,14 +70,7 @@ impl OpeningZone {
     fn has_below(&self, owner: &StoredName, rtype: Rtype) -> bool
         ensures { result ≡ has_below self.now.builder owner.now rtype }
     {
-        self.is_below_apex(owner) && self.builder.has_set(owner, rtype)
-    }
-
-    /// Whether a name is below the apex.
-    fn is_below_apex(&self, name: &StoredName) -> bool
-        ensures { result ≡ below_apex self.now.builder name.now }
-    {
-        name.ends_with(self.builder.apex()) && !name.name_eq(self.builder.apex())
+        self.builder.is_below_apex(owner) && self.builder.has_set(owner, rtype)
     }
 
     /// The line of the last record, where an owner is outside the zone.

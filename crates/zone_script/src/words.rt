@@ -1,6 +1,6 @@
 //! The program's words.
 ghost use Rattle.std.specs.Prelude.{◌≡◌, ◌↔◌, IsTrue, Some, map, string_bytes};
-ghost use Rattle.zone_types.specs.TransferText.{Axfr};
+ghost use Rattle.zone_model.specs.TransferText.{Axfr};
 ghost use Rattle.zone_script.specs.Words.{form_of, Transfer};
 
 use crate::numbers::number_below;

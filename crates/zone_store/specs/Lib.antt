@@ -1,7 +1,3 @@
-pub mod Causes
-pub mod Puts
+pub use Rattle.zone_versions.specs.Causes
+pub use Rattle.zone_versions.specs.Puts
 pub mod Pending
-pub mod Stops
-pub mod Strays
-pub mod Sound
-pub mod DataIndex

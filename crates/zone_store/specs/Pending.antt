@@ -1,6 +1,6 @@
 -- What a session holds while it edits.
 use Rattle.std.specs.Prelude.{Option, Some, None}
-use Rattle.zone_types.specs.Version.{Version}
+use Rattle.zone_model.specs.Version.{Version}
 
 -- the version that is pending: the published one until the first edit
 abbrev pub pending_of : Version → Option Version → Version

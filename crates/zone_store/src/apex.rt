@@ -2,12 +2,12 @@
 ghost use Rattle.std.specs.Prelude.{◌≡◌, [], IfOk, false};
 
 use crate::read::ReadZone;
-use crate::version::ZoneVersion;
 use crate::write::WriteZone;
 use dns_name::{Class, StoredName};
 use std::alloc::{AllocError, Global};
 use std::marker::Model;
 use std::sync::Arc;
+use zone_versions::ZoneVersion;
 
 /// A zone: its current version, and how the next one is written.
 #[derive(Drop)]
@@ -16,7 +16,7 @@ pub struct ZoneApex {
 }
 
 impl Model for ZoneApex {
-    ghost use Rattle.zone_types.specs.Commits.{Commit};
+    ghost use Rattle.zone_model.specs.Commits.{Commit};
 
     ghost Value = { Commit };
 

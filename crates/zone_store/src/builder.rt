@@ -1,20 +1,20 @@
 // How a zone opens.
 ghost use Rattle.std.specs.Prelude.{◌≡◌, ◌↔◌, [], true, false, Err, OnOk, OnErr, IfOk, is_some};
-ghost use Rattle.zone_types.specs.Version.{set_at};
+ghost use Rattle.zone_model.specs.Version.{set_at, below_apex};
 ghost use Rattle.dns_name.specs.Names.{under};
-ghost use Rattle.zone_types.specs.Classify.{opened_with};
-ghost use Rattle.zone_types.specs.Edits as edits;
-ghost use Rattle.zone_store.specs.Puts.{adds_alias};
+ghost use Rattle.zone_model.specs.Classify.{opened_with};
+ghost use Rattle.zone_model.specs.Edits as edits;
+ghost use Rattle.zone_versions.specs.Puts.{adds_alias};
 
 use crate::apex::ZoneApex;
 use crate::errors::InsertError;
 use crate::read::ReadZone;
-use crate::version::ZoneVersion;
-use dns_name::{Class, Labelled, Rtype, StoredName};
+use dns_name::{Class, Labelled, Rtype, StoredName, ToName};
 use dns_rdata::StoredRecord;
 use std::alloc::{AllocError, Global};
 use std::marker::Model;
 use std::sync::Arc;
+use zone_versions::ZoneVersion;
 
 /// The records that a zone opens with, put one by one. It is seen as the version that they make.
 #[derive(Drop)]
@@ -24,7 +24,7 @@ pub struct ZoneBuilder {
 }
 
 impl Model for ZoneBuilder {
-    ghost use Rattle.zone_types.specs.Version.{Version};
+    ghost use Rattle.zone_model.specs.Version.{Version};
 
     ghost Value = { Version };
 
@@ -61,6 +61,20 @@ impl ZoneBuilder {
         ensures { result ≡ is_some (set_at self.now (N.labels owner.now) rtype) }
     {
         self.version.set_at(owner, rtype).is_some()
+    }
+
+    /// Whether a name is below the apex.
+    pub fn is_below_apex<N: ToName>(&self, name: &N) -> bool
+        ensures { result ≡ below_apex self.now (N.labels name.now) }
+    {
+        self.version.is_below_apex(name)
+    }
+
+    /// Whether a record would be one more CNAME of a name below the apex that has one, equal data too (RFC 2181, 10.1).
+    pub fn is_second_alias(&self, added: &StoredRecord) -> bool
+        ensures { result ≡ edits.second_alias self.now added.now }
+    {
+        self.version.is_second_alias(added)
     }
 
     /// Puts a record: data that the set has already are not put again, and the lower TTL of set and record becomes the set's (RFC 2181, 5). The

@@ -1,16 +1,14 @@
 // Reading one version of a zone.
 ghost use Rattle.std.specs.Prelude.{◌≡◌, IfOk, option_copied};
-ghost use Rattle.zone_types.specs.Version.{IsValid, set_at};
-ghost use Rattle.zone_types.specs.Walk.{next_stop, walk};
-ghost use Rattle.zone_store.specs.Stops.{first_stop};
+ghost use Rattle.zone_model.specs.Version.{IsValid, set_at};
+ghost use Rattle.zone_model.specs.Walk.{next_stop, walk};
+ghost use Rattle.zone_versions.specs.Stops.{first_stop};
 
-use crate::sets::RecordSet;
-use crate::version::{WalkItem, ZoneVersion};
-use crate::walk::RrsetIter;
 use dns_name::{Class, Labelled, Rtype, StoredName};
 use std::alloc::AllocError;
 use std::marker::Model;
 use std::sync::Arc;
+use zone_versions::{RecordSet, RrsetIter, WalkItem, ZoneVersion};
 
 /// A read handle: one version of a zone, which stays as it is, and its number.
 #[derive(Drop)]
@@ -20,8 +18,8 @@ pub struct ReadZone {
 }
 
 impl Model for ReadZone {
-    ghost use Rattle.zone_types.specs.Commits.{Commit};
-    ghost use Rattle.zone_types.specs.Version.{IsValid};
+    ghost use Rattle.zone_model.specs.Commits.{Commit};
+    ghost use Rattle.zone_model.specs.Version.{IsValid};
 
     ghost Value = { Commit };
 
@@ -108,7 +106,7 @@ impl ReadZone {
     }
 
     /// The version, lent.
-    pub(crate) fn shown(&self) -> &ZoneVersion
+    pub fn contents(&self) -> &ZoneVersion
         ensures { result.now ≡ self.now.version }
     {
         &self.version

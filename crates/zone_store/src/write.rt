@@ -1,24 +1,24 @@
 // A session that writes a zone's next versions.
 ghost use Rattle.std.specs.Prelude.{◌≡◌, ◌↔◌, ◌-◌, ◌^◌, [], Ok, Err, IfOk, IfErr, IfSome, OnOk, OnErr, IsOk, IsTrue, false};
-ghost use Rattle.zone_types.specs.Edits.{add, delete, with_sets};
-ghost use Rattle.zone_types.specs.Edits as edits;
-ghost use Rattle.zone_types.specs.Version.{IsValid};
-ghost use Rattle.zone_types.specs.Session.{opened_session, with_pending, committed, rolled_back};
-ghost use Rattle.zone_store.specs.Causes.{refusal_of};
-ghost use Rattle.zone_store.specs.Puts.{appended, without, with_soa};
+ghost use Rattle.zone_model.specs.Edits.{add, delete, with_sets};
+ghost use Rattle.zone_model.specs.Edits as edits;
+ghost use Rattle.zone_model.specs.Version.{IsValid};
+ghost use Rattle.zone_model.specs.Session.{opened_session, with_pending, committed, rolled_back};
+ghost use Rattle.zone_versions.specs.Causes.{refusal_of};
+ghost use Rattle.zone_versions.specs.Puts.{appended, without, with_soa};
 ghost use Rattle.dns_rdata.specs.DataFields.{soa_fields};
 ghost use Rattle.dns_rdata.specs.ZoneData.{data_fields};
 ghost use Rattle.std.specs.Arc.{arc_value};
 
 use crate::apex::ZoneApex;
-use crate::errors::{CommitError, EditError};
+use crate::errors::CommitError;
 use crate::read::ReadZone;
-use crate::version::ZoneVersion;
 use dns_name::{StoredName, Ttl};
 use dns_rdata::{Soa, StoredRecord, StoredRecordData, ZoneRecordData};
 use std::alloc::{AllocError, Global};
 use std::marker::Model;
 use std::sync::Arc;
+use zone_versions::{EditError, ZoneVersion};
 
 /// The one session of a zone: it edits what is pending, and publishes it by `commit`. What is pending when it is dropped is gone.
 #[derive(Drop)]
@@ -33,7 +33,7 @@ pub struct WriteZone<'z> {
 impl<'z> Model for WriteZone<'z> {
     ghost use Rattle.std.specs.Prelude.{◌≡◌, is_some, option_map, IfSome};
     ghost use Rattle.std.specs.Arc.{arc_value};
-    ghost use Rattle.zone_types.specs.Session.{Session};
+    ghost use Rattle.zone_model.specs.Session.{Session};
     ghost use Rattle.zone_store.specs.Pending.{pending_of};
 
     ghost Value = { Session };
@@ -70,7 +70,7 @@ impl<'z> WriteZone<'z> {
     {
         match &self.pending {
             Some(version) => version,
-            None => self.zone.current().shown(),
+            None => self.zone.current().contents(),
         }
     }
 

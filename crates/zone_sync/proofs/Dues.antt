@@ -12,8 +12,8 @@ use Rattle.zone_script.specs.declared.script.Script.{Script}
 use Rattle.zone_sync.specs.Notices.{bad_line, is_reported}
 use Rattle.zone_sync.specs.Streams.{with_more}
 use Rattle.xfr_server.specs.Items.{Sending}
-use Rattle.zone_types.specs.Commits.{Commit}
-use Rattle.zone_types.specs.Offer.{Provider}
+use Rattle.zone_model.specs.Commits.{Commit}
+use Rattle.zone_model.specs.Offer.{Provider}
 use Rattle.zone_sync.specs.Reported.{Reports, Ran, IsDue, Took, TookFirst, asking_with, provider_of, primary_version}
 use Rattle.zone_sync.specs.declared.program.Status.{Status}
 use Rattle.zone_sync.specs.declared.program.Status.TheVariants as ends

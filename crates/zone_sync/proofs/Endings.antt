@@ -4,10 +4,10 @@ use Rattle.std.specs.List.{list_any}
 use Rattle.std.proofs.Common.{refl, sym, ap, subst, ◌∙◌, inl, inr, eq-eqb}
 use Rattle.dns_name.specs.Names.{Name, same_name}
 use Rattle.tsig_port.specs.Tsig.{TsigKey}
-use Rattle.zone_types.specs.Version.{Version}
-use Rattle.zone_types.specs.Session.{Session}
-use Rattle.zone_types.specs.Offer.{Provider, is_granted}
-use Rattle.zone_types.proofs.Folded.{same_name-Decides}
+use Rattle.zone_model.specs.Version.{Version}
+use Rattle.zone_model.specs.Session.{Session}
+use Rattle.zone_model.specs.Offer.{Provider, is_granted}
+use Rattle.zone_model.proofs.Folded.{same_name-Decides}
 use Rattle.xfr_server.specs.Items.{Sending}
 use Rattle.xfr_server.specs.Offers.{key_id}
 use Rattle.zone_transfer.specs.Links.{LinkLists}

@@ -3,15 +3,15 @@ use Rattle.std.specs.Prelude.{◌≡◌, ◌≢◌, ◌<◌, ℕ, List, [], leng
 use Rattle.std.proofs.Common.{refl, sym, ap, ◌∙◌, subst, arith}
 use Rattle.dns_rdata.specs.Records.{record_wire}
 use Rattle.tsig_port.specs.Tsig.{TsigKey}
-use Rattle.zone_types.specs.Commits.{Commit}
-use Rattle.zone_types.specs.Session.{Session}
+use Rattle.zone_model.specs.Commits.{Commit}
+use Rattle.zone_model.specs.Session.{Session}
 use Rattle.xfr_course.specs.Outcome.{Outcome}
 use Rattle.zone_transfer.specs.Links.{LinkLists}
 use Rattle.zone_transfer.specs.SoFar.{Asking, asks_with}
 use Rattle.zone_transfer.specs.Ending.{outcome_of}
 use Rattle.zone_transfer.specs.Delivery.{Synchronizes}
 use Rattle.xfr_server.specs.Items.{Sending}
-use Rattle.zone_types.specs.TransferText.{Axfr}
+use Rattle.zone_model.specs.TransferText.{Axfr}
 use Rattle.zone_transfer.specs.declared.outcome.SyncOk.{SyncOk}
 use Rattle.zone_transfer.specs.declared.outcome.SyncError.{SyncError}
 use Rattle.zone_transfer.specs.declared.outcome.SyncError.TheVariants as why

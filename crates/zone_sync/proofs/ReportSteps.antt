@@ -2,8 +2,8 @@
 use Rattle.std.specs.Prelude.{◌≡◌, ℕ, List, [], ◌∷◌, ◌++◌, flat_map, map, codes, refl}
 use Rattle.std.proofs.Common.{ap}
 use Rattle.dns_rdata.specs.Records.{Field, record_wire}
-use Rattle.zone_types.specs.Version.{Version}
-use Rattle.zone_types.specs.Walk.{Stop}
+use Rattle.zone_model.specs.Version.{Version}
+use Rattle.zone_model.specs.Walk.{Stop}
 use Rattle.zone_sync.specs.Report.{stop_lines, record_line, flag_word}
 use Rattle.zone_sync.specs.Lines.{item_line, set_record}
 

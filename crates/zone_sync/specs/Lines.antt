@@ -1,7 +1,7 @@
 -- The lines that a walk's stop gives, item by item.
 use Rattle.std.specs.Prelude.{ℕ, List, [], ◌∷◌, codes}
 use Rattle.dns_rdata.specs.Records.{Record, Field, record_wire}
-use Rattle.zone_types.specs.Walk.{Stop}
+use Rattle.zone_model.specs.Walk.{Stop}
 use Rattle.zone_sync.specs.Report.{record_line, flag_word}
 
 -- a record of a set

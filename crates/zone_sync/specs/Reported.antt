@@ -2,9 +2,9 @@
 use Rattle.std.specs.Prelude.{◌≡◌, ℕ, List, [], length, take, Option, Some, IfSome, Result, Ok, Err, ◌≤◌, ◌∷◌, min, false}
 use Rattle.dns_rdata.specs.Records.{record_wire}
 use Rattle.tsig_port.specs.Tsig.{TsigKey}
-use Rattle.zone_types.specs.Commits.{Commit}
-use Rattle.zone_types.specs.Session.{Session}
-use Rattle.zone_types.specs.TransferText.{Axfr}
+use Rattle.zone_model.specs.Commits.{Commit}
+use Rattle.zone_model.specs.Session.{Session}
+use Rattle.zone_model.specs.TransferText.{Axfr}
 use Rattle.xfr_course.specs.Outcome.{Outcome}
 use Rattle.zone_transfer.specs.Links.{LinkLists}
 use Rattle.zone_transfer.specs.SoFar.{Asking, asked_octets}
@@ -13,10 +13,10 @@ use Rattle.zone_transfer.specs.Fitting.{Fits}
 use Rattle.zone_transfer.specs.Delivery.{Synchronizes}
 use Rattle.xfr_server.specs.Items.{Sending}
 use Rattle.xfr_server.specs.Offers.{key_id}
-use Rattle.zone_types.specs.Offer.{Provider}
-use Rattle.zone_types.specs.Version.{Version}
-use Rattle.zone_types.specs.Edits.{close}
-use Rattle.zone_types.specs.Classify.{opened}
+use Rattle.zone_model.specs.Offer.{Provider}
+use Rattle.zone_model.specs.Version.{Version}
+use Rattle.zone_model.specs.Edits.{close}
+use Rattle.zone_model.specs.Classify.{opened}
 use Rattle.zone_transfer.specs.declared.outcome.SyncOk.{SyncOk}
 use Rattle.zone_transfer.specs.declared.outcome.SyncError.{SyncError}
 use Rattle.zone_transfer.specs.declared.outcome.SyncError.TheVariants as why

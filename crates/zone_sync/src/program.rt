@@ -1,6 +1,6 @@
 //! The program over its streams and its link.
 ghost use Rattle.std.specs.Prelude.{◌≡◌, ◌≢◌, ◌⊎◌, ◌<◌, ◌≤◌, ℕ, List, Some, Ok, Err, map, length, take, string_bytes, IfOk, IfSome, IsTrue};
-ghost use Rattle.zone_types.specs.TransferText.{Axfr};
+ghost use Rattle.zone_model.specs.TransferText.{Axfr};
 ghost use Rattle.zone_transfer.specs.Links.{Rose};
 ghost use Rattle.zone_sync.specs.Streams.{with_more, emptied};
 ghost use Rattle.zone_sync.specs.Reported.{Reports, FitsLink, provider_of, IsDue, Took, TookFirst, status_by, asking_with};

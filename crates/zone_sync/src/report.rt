@@ -2,7 +2,7 @@
 ghost use Rattle.std.specs.Prelude.{◌≡◌, ◌++◌, [], IfOk, IsSomeAnd, OnOk, flat_map, map};
 ghost use Rattle.dns_rdata.specs.Records.{record_wire};
 ghost use Rattle.dns_rdata.specs.ZoneData.{data_fields};
-ghost use Rattle.zone_types.specs.Walk.{walk};
+ghost use Rattle.zone_model.specs.Walk.{walk};
 ghost use Rattle.zone_sync.specs.Report.{stop_lines, report};
 ghost use Rattle.zone_transfer.specs.Ending.{outcome_of};
 ghost use Rattle.zone_sync.specs.Lines.{set_record, item_line};

@@ -1,9 +1,9 @@
 -- A client and its exchange.
 use Rattle.std.proofs.Common.{◌≡◌, List, [], ◌∷◌, ◌++◌, ℕ, refl, sym, ap, ◌∙◌, subst, Option, Some, None, Result, Ok, Err}
-use Rattle.zone_types.specs.Version.{Version}
-use Rattle.zone_types.specs.Commits.{Commit}
-use Rattle.zone_types.specs.Session.{Session, rolled_back}
-use Rattle.zone_types.specs.TransferText.{Axfr}
+use Rattle.zone_model.specs.Version.{Version}
+use Rattle.zone_model.specs.Commits.{Commit}
+use Rattle.zone_model.specs.Session.{Session, rolled_back}
+use Rattle.zone_model.specs.TransferText.{Axfr}
 use Rattle.xfr_course.specs.Outcome.{Outcome}
 use Rattle.zone_transfer.specs.Modes.{mode_of}
 use Rattle.zone_transfer.specs.SoFar.{Asking, client_so_far}

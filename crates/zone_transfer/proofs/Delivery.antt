@@ -3,9 +3,9 @@ use Rattle.std.proofs.Common.{◌≡◌, ℕ, ◌+◌, ◌-◌, ◌^◌, ◌<◌
 use Rattle.std.specs.Prelude.{unwrap_or}
 use Rattle.std.specs.List.{last_or, list_all}
 use Rattle.dns_message.specs.declared.message.ShortMessage.{ShortMessage}
-use Rattle.zone_types.specs.Version.{Version, Same}
-use Rattle.zone_types.specs.Commits.{Commit}
-use Rattle.zone_types.specs.Session.{Session}
+use Rattle.zone_model.specs.Version.{Version, Same}
+use Rattle.zone_model.specs.Commits.{Commit}
+use Rattle.zone_model.specs.Session.{Session}
 use Rattle.xfr_client.specs.declared.protocol.Error.TheVariants as message
 use Rattle.xfr_client.specs.declared.protocol.IterationError.TheVariants as item
 use Rattle.xfr_client.specs.declared.update.Error.TheVariants as update

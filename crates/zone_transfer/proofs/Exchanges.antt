@@ -5,8 +5,8 @@ use Rattle.dns_wire.specs.declared.builder.PushError.{PushError}
 use Rattle.dns_wire.specs.declared.builder.PushError.TheVariants.{ShortBuf, CountOverflow}
 use Rattle.dns_wire.specs.declared.builder.PushError.TheVariants as push
 use Rattle.dns_message.specs.declared.message.ShortMessage.{ShortMessage}
-use Rattle.zone_types.specs.Commits.{Commit}
-use Rattle.zone_types.specs.Session.{Session, rolled_back}
+use Rattle.zone_model.specs.Commits.{Commit}
+use Rattle.zone_model.specs.Session.{Session, rolled_back}
 use Rattle.xfr_course.specs.Outcome.{Outcome, Ended, LinkFault, Short, Primary, RequestTooLong}
 use Rattle.xfr_course.specs.Courses.{has_header}
 use Rattle.zone_transfer.specs.SoFar.{Asking, asked_octets, course_so_far, fault_so_far, client_so_far, IsTooLong}

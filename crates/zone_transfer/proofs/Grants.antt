@@ -15,9 +15,9 @@ use Rattle.tsig_keys.specs.declared.algorithms.Algorithm.TheVariants.{Sha1, Sha2
 use Rattle.tsig_port.proofs.SignedExchange.{request_accepted}
 use Rattle.dns_wire.specs.Wire.{Question}
 use Rattle.dns_wire.specs.Parse.{sole_question_in}
-use Rattle.zone_types.specs.Version.{Version, RecordSet, Key, has_one_apex_soa}
-use Rattle.zone_types.specs.Offer.{Offer, Provider, is_granted, offer_of}
-use Rattle.zone_types.proofs.Folded.{same_name-Decides}
+use Rattle.zone_model.specs.Version.{Version, RecordSet, Key, has_one_apex_soa}
+use Rattle.zone_model.specs.Offer.{Offer, Provider, is_granted, offer_of}
+use Rattle.zone_model.proofs.Folded.{same_name-Decides}
 use Rattle.xfr_server.specs.FullTransfer.{IsGrantedAxfr}
 use Rattle.xfr_server.specs.Offers.{answer_to, key_id}
 use Rattle.xfr_server.specs.Transfers.{asked_serial, asks_for_apex}

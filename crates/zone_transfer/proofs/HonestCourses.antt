@@ -9,15 +9,15 @@ use Rattle.dns_rdata.specs.Records.{Record, record_wire}
 use Rattle.dns_wire.specs.Wire.{Message, header_in, question_wire}
 use Rattle.tsig_port.specs.Checked.{taken_message}
 use Rattle.dns_wire.specs.Parse.{questions_in}
-use Rattle.zone_types.specs.Version.{Version, has_one_soa, has_one_apex_soa}
-use Rattle.zone_types.specs.Spells.{spelling}
-use Rattle.zone_types.specs.Messages.{read_of}
-use Rattle.zone_types.specs.TransferText.{Mode, Axfr}
-use Rattle.zone_types.specs.Offer.{whole_text, room_of, are_pages, IsCutInto}
-use Rattle.zone_types.specs.Read.{request_fault}
+use Rattle.zone_model.specs.Version.{Version, has_one_soa, has_one_apex_soa}
+use Rattle.zone_model.specs.Spells.{spelling}
+use Rattle.zone_model.specs.Messages.{read_of}
+use Rattle.zone_model.specs.TransferText.{Mode, Axfr}
+use Rattle.zone_model.specs.Offer.{whole_text, room_of, are_pages, IsCutInto}
+use Rattle.zone_model.specs.Read.{request_fault}
 use Rattle.dns_name.specs.NameOrder.{same_name_equiv}
-use Rattle.zone_types.proofs.Valid.{one_soa}
-use Rattle.zone_types.proofs.WholeText.{whole_is, whole_spells}
+use Rattle.zone_model.proofs.Valid.{one_soa}
+use Rattle.zone_model.proofs.WholeText.{whole_is, whole_spells}
 use Rattle.xfr_server.specs.Texts.{transfer_header}
 use Rattle.xfr_server.proofs.Accepted.{whole_is_taken}
 use Rattle.xfr_server.proofs.Answers.{wire_length}

@@ -8,7 +8,7 @@ use Rattle.std.proofs.lemmas.Bool.Decides.{nat_tests}
 use Rattle.std.proofs.lemmas.List.{length-map}
 use Rattle.dns_name.specs.Names.{Name, is_label, is_name, name_wire, fold, same_name}
 use Rattle.dns_name.proofs.WireForms.{name_labels, name_short, label_some, label_short, label_octets, first_wire, fold_is_name}
-use Rattle.zone_types.proofs.Folded.{same_name-Decides}
+use Rattle.zone_model.proofs.Folded.{same_name-Decides}
 
 abbrev are_octets : List ℕ → Bool
 are_octets l = list_all (λ c. nat_lt c 256) l

@@ -14,12 +14,12 @@ use Rattle.tsig_port.specs.Tsig.{mac_in, is_signed, tsig_record, answer_tsig, si
 use Rattle.tsig_port.specs.Checked.{answer_fault, taken_message}
 use Rattle.tsig_port.specs.Signing.{CanSign}
 use Rattle.tsig_port.proofs.SignedAnswers as answers
-use Rattle.zone_types.specs.Version.{Version}
-use Rattle.zone_types.specs.Messages.{HaveData, ReadMessage, as_read, read_of, message_of}
-use Rattle.zone_types.specs.Offer.{whole_text}
-use Rattle.zone_types.proofs.ReadingBuilt.{built_is_read}
-use Rattle.zone_types.proofs.Valid.{one_soa}
-use Rattle.zone_types.proofs.WholeText.{middle_of, soa_of, whole_is}
+use Rattle.zone_model.specs.Version.{Version}
+use Rattle.zone_model.specs.Messages.{HaveData, ReadMessage, as_read, read_of, message_of}
+use Rattle.zone_model.specs.Offer.{whole_text}
+use Rattle.zone_model.proofs.ReadingBuilt.{built_is_read}
+use Rattle.zone_model.proofs.Valid.{one_soa}
+use Rattle.zone_model.proofs.WholeText.{middle_of, soa_of, whole_is}
 use Rattle.xfr_server.specs.Texts.{transfer_header}
 use Rattle.xfr_server.proofs.Accepted.{transfer_is_message}
 use Rattle.xfr_server.proofs.Answers.{wire_length}

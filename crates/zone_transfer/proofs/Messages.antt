@@ -1,10 +1,10 @@
 -- All updates of one message.
 use Rattle.std.proofs.Common.{◌≡◌, ℕ, false, List, [], ◌∷◌, ◌++◌, refl, sym, ap, ◌∙◌, subst, Option, Some, None, Result, Ok, Err, inl, inr}
-use Rattle.zone_types.specs.Commits.{Commit}
-use Rattle.zone_types.specs.Session.{Session}
-use Rattle.zone_types.specs.Updates.{Update, Progress}
-use Rattle.zone_types.specs.Machine.{went, then_run}
-use Rattle.zone_types.specs.Applying.{Halt, Held, apply_within}
+use Rattle.zone_model.specs.Commits.{Commit}
+use Rattle.zone_model.specs.Session.{Session}
+use Rattle.zone_model.specs.Updates.{Update, Progress}
+use Rattle.zone_model.specs.Machine.{went, then_run}
+use Rattle.zone_model.specs.Applying.{Halt, Held, apply_within}
 use Rattle.xfr_client.specs.declared.update.Error.{Error}
 use Rattle.xfr_client.specs.declared.update.Error.TheVariants as errors
 use Rattle.xfr_client.specs.Rest.{Rest}

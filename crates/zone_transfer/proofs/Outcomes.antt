@@ -9,7 +9,7 @@ use Rattle.std.proofs.lemmas.List.Sums.{take_while-cons}
 use Rattle.std.proofs.lemmas.List.Folds.{list_all-append}
 use Rattle.tsig_port.specs.Checked.{passing, first_fault, pass_on}
 use Rattle.tsig_port.specs.declared.errors.ValidationError.{ValidationError}
-use Rattle.zone_types.specs.Version.{Version}
+use Rattle.zone_model.specs.Version.{Version}
 use Rattle.xfr_course.specs.Outcome.{Outcome, Ended, Tsig, Short, TooManyMessages, Checked, Course, outcome, made}
 use Rattle.xfr_course.specs.Courses.{has_header, most_replies, replies_taken, stop_after}
 use Rattle.xfr_course.specs.Client.{Client, new_client, take_checked, take_course, client_of, IsPart}

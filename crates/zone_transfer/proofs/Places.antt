@@ -6,11 +6,11 @@ use Rattle.std.proofs.lemmas.Bool.{and_left}
 use Rattle.std.proofs.Math.Bool.{and-false}
 use Rattle.dns_rdata.specs.Records.{Record}
 use Rattle.dns_wire.specs.Wire.{Question}
-use Rattle.zone_types.specs.TransferText.{Mode, Axfr, is_soa, is_same_soa}
-use Rattle.zone_types.specs.Messages.{ReadMessage, type_of}
-use Rattle.zone_types.specs.Updates.{DeleteRecord, AddRecord, BeginBatchDelete, BeginBatchAdd, Finished}
-use Rattle.zone_types.specs.Read.{Fault, NotValid, Malformed, OtherAnswer, Item, Good, Bad, record_item, is_other, is_transfer_head, asks_transfer, first_record_fault, message_fault, request_fault}
-use Rattle.zone_types.specs.Machine.{Place, AtStart, AtSecond, InWhole, InDeletes, InAdds, AtEnd, is_at_end, Run, went, step, then_run, end_or_batch, run_items, lone_serial, signal_of}
+use Rattle.zone_model.specs.TransferText.{Mode, Axfr, is_soa, is_same_soa}
+use Rattle.zone_model.specs.Messages.{ReadMessage, type_of}
+use Rattle.zone_model.specs.Updates.{DeleteRecord, AddRecord, BeginBatchDelete, BeginBatchAdd, Finished}
+use Rattle.zone_model.specs.Read.{Fault, NotValid, Malformed, OtherAnswer, Item, Good, Bad, record_item, is_other, is_transfer_head, asks_transfer, first_record_fault, message_fault, request_fault}
+use Rattle.zone_model.specs.Machine.{Place, AtStart, AtSecond, InWhole, InDeletes, InAdds, AtEnd, is_at_end, Run, went, step, then_run, end_or_batch, run_items, lone_serial, signal_of}
 use Rattle.zone_transfer.specs.Standing.{IsUnderWay}
 
 -- behind its first record

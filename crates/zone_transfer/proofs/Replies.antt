@@ -4,8 +4,8 @@ use Rattle.std.specs.Prelude.{option_map}
 use Rattle.std.specs.List.{list_all}
 use Rattle.std.proofs.lemmas.List.Folds.{list_all-append}
 use Rattle.dns_message.specs.declared.message.ShortMessage.{ShortMessage}
-use Rattle.zone_types.specs.Commits.{Commit}
-use Rattle.zone_types.specs.Session.{Session}
+use Rattle.zone_model.specs.Commits.{Commit}
+use Rattle.zone_model.specs.Session.{Session}
 use Rattle.xfr_course.specs.Courses.{has_header, most_replies}
 use Rattle.zone_transfer.specs.SoFar.{Asking}
 use Rattle.zone_transfer.specs.Standing.{ClientState, asking_of, Stands, RefusesReply, TakesReply}

@@ -7,13 +7,13 @@ use Rattle.std.proofs.lemmas.List.{map-append}
 use Rattle.std.proofs.lemmas.List.Folds.{list_all-append}
 use Rattle.dns_message.specs.declared.message.ShortMessage.{ShortMessage}
 use Rattle.dns_wire.specs.declared.builder.PushError.{PushError}
-use Rattle.zone_types.specs.Version.{Version}
-use Rattle.zone_types.specs.Commits.{Commit}
-use Rattle.zone_types.specs.Session.{Session}
-use Rattle.zone_types.specs.Read.{Fault}
-use Rattle.zone_types.specs.Updates.{Edit, NotSoaRecord, AfterFinish}
-use Rattle.zone_types.specs.Machine.{is_at_end, Run, signal_of}
-use Rattle.zone_types.specs.Applying.{Halt, Denied, NoNumber, Held, apply_within}
+use Rattle.zone_model.specs.Version.{Version}
+use Rattle.zone_model.specs.Commits.{Commit}
+use Rattle.zone_model.specs.Session.{Session}
+use Rattle.zone_model.specs.Read.{Fault}
+use Rattle.zone_model.specs.Updates.{Edit, NotSoaRecord, AfterFinish}
+use Rattle.zone_model.specs.Machine.{is_at_end, Run, signal_of}
+use Rattle.zone_model.specs.Applying.{Halt, Denied, NoNumber, Held, apply_within}
 use Rattle.tsig_port.specs.Tsig.{is_signed}
 use Rattle.xfr_course.specs.Outcome.{Outcome, Ended, LinkFault, TooManyMessages, Short, Tsig, RequestTooLong, Primary, Checked, Course, outcome, made, room, base_serial, UpToDate, RetrySignal}
 use Rattle.xfr_course.specs.Courses.{has_header, most_replies, stop_after}

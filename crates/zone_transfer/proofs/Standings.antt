@@ -11,12 +11,12 @@ use Rattle.tsig_port.specs.Tsig.Signature.{Malformed, Unsigned, Signed}
 use Rattle.tsig_port.specs.Checked.{answer_fault, fault_by, unsigned_fault, passing, first_fault, pass_on, unsigned_since, taken_message}
 use Rattle.tsig_port.specs.declared.errors.ValidationError.{ValidationError}
 use Rattle.tsig_port.specs.declared.errors.ValidationError.TheVariants.{TooManyUnsigned, ServerUnsigned}
-use Rattle.zone_types.specs.Updates.{Update, Progress}
-use Rattle.zone_types.specs.TransferText.{Axfr}
-use Rattle.zone_types.specs.Messages.{ReadMessage}
-use Rattle.zone_types.specs.Read.{Fault, Item, Bad, record_item, items_unless, request_fault}
-use Rattle.zone_types.specs.Machine.{Place, is_at_end, Run, run_items, signal_of}
-use Rattle.zone_types.specs.Applying.{Halt, Held, apply_within}
+use Rattle.zone_model.specs.Updates.{Update, Progress}
+use Rattle.zone_model.specs.TransferText.{Axfr}
+use Rattle.zone_model.specs.Messages.{ReadMessage}
+use Rattle.zone_model.specs.Read.{Fault, Item, Bad, record_item, items_unless, request_fault}
+use Rattle.zone_model.specs.Machine.{Place, is_at_end, Run, run_items, signal_of}
+use Rattle.zone_model.specs.Applying.{Halt, Held, apply_within}
 use Rattle.xfr_course.specs.Outcome.{Outcome, Updated, Tsig, Reading, Ended, Checked, Course, room}
 use Rattle.xfr_course.specs.Courses.{has_header}
 use Rattle.xfr_course.specs.Client.{Client, new_client, halt_outcome, met_after, client_after, run_message, take_checked, take_course}

@@ -2,18 +2,18 @@
 use Rattle.std.proofs.Common.{◌≡◌, ◌≢◌, ℕ, suc, ◌+◌, ◌-◌, ◌<◌, ◌≤◌, ◌^◌, Bool, true, false, if◌then◌else◌, List, [], ◌∷◌, ◌++◌, length, length-append, append_assoc, append-nil, refl, sym, ap, ◌∙◌, subst, arith, Option, Some, None, is_some, Result, Ok, Err, inl, inr}
 use Rattle.std.specs.Prelude.{nat_lt, ◌⊎◌, ◌==◌, ◌&&◌, IsOk, IfSome}
 use Rattle.std.proofs.lemmas.Bool.{le-ltb, eq-eqb}
-use Rattle.zone_types.specs.Version.{Version}
-use Rattle.zone_types.specs.Commits.{Commit}
-use Rattle.zone_types.specs.Session.{Session, commits_after}
-use Rattle.zone_types.specs.Edits as edits
-use Rattle.zone_types.specs.Updates.{Update, Progress, UpdateFault, Edit, NotSoaRecord, AfterFinish, apply_update, after_refusal}
+use Rattle.zone_model.specs.Version.{Version}
+use Rattle.zone_model.specs.Commits.{Commit}
+use Rattle.zone_model.specs.Session.{Session, commits_after}
+use Rattle.zone_model.specs.Edits as edits
+use Rattle.zone_model.specs.Updates.{Update, Progress, UpdateFault, Edit, NotSoaRecord, AfterFinish, apply_update, after_refusal}
 use Rattle.xfr_client.specs.declared.update.Error.{Error}
 use Rattle.xfr_client.specs.declared.update.Error.TheVariants as errors
 use Rattle.xfr_client.specs.Causes.{update_fault_of}
-use Rattle.zone_types.specs.Applying.{Halt, Denied, NoNumber, Held, within, apply_within, unless_halted}
-use Rattle.zone_types.proofs.Limits.{within-append, then_held}
-use Rattle.zone_types.specs.Applying.{commits}
-use Rattle.zone_types.proofs.FinerSteps.{last_number}
+use Rattle.zone_model.specs.Applying.{Halt, Denied, NoNumber, Held, within, apply_within, unless_halted}
+use Rattle.zone_model.proofs.Limits.{within-append, then_held}
+use Rattle.zone_model.specs.Applying.{commits}
+use Rattle.zone_model.proofs.FinerSteps.{last_number}
 use Rattle.xfr_client.specs.Updating.{Updating, progress_of, new_version, next_commit, lacks_number}
 use Rattle.zone_transfer.specs.Steps.{commit_after, numbers_left, HasMade, Ahead, DoesOne, HaltsOne, TakesOne, Led}
 

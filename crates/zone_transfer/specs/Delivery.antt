@@ -1,8 +1,8 @@
 -- A transfer over an honest link to a granting primary: when it has to end well, and what it leaves (RFC 5936, 2 and 6).
 use Rattle.std.specs.Prelude.{◌≡◌, ℕ, ◌<◌, ◌≤◌, ◌-◌, ◌^◌, List, [], ◌∷◌, length, min, Option, Some, None, Result, Ok, Err}
-use Rattle.zone_types.specs.Version.{Version, Same}
-use Rattle.zone_types.specs.Commits.{Commit}
-use Rattle.zone_types.specs.Session.{Session}
+use Rattle.zone_model.specs.Version.{Version, Same}
+use Rattle.zone_model.specs.Commits.{Commit}
+use Rattle.zone_model.specs.Session.{Session}
 use Rattle.xfr_server.specs.Items.{Sending}
 use Rattle.xfr_server.specs.FullTransfer.{IsSentWhole}
 use Rattle.zone_transfer.specs.Links.{LinkLists, IsHonest}

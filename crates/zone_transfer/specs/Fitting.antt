@@ -7,11 +7,11 @@ use Rattle.dns_wire.specs.Written.{IsRecord}
 use Rattle.tsig_port.specs.Tsig.{mac_in, compose_len, signed_answers}
 use Rattle.tsig_port.specs.Checked.{taken_message}
 use Rattle.tsig_port.specs.Signing.{IsKey}
-use Rattle.zone_types.specs.Version.{Version}
-use Rattle.zone_types.specs.TransferText.{Axfr}
-use Rattle.zone_types.specs.Messages.{HaveData}
-use Rattle.zone_types.specs.TransferLaws.{IsPublished}
-use Rattle.zone_types.specs.Offer.{whole_text}
+use Rattle.zone_model.specs.Version.{Version}
+use Rattle.zone_model.specs.TransferText.{Axfr}
+use Rattle.zone_model.specs.Messages.{HaveData}
+use Rattle.zone_model.specs.TransferLaws.{IsPublished}
+use Rattle.zone_model.specs.Offer.{whole_text}
 use Rattle.xfr_server.specs.Texts.{transfer_message}
 use Rattle.xfr_course.specs.Outcome.{Outcome}
 use Rattle.xfr_course.specs.Courses.{has_header}

@@ -4,7 +4,7 @@ use Rattle.dns_name.specs.Names.{fold}
 use Rattle.tsig_port.specs.Tsig.{TsigKey}
 use Rattle.tsig_port.specs.Checked.{taken_message}
 use Rattle.tsig_port.specs.ServerCheck.{Keys}
-use Rattle.zone_types.specs.Offer.{Offer}
+use Rattle.zone_model.specs.Offer.{Offer}
 use Rattle.xfr_server.specs.Transfers.{asked_serial}
 use Rattle.xfr_server.specs.declared.providers.XfrDataProviderError.{XfrDataProviderError}
 use Rattle.zone_transfer.specs.SoFar.{Asking, asked_octets}

@@ -1,5 +1,5 @@
 -- The modes of the calls, as those of the definitions.
-use Rattle.zone_types.specs.TransferText as texts
+use Rattle.zone_model.specs.TransferText as texts
 use Rattle.zone_transfer.specs.declared.client.XfrMode.{XfrMode}
 use Rattle.zone_transfer.specs.declared.client.XfrMode.TheVariants as mode
 

@@ -4,9 +4,9 @@ use Rattle.dns_wire.specs.Wire.{header_in, header_of, Question, same_question, M
 use Rattle.tsig_port.specs.Tsig.{TsigKey, request_tsig, signed_request, is_signed}
 use Rattle.tsig_port.specs.Checked.{answer_fault, taken_message, passing, first_fault}
 use Rattle.tsig_port.specs.declared.errors.ValidationError.{ValidationError}
-use Rattle.zone_types.specs.Commits.{Commit}
-use Rattle.zone_types.specs.TransferText.{Mode}
-use Rattle.zone_types.specs.Messages.{ReadMessage, type_of, message_of}
+use Rattle.zone_model.specs.Commits.{Commit}
+use Rattle.zone_model.specs.TransferText.{Mode}
+use Rattle.zone_model.specs.Messages.{ReadMessage, type_of, message_of}
 use Rattle.dns_wire.specs.declared.builder.PushError.TheVariants.{ShortBuf}
 use Rattle.zone_transfer.specs.declared.outcome.SyncError.{SyncError}
 use Rattle.zone_transfer.specs.declared.outcome.SyncError.TheVariants as why

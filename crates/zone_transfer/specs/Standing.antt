@@ -5,11 +5,11 @@ use Rattle.tsig_port.specs.Tsig.{TsigKey}
 use Rattle.tsig_port.specs.Checked.{passing, first_fault}
 use Rattle.tsig_port.specs.States.{ClientStands}
 use Rattle.tsig_port.specs.declared.errors.ValidationError.{ValidationError}
-use Rattle.zone_types.specs.Commits.{Commit}
-use Rattle.zone_types.specs.Session.{Session}
-use Rattle.zone_types.specs.Updates.{Update, Progress}
-use Rattle.zone_types.specs.TransferText.{Mode}
-use Rattle.zone_types.specs.Machine.{Place, AtStart, AtSecond, InWhole, InDeletes, InAdds, AtEnd}
+use Rattle.zone_model.specs.Commits.{Commit}
+use Rattle.zone_model.specs.Session.{Session}
+use Rattle.zone_model.specs.Updates.{Update, Progress}
+use Rattle.zone_model.specs.TransferText.{Mode}
+use Rattle.zone_model.specs.Machine.{Place, AtStart, AtSecond, InWhole, InDeletes, InAdds, AtEnd}
 use Rattle.xfr_course.specs.Outcome.{Outcome, Updated, UpToDate, Ended, Tsig, Short}
 use Rattle.xfr_course.specs.Client.{run_message}
 use Rattle.xfr_course.specs.Courses.{has_header}

@@ -1,11 +1,11 @@
 -- How far single updates have led: an updater, its session, and the handles made (RFC 5936, 6).
 use Rattle.std.specs.Prelude.{◌≡◌, ℕ, ◌+◌, ◌-◌, ◌≤◌, ◌^◌, false, List, [], ◌∷◌, ◌++◌, length, Option, Some, None, Result, Ok, Err, ◌⊎◌}
-use Rattle.zone_types.specs.Version.{Version}
-use Rattle.zone_types.specs.Commits.{Commit}
-use Rattle.zone_types.specs.Session.{Session, commits_after}
-use Rattle.zone_types.specs.Updates.{Update, Progress, apply_update}
-use Rattle.zone_types.specs.Read.{Fault}
-use Rattle.zone_types.specs.Applying.{Halt, Denied, NoNumber, Held, within, apply_within}
+use Rattle.zone_model.specs.Version.{Version}
+use Rattle.zone_model.specs.Commits.{Commit}
+use Rattle.zone_model.specs.Session.{Session, commits_after}
+use Rattle.zone_model.specs.Updates.{Update, Progress, apply_update}
+use Rattle.zone_model.specs.Read.{Fault}
+use Rattle.zone_model.specs.Applying.{Halt, Denied, NoNumber, Held, within, apply_within}
 use Rattle.xfr_client.specs.Updating.{Updating, progress_of}
 use Rattle.xfr_client.specs.Rest.{Rest}
 use Rattle.xfr_client.specs.declared.update.Error.{Error}

@@ -6,9 +6,9 @@ use Rattle.dns_wire.specs.declared.builder.PushError.TheVariants.{ShortBuf}
 use Rattle.dns_message.specs.declared.message.ShortMessage.{ShortMessage}
 use Rattle.xfr_course.specs.Courses.{has_header}
 use Rattle.zone_transfer.specs.Standing.{ClientState, Stands}
-use Rattle.zone_types.specs.Version.{Version}
-use Rattle.zone_types.specs.Commits.{Commit}
-use Rattle.zone_types.specs.Session.{Session}
+use Rattle.zone_model.specs.Version.{Version}
+use Rattle.zone_model.specs.Commits.{Commit}
+use Rattle.zone_model.specs.Session.{Session}
 use Rattle.xfr_course.specs.Outcome.{Outcome, LinkFault, Ended, Short, Primary, RequestTooLong, Course, made, outcome}
 use Rattle.xfr_course.specs.Client.{IsPart}
 use Rattle.zone_transfer.specs.SoFar.{Asking, asked_octets, course_so_far}

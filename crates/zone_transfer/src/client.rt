@@ -2,12 +2,12 @@
 ghost use Rattle.std.specs.Prelude.{◌≡◌, ◌≢◌, ◌≤◌, ◌<◌, ◌⊎◌, [], ℕ, Bool, false, List, min, length, IsSome, IfOk, IfErr, OnOk, OnErr, is_some, Some, None};
 ghost use Rattle.dns_wire.specs.Wire.{message_wire, same_question};
 ghost use Rattle.tsig_port.specs.States.{ClientStands};
-ghost use Rattle.zone_types.specs.Commits.{Commit};
-ghost use Rattle.zone_types.specs.Session.{rolled_back};
-ghost use Rattle.zone_types.specs.TransferText.{Axfr};
-ghost use Rattle.zone_types.specs.Messages.{ReadMessage, type_of, message_of};
-ghost use Rattle.zone_types.specs.Machine.{Place};
-ghost use Rattle.zone_types.specs.Updates.{Progress};
+ghost use Rattle.zone_model.specs.Commits.{Commit};
+ghost use Rattle.zone_model.specs.Session.{rolled_back};
+ghost use Rattle.zone_model.specs.TransferText.{Axfr};
+ghost use Rattle.zone_model.specs.Messages.{ReadMessage, type_of, message_of};
+ghost use Rattle.zone_model.specs.Machine.{Place};
+ghost use Rattle.zone_model.specs.Updates.{Progress};
 ghost use Rattle.xfr_client.specs.Causes.{update_of};
 ghost use Rattle.zone_transfer.specs.Modes.{mode_of};
 ghost use Rattle.zone_transfer.specs.SoFar.{Asking, asked_octets, asked_mac, asked_id, asked_question, message_so_far, asking, asks_other, IsTooLong};

@@ -1,7 +1,7 @@
 // Laws of whole transfers, each the contract of a function with an empty body.
 ghost use Rattle.std.specs.Prelude.{◌≡◌, ◌≤◌, ℕ, true, List, length, min, Option, Some};
 ghost use Rattle.tsig_port.specs.Tsig.{TsigKey};
-ghost use Rattle.zone_types.specs.Offer.{Offer, Provider, is_granted};
+ghost use Rattle.zone_model.specs.Offer.{Offer, Provider, is_granted};
 ghost use Rattle.xfr_server.specs.Items.{Sending};
 ghost use Rattle.xfr_server.specs.FullTransfer.{IsSentWhole};
 ghost use Rattle.xfr_server.specs.Offers.{key_id};

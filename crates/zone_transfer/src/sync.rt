@@ -1,6 +1,6 @@
 //! A transfer whole: both halves, and the link between them.
 ghost use Rattle.std.specs.Prelude.{◌≡◌, ◌≢◌, ◌⊎◌, [], ◌∷◌, ℕ, List, IsSome, IsOk, IfOk, OnOk, OnErr, option_map};
-ghost use Rattle.zone_types.specs.Commits.{Commit};
+ghost use Rattle.zone_model.specs.Commits.{Commit};
 ghost use Rattle.zone_transfer.specs.Links.{Rose};
 ghost use Rattle.zone_transfer.specs.Modes.{mode_of};
 ghost use Rattle.zone_transfer.specs.SoFar.{Asking, asks_with};

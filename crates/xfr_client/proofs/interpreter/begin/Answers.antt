@@ -1,6 +1,6 @@
 use Rattle.std.proofs.Common.{Some, true, subst, sym, ap, ◌∙◌}
-use Rattle.zone_types.specs.Machine.{run_items, AtStart}
-use Rattle.zone_types.specs.TransferText.{Axfr}
+use Rattle.zone_model.specs.Machine.{run_items, AtStart}
+use Rattle.zone_model.specs.TransferText.{Axfr}
 use Rattle.xfr_client.specs.Places.{place_of}
 use Rattle.xfr_client.specs.Items.{items_left}
 use Rattle.xfr_client.specs.Rest.{Rest}

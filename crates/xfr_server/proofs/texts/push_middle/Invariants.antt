@@ -1,6 +1,6 @@
 use Rattle.std.proofs.Common.{◌≡◌}
 use Rattle.std.specs.Prelude.{flat_map}
-use Rattle.zone_types.specs.Walk.{walk}
+use Rattle.zone_model.specs.Walk.{walk}
 use Rattle.xfr_server.specs.Texts.{with_answers, have_room, stop_records}
 use Rattle.xfr_server.proofs.texts.push_middle.Given as goal
 

@@ -1,5 +1,5 @@
 use Rattle.std.proofs.lemmas.Result.{err_from_is_err_and}
-use Rattle.zone_types.specs.Answer.{apex_soa_record}
+use Rattle.zone_model.specs.Answer.{apex_soa_record}
 use Rattle.xfr_server.proofs.Adding.{writes_text, refuses_text}
 use Rattle.xfr_server.proofs.texts.soa_message.Goals as goal
 

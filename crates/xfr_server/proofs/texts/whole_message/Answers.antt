@@ -1,5 +1,5 @@
 use Rattle.std.proofs.lemmas.Result.{err_from_is_err_and}
-use Rattle.zone_types.specs.Offer.{whole_text}
+use Rattle.zone_model.specs.Offer.{whole_text}
 use Rattle.xfr_server.proofs.Adding.{writes_text, refuses_text}
 use Rattle.xfr_server.proofs.texts.whole_message.Goals as goal
 

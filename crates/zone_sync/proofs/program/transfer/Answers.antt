@@ -1,5 +1,5 @@
 use Rattle.std.proofs.Common.{ap, ◌∙◌}
-use Rattle.zone_types.specs.Session.{Session}
+use Rattle.zone_model.specs.Session.{Session}
 use Rattle.zone_sync.proofs.ReportLaw.{says_of_new, reports_so, ends_reported, link_failed, link_fails}
 use Rattle.zone_sync.proofs.program.transfer.Goals as goal
 

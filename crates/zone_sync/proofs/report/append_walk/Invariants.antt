@@ -1,7 +1,7 @@
 use Rattle.std.proofs.Common.{◌≡◌, ◌++◌}
 use Rattle.std.specs.Prelude.{flat_map}
 use Rattle.dns_rdata.specs.Records.{record_wire}
-use Rattle.zone_types.specs.Walk.{walk}
+use Rattle.zone_model.specs.Walk.{walk}
 use Rattle.zone_sync.specs.Report.{stop_lines}
 use Rattle.zone_sync.proofs.report.append_walk.Given as goal
 

@@ -1,6 +1,6 @@
 use Rattle.std.proofs.Common.{◌≡◌, List, length, false}
-use Rattle.zone_types.specs.Commits.{Commit}
-use Rattle.zone_types.specs.Updates.{Progress}
+use Rattle.zone_model.specs.Commits.{Commit}
+use Rattle.zone_model.specs.Updates.{Progress}
 use Rattle.zone_transfer.specs.Steps.{Ahead, LedOn, numbers_left}
 use Rattle.zone_transfer.proofs.client.apply_all.Given as goal
 

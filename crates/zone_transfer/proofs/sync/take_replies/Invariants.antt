@@ -1,5 +1,5 @@
 use Rattle.std.proofs.Common.{◌≡◌, ◌-◌, ◌≤◌, List, [], IsSome}
-use Rattle.zone_types.specs.Commits.{Commit}
+use Rattle.zone_model.specs.Commits.{Commit}
 use Rattle.zone_transfer.specs.SoFar.{Asking}
 use Rattle.zone_transfer.specs.Standing.{Stands}
 use Rattle.zone_transfer.specs.Transfers.{TakenSoFar}

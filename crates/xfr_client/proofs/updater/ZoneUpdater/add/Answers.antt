@@ -1,9 +1,9 @@
 use Rattle.std.proofs.Common.{◌≡◌, true, Result, Ok, Err, List, sym, ap, ◌∙◌}
 use Rattle.std.proofs.lemmas.List.{append-nil}
-use Rattle.zone_types.specs.Version.{Version}
-use Rattle.zone_types.specs.Session.{Session}
-use Rattle.zone_types.specs.Edits.{Incompatible, add}
-use Rattle.zone_types.specs.Updates.{Progress, UpdateFault}
+use Rattle.zone_model.specs.Version.{Version}
+use Rattle.zone_model.specs.Session.{Session}
+use Rattle.zone_model.specs.Edits.{Incompatible, add}
+use Rattle.zone_model.specs.Updates.{Progress, UpdateFault}
 use Rattle.xfr_client.specs.Updating.{progress_of}
 use Rattle.xfr_client.proofs.Adding.{update_passed}
 use Rattle.xfr_client.proofs.updater.ZoneUpdater.add.Goals as goal

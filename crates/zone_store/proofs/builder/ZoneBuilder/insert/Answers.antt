@@ -1,8 +1,8 @@
 use Rattle.std.proofs.Common.{◌≡◌, Bool, true, false, not, refl, sym, ◌∙◌, true≢false}
 use Rattle.dns_name.specs.Names.{under}
 use Rattle.dns_rdata.specs.Records.{Record}
-use Rattle.zone_types.specs.Version.{Version}
-use Rattle.zone_store.specs.Puts.{adds_alias}
+use Rattle.zone_model.specs.Version.{Version}
+use Rattle.zone_versions.specs.Puts.{adds_alias}
 use Rattle.zone_store.proofs.builder.ZoneBuilder.insert.Goals as goal
 
 not_false : (b : Bool) → not b ≡ false → b ≡ true

@@ -1,12 +1,12 @@
 use Rattle.std.specs.Arc.{arc_value}
-use Rattle.zone_types.specs.Edits.{close}
+use Rattle.zone_model.specs.Edits.{close}
 use Rattle.std.proofs.Common.{subst, sym, ◌∙◌, ap}
 use Rattle.std.specs.List.{list_any}
 use Rattle.std.specs.Map.{keys_of}
-use Rattle.zone_types.specs.Version.{Version, IsValid}
-use Rattle.zone_store.specs.Strays.{is_stray_at}
-use Rattle.zone_store.proofs.Closing.{closed_is}
-use Rattle.zone_store.proofs.Putting.{if_ok_same, if_ok_holds}
+use Rattle.zone_model.specs.Version.{Version, IsValid}
+use Rattle.zone_versions.specs.Strays.{is_stray_at}
+use Rattle.zone_versions.proofs.Closing.{closed_is}
+use Rattle.zone_versions.proofs.Putting.{if_ok_same, if_ok_holds}
 use Rattle.zone_store.proofs.write.WriteZone.closed.Goals as goal
 
 -- Without a stray set, what is pending is closed.

@@ -1,7 +1,7 @@
 use Rattle.std.proofs.Common.{◌≡◌, [], ℕ, ◌%◌, ◌^◌, ◌≤◌, ◌<◌, length, min, refl, sym, ap, ◌∙◌, subst, arith}
 use Rattle.std.proofs.lemmas.Result.{err_from_is_err_and}
-use Rattle.zone_types.specs.TransferText.{Mode}
-use Rattle.zone_types.specs.Commits.{Commit}
+use Rattle.zone_model.specs.TransferText.{Mode}
+use Rattle.zone_model.specs.Commits.{Commit}
 use Rattle.zone_transfer.specs.Modes.{mode_of}
 use Rattle.zone_transfer.specs.SoFar.{Asking, asked_octets}
 use Rattle.zone_transfer.specs.Standing.{asking_of}

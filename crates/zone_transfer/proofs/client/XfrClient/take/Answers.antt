@@ -1,5 +1,5 @@
 use Rattle.std.proofs.Common.{◌≡◌, sym, ap, ◌∙◌, refl, Some, None, Ok, Err}
-use Rattle.zone_types.specs.TransferText.{Axfr}
+use Rattle.zone_model.specs.TransferText.{Axfr}
 use Rattle.zone_transfer.specs.Standing.{asking_of}
 use Rattle.zone_transfer.specs.Replies.{TakesMessage}
 use Rattle.zone_transfer.proofs.Clients.{mode_whole, stands_by, takes_outcome, takes_refusal}

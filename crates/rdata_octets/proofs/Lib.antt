@@ -1,0 +1,5 @@
+pub mod Fronts
+pub mod Writing
+pub mod Strings
+pub mod Texts
+pub mod Comparing

@@ -1,0 +1,2 @@
+pub mod Equality
+mod Indexing

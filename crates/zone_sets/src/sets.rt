@@ -1,0 +1,311 @@
+// A record set, and where it stands in a version.
+ghost use Rattle.std.specs.Prelude.{◌≡◌, ◌++◌, ◌∷◌, [], ◌==◌, ◌&&◌, OnOk, OnErr, IfOk, IfSome, map, min, not, filter, if◌then◌else◌};
+ghost use Rattle.std.specs.List.{list_any};
+ghost use Rattle.dns_name.specs.Names.{fold};
+ghost use Rattle.dns_rdata.specs.Records.{same_data};
+ghost use Rattle.dns_rdata.specs.ZoneData.{data_fields};
+ghost use Rattle.zone_model.specs.Version.{key_cmp};
+ghost use Rattle.zone_sets.specs.DataIndex.{IsIndexed};
+
+use crate::data_index::{FEW, forget, is_noted, note_last};
+use crate::data_key::DataKey;
+use dns_name::{KeyName, Labelled, Rtype, Ttl, compare_spelling};
+use dns_rdata::StoredRecordData;
+use std::alloc::{AllocError, Global};
+use std::cmp::Ordering;
+use std::collections::BTreeSet;
+use std::marker::Model;
+
+/// What records of one owner and type share and hold: their TTL and their data, in order (RFC 2181, 5.2).
+#[derive(Drop)]
+pub struct RecordSet {
+    ttl: Ttl,
+    items: Vec<StoredRecordData>,
+    seen: Option<BTreeSet<DataKey>>,
+}
+
+impl Model for RecordSet {
+    ghost use Rattle.zone_model.specs.Version.{RecordSet as SetOfRecords};
+
+    ghost Value = { SetOfRecords };
+
+    ghost use Rattle.std.specs.Prelude.{map};
+    ghost use Rattle.dns_rdata.specs.ZoneData.{data_fields};
+    ghost use Rattle.zone_sets.specs.DataIndex.{IsIndexed};
+
+    ghost view = { λ s. record { ttl = s.ttl; items = map data_fields s.items.items } };
+
+    ghost invariant = { λ s. IsIndexed (map data_fields s.items.items) s.seen };
+}
+
+impl RecordSet {
+    /// A set of one record's data.
+    pub fn of_one(alloc: Global, ttl: Ttl, item: StoredRecordData) -> Result<RecordSet, AllocError>
+        ensures { IfOk result (λ s. s ≡ record { ttl = ttl; items = data_fields item ∷ [] }) }
+    {
+        let mut items = Vec::new(alloc);
+        items.push(item)?;
+        Ok(RecordSet {
+            ttl,
+            items,
+            seen: None,
+        })
+    }
+
+    /// The TTL, in seconds.
+    pub fn ttl(&self) -> Ttl
+        ensures { result ≡ self.now.ttl }
+    {
+        self.ttl
+    }
+
+    /// The data of the records, in order.
+    pub fn items(&self) -> &[StoredRecordData]
+        ensures { map data_fields result.now ≡ self.now.items }
+    {
+        &self.items
+    }
+
+    /// Whether equal data stand in the set (RFC 2181, 5).
+    #[tactic(auto, using(crate::proofs::Equality::list_any_map))]
+    pub fn contains(&self, item: &StoredRecordData) -> bool
+        ensures { result ≡ list_any (same_data (data_fields item.now)) self.now.items }
+    {
+        match &self.seen {
+            Some(keys) => match is_noted(keys, item) {
+                Ok(found) => found,
+                Err(_) => is_among(&self.items, item),
+            },
+            None => is_among(&self.items, item),
+        }
+    }
+
+    /// Whether data other than these stand in the set.
+    #[tactic(auto, using(crate::proofs::Equality::list_any_map))]
+    pub fn has_others(&self, item: &StoredRecordData) -> bool
+        ensures { result ≡ list_any (λ d. not (same_data (data_fields item.now) d)) self.now.items }
+    {
+        has_others(&self.items, item)
+    }
+
+    /// Puts the data last, and this TTL in place of the set's.
+    pub fn append(
+        &mut self,
+        alloc: Global,
+        ttl: Ttl,
+        item: StoredRecordData,
+    ) -> Result<(), AllocError>
+        ensures ok { OnOk result (self.new ≡ record { ttl = ttl; items = self.old.items ++ data_fields item ∷ [] }) }
+        ensures err { OnErr result (self.new ≡ self.old) }
+    {
+        push_noted(&mut self.items, &mut self.seen, alloc, item)?;
+        self.ttl = ttl;
+        Ok(())
+    }
+
+    /// Takes the data equal to these out, and puts this TTL in place of the set's.
+    #[tactic(auto, using(crate::proofs::Equality::filter_map))]
+    pub fn remove(&mut self, ttl: Ttl, item: &StoredRecordData)
+        ensures { self.new ≡ record { ttl = ttl; items = filter (λ d. not (same_data (data_fields item.now) d)) self.old.items } }
+    {
+        drop_equal(&mut self.items, item);
+        forget(&mut self.seen, item);
+        self.ttl = ttl;
+    }
+
+    /// Puts the lower of this TTL and the set's, and the data last, unless the set had equal data.
+    pub fn open_with(
+        &mut self,
+        alloc: Global,
+        ttl: Ttl,
+        item: StoredRecordData,
+        had: bool,
+    ) -> Result<(), AllocError>
+        ensures ok { OnOk result (self.new ≡ record { ttl = min self.old.ttl ttl; items = if had then self.old.items else self.old.items ++ data_fields item ∷ [] }) }
+        ensures err { OnErr result (self.new ≡ self.old) }
+    {
+        if !had {
+            push_noted(&mut self.items, &mut self.seen, alloc, item)?;
+        }
+        if ttl.to_int() < self.ttl.to_int() {
+            self.ttl = ttl;
+        }
+        Ok(())
+    }
+}
+
+/// Puts data last, and into the index, which is made where the data become many. Without memory both stay.
+fn push_noted(
+    items: &mut Vec<StoredRecordData>,
+    seen: &mut Option<BTreeSet<DataKey>>,
+    alloc: Global,
+    item: StoredRecordData,
+) -> Result<(), AllocError>
+    ensures ok { OnOk result (items.new.items ≡ items.old.items ++ item ∷ []) }
+    ensures err { OnErr result (items.new.items ≡ items.old.items) }
+    ensures indexed { IsIndexed (map data_fields items.old.items) seen.old → IsIndexed (map data_fields items.new.items) seen.new }
+{
+    if seen.is_none() && items.len() < FEW {
+        items.push(item)?;
+        return Ok(());
+    }
+    let key = DataKey::of(&item)?;
+    let len = items.len();
+    items.push(item)?;
+    let noted = note_last(seen, alloc, items, key);
+    if noted.is_err() {
+        items.truncate(len);
+    }
+    noted
+}
+
+/// Whether some of the data are equal to the others.
+fn is_among(items: &[StoredRecordData], item: &StoredRecordData) -> bool
+    ensures { result ≡ list_any (λ kept. same_data (data_fields item.now) (data_fields kept)) items.now }
+{
+    items.iter().any(|kept| is_same(item, kept))
+}
+
+/// Whether some of the data aren't equal to the others.
+fn has_others(items: &[StoredRecordData], item: &StoredRecordData) -> bool
+    ensures { result ≡ list_any (λ kept. not (same_data (data_fields item.now) (data_fields kept))) items.now }
+{
+    items.iter().any(|kept| !is_same(item, kept))
+}
+
+/// Takes the data out that are equal to the others.
+fn drop_equal(items: &mut Vec<StoredRecordData>, item: &StoredRecordData)
+    ensures { items.new.items ≡ filter (λ kept. not (same_data (data_fields item.now) (data_fields kept))) items.old.items }
+{
+    items.retain(|kept| !is_same(item, kept));
+}
+
+/// Whether two data are equal.
+fn is_same(item: &StoredRecordData, kept: &StoredRecordData) -> bool
+    ensures { result ≡ same_data (data_fields item.now) (data_fields kept.now) }
+{
+    item.fields_eq(kept)
+}
+
+impl Clone for RecordSet {
+    ghost is_clone = { λ s copy. copy ≡ s };
+
+    fn clone(&self) -> Result<RecordSet, AllocError> {
+        Ok(RecordSet {
+            ttl: self.ttl,
+            items: self.items.clone()?,
+            seen: self.seen.clone()?,
+        })
+    }
+}
+
+/// Where a set stands: its owner in lower case, and its type.
+#[derive(Drop)]
+pub struct SetKey {
+    owner: KeyName,
+    rtype: Rtype,
+}
+
+impl Model for SetKey {
+    ghost use Rattle.std.specs.Prelude.{◌≡◌};
+    ghost use Rattle.dns_name.specs.Names.{fold};
+    ghost use Rattle.zone_model.specs.Version.{Key};
+
+    ghost Value = { Key };
+
+    ghost view = { λ k. (k.owner, k.rtype) };
+
+    ghost invariant = { λ k. fold k.owner ≡ k.owner };
+}
+
+impl SetKey {
+    /// Where the set of an owner and type stands.
+    pub fn new<N: Labelled>(owner: &N, rtype: Rtype) -> SetKey
+        ensures { result ≡ (fold (N.labels owner.now), rtype) }
+    {
+        SetKey {
+            owner: owner.to_canonical(),
+            rtype,
+        }
+    }
+
+    /// The owner, in lower case.
+    pub fn owner(&self) -> &KeyName
+        ensures { result.now ≡ self.now.0 }
+    {
+        &self.owner
+    }
+
+    /// The type.
+    pub fn rtype(&self) -> Rtype
+        ensures { result ≡ self.now.1 }
+    {
+        self.rtype
+    }
+}
+
+impl Clone for SetKey {
+    ghost is_clone = { λ k copy. copy ≡ k };
+
+    fn clone(&self) -> Result<SetKey, AllocError> {
+        Ok(SetKey {
+            owner: self.owner.duplicate(),
+            rtype: self.rtype,
+        })
+    }
+}
+
+impl PartialEq for SetKey {
+    ghost use Rattle.std.specs.Cmp.{eq_by_cmp_equiv, partial_equiv_from_equiv};
+    ghost use Rattle.std.specs.Ordering.{eq_by_cmp};
+    ghost use Rattle.zone_model.specs.Version.{key_cmp};
+    ghost use Rattle.zone_model.proofs.Folded.{key_total};
+
+    ghost eq = { eq_by_cmp key_cmp };
+
+    ghost laws = { partial_equiv_from_equiv (eq_by_cmp_equiv key_total) };
+
+    fn eq(&self, other: &SetKey) -> bool {
+        self.cmp(other) == Ordering::Equal
+    }
+}
+
+impl Eq for SetKey {
+    ghost use Rattle.std.specs.Cmp.{eq_by_cmp_equiv};
+    ghost use Rattle.zone_model.proofs.Folded.{key_total};
+
+    ghost laws = { eq_by_cmp_equiv key_total };
+}
+
+impl PartialOrd for SetKey {
+    ghost use Rattle.std.specs.Cmp.{partial_order_from_total};
+    ghost use Rattle.std.specs.Ordering.{as_partial_cmp};
+    ghost use Rattle.zone_model.specs.Version.{key_cmp};
+    ghost use Rattle.zone_model.proofs.Folded.{key_total};
+
+    ghost partial_cmp = { as_partial_cmp key_cmp };
+
+    ghost laws = { partial_order_from_total key_total };
+
+    fn partial_cmp(&self, other: &SetKey) -> Option<Ordering> {
+        Some(self.cmp(other))
+    }
+}
+
+impl Ord for SetKey {
+    ghost use Rattle.std.specs.Prelude.{refl};
+    ghost use Rattle.zone_model.specs.Version.{key_cmp};
+    ghost use Rattle.zone_model.proofs.Folded.{key_total};
+
+    ghost cmp = { key_cmp };
+
+    ghost total = { key_total };
+
+    ghost matches_partial_cmp = { λ k l. refl };
+
+    ghost matches_eq = { λ k l. refl };
+
+    fn cmp(&self, other: &SetKey) -> Ordering {
+        compare_spelling(&self.owner, &other.owner).then(self.rtype.cmp(&other.rtype))
+    }
+}

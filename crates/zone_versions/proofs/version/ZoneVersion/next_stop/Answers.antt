@@ -1,0 +1,19 @@
+use Rattle.std.proofs.Common.{Some, option_map, ap, sym, ◌∙◌}
+use Rattle.std.specs.List.{find}
+use Rattle.std.specs.Ordering.{is_lt}
+use Rattle.dns_name.specs.Names.{fold}
+use Rattle.zone_model.specs.Version.{Key, RecordSet, key_cmp}
+use Rattle.zone_versions.specs.Stops.{stop_of}
+use Rattle.zone_versions.proofs.Stops.{first_behind}
+use Rattle.zone_versions.proofs.version.ZoneVersion.next_stop.Goals as goal
+
+-- The entry behind the key is the first stop behind it.
+pub returns-in-Some : goal.returns-in-Some
+returns-in-Some c =
+    ap Some c.stop.ensures ∙ ap (option_map (stop_of c.args.self.now)) (c.in-Some.ensures ∙ ap (λ (k : Key). find (λ (e : Key × RecordSet). is_lt (key_cmp k e.0)) c.args.self.now.sets) c.new.ensures)
+    ∙ sym (first_behind c.args.self.now (fold c.args.owner.now, c.args.rtype) c.args.self.now.sets)
+
+pub returns-in-None : goal.returns-in-None
+returns-in-None c =
+    ap (option_map (stop_of c.args.self.now)) (c.in-None.ensures ∙ ap (λ (k : Key). find (λ (e : Key × RecordSet). is_lt (key_cmp k e.0)) c.args.self.now.sets) c.new.ensures)
+    ∙ sym (first_behind c.args.self.now (fold c.args.owner.now, c.args.rtype) c.args.self.now.sets)

@@ -1,0 +1,5 @@
+pub mod Causes
+pub mod Puts
+pub mod Stops
+pub mod Strays
+pub mod Sound

@@ -1,0 +1,472 @@
+// One version of a zone: look-ups, the walk, and edits.
+ghost use Rattle.std.specs.Prelude.{◌≡◌, true, false, not, IsSome, ◌++◌, ◌∷◌, [], Some, None, Ok, Err, IfOk, IfErr, IfSome, OnOk, OnErr, IfNone, IsSomeAnd, is_some, option_copied, option_map, map, find, filter};
+ghost use Rattle.std.specs.List.{list_any};
+ghost use Rattle.dns_name.specs.Names.{fold, under};
+ghost use Rattle.zone_model.specs.Version.{IsValid, key_cmp, set_in, set_at, below_apex, is_cut};
+ghost use Rattle.zone_model.specs.Classify.{opened_with};
+ghost use Rattle.zone_model.specs.Answer.{highest_cut};
+ghost use Rattle.zone_model.specs.Walk.{next_stop};
+ghost use Rattle.zone_versions.specs.Stops.{stop_of, first_stop, first_from};
+ghost use Rattle.zone_model.specs.Edits.{add, delete, with_sets};
+ghost use Rattle.zone_model.specs.Edits as edits;
+ghost use Rattle.zone_versions.specs.Causes.{refusal_of};
+ghost use Rattle.zone_versions.specs.Strays.{is_stray_at};
+ghost use Rattle.zone_versions.specs.Puts.{adds_alias, appended, without, with_soa, items_at, put_with, last_set, opening_set, thinned, taken_out};
+ghost use Rattle.std.specs.BTreeMap.{insert_entry};
+ghost use Rattle.std.specs.Map.{keys_of};
+ghost use Rattle.std.specs.Map.Iter.{deref_pair};
+ghost use Rattle.std.specs.Ordering.{is_le, is_lt};
+ghost use Rattle.dns_rdata.specs.Records.{same_data};
+ghost use Rattle.dns_rdata.specs.ZoneData.{data_fields};
+
+use crate::errors::EditError;
+use crate::walk::WalkItem;
+use dns_name::{Class, KeyName, Labelled, NameRef, Rtype, StoredName, ToName, Ttl};
+use dns_rdata::{RecordData, StoredRecord, StoredRecordData};
+use std::alloc::{AllocError, Global};
+use std::collections::BTreeMap;
+use std::collections::btree_map::Iter;
+use std::marker::Model;
+use std::ops::Bound;
+use zone_sets::{RecordSet, SetKey};
+
+/// One version of a zone (RFC 1034, 4.2): the apex as it was given, the class, and the record sets.
+#[derive(Drop)]
+pub struct ZoneVersion {
+    apex: StoredName,
+    class: Class,
+    sets: BTreeMap<SetKey, RecordSet>,
+}
+
+impl Model for ZoneVersion {
+    ghost use Rattle.zone_model.specs.Version.{Version};
+    ghost use Rattle.zone_versions.specs.Sound.{IsSound};
+
+    ghost Value = { Version };
+
+    ghost view = { λ v. record { apex = v.apex; class = v.class; sets = v.sets.entries } };
+
+    ghost invariant = { λ v. IsSound (record { apex = v.apex; class = v.class; sets = v.sets.entries }) };
+}
+
+impl Clone for ZoneVersion {
+    ghost is_clone = { λ v copy. copy ≡ v };
+
+    fn clone(&self) -> Result<ZoneVersion, AllocError> {
+        Ok(ZoneVersion {
+            apex: self.apex.clone()?,
+            class: self.class,
+            sets: self.sets.clone()?,
+        })
+    }
+}
+
+impl ZoneVersion {
+    /// A version without records.
+    #[tactic(auto, using(crate::proofs::Sound::empty_sound, crate::proofs::Sound::empty_valid))]
+    pub fn empty(alloc: Global, apex: StoredName, class: Class) -> ZoneVersion
+        ensures is { result ≡ record { apex = apex; class = class; sets = [] } }
+        ensures valid { IsValid result }
+    {
+        ZoneVersion {
+            apex,
+            class,
+            sets: BTreeMap::new(alloc),
+        }
+    }
+
+    /// A version of the same apex and class without records.
+    pub fn emptied(&self, alloc: Global) -> Result<ZoneVersion, AllocError>
+        ensures { IfOk result (λ v. v ≡ with_sets self.now []) }
+    {
+        Ok(ZoneVersion::empty(alloc, self.apex.clone()?, self.class))
+    }
+
+    /// The apex, as it was given.
+    pub fn apex(&self) -> &StoredName
+        ensures { result.now ≡ self.now.apex }
+    {
+        &self.apex
+    }
+
+    /// The class.
+    pub fn class(&self) -> Class
+        ensures { result ≡ self.now.class }
+    {
+        self.class
+    }
+
+    /// The set at a key.
+    fn set_in(&self, key: &SetKey) -> Option<&RecordSet>
+        ensures { option_copied result ≡ set_in self.now.sets key.now }
+    {
+        self.sets.get(key)
+    }
+
+    /// The set of an owner and type.
+    pub fn set_at<N: Labelled>(&self, owner: &N, rtype: Rtype) -> Option<&RecordSet>
+        ensures { option_copied result ≡ set_at self.now (N.labels owner.now) rtype }
+    {
+        self.set_in(&SetKey::new(owner, rtype))
+    }
+
+    /// Whether an owner has a set of a type.
+    pub fn has_set<N: Labelled>(&self, owner: &N, rtype: Rtype) -> bool
+        ensures { result ≡ is_some (set_at self.now (N.labels owner.now) rtype) }
+    {
+        self.set_in(&SetKey::new(owner, rtype)).is_some()
+    }
+
+    /// Whether a name is below the apex.
+    pub fn is_below_apex<N: ToName>(&self, name: &N) -> bool
+        ensures { result ≡ below_apex self.now (N.labels name.now) }
+    {
+        name.ends_with(&self.apex) && !name.name_eq(&self.apex)
+    }
+
+    /// Whether a zone cut stands at a name (RFC 1034, 4.2.1).
+    pub fn is_cut<N: ToName>(&self, name: &N) -> bool
+        ensures { result ≡ is_cut self.now (N.labels name.now) }
+    {
+        self.is_below_apex(name) && self.has_set(name, Rtype::NS)
+    }
+
+    /// Whether a zone cut stands at a name or above it.
+    #[tactic(auto, using(crate::proofs::Cuts::any_cut, crate::proofs::Cuts::cut_above, crate::proofs::Cuts::no_cut, crate::proofs::Cuts::cut_here))]
+    fn is_below_cut(&self, name: &KeyName) -> bool
+        ensures { result ≡ is_some (highest_cut self.now name.now) }
+    {
+        let mut rest = name.borrowed();
+        while !self.is_cut(&rest) {
+            match rest.split_first() {
+                Some((_, parent)) => rest = parent,
+                None => return false,
+            }
+        }
+        true
+    }
+}
+
+// The walk.
+impl ZoneVersion {
+    /// The entries, in order.
+    pub(crate) fn entries(&self) -> Iter<'_, SetKey, RecordSet>
+        ensures { result ≡ self.now.sets }
+    {
+        self.sets.iter()
+    }
+
+    /// An entry as a walk shows it.
+    pub(crate) fn stop<'v>(&'v self, key: &SetKey, contents: &'v RecordSet) -> WalkItem<'v>
+        ensures { result ≡ stop_of self.now (key.now, contents.now) }
+    {
+        let owner = if key.owner().name_eq(&self.apex) {
+            self.apex.to_key_name()
+        } else {
+            key.owner().duplicate()
+        };
+        let below_cut = self.is_below_cut(key.owner());
+        WalkItem::of(owner, key.rtype(), contents, below_cut)
+    }
+
+    /// The first stop of the walk.
+    pub fn first_stop(&self) -> Option<WalkItem<'_>>
+        ensures { result ≡ first_stop self.now }
+    {
+        match self.sets.iter().next() {
+            Some((key, contents)) => Some(self.stop(key, contents)),
+            None => None,
+        }
+    }
+
+    /// The first entry behind a key.
+    fn entry_behind(&self, key: &SetKey) -> Option<(&SetKey, &RecordSet)>
+        ensures { option_map deref_pair result ≡ find (λ e. is_lt (key_cmp key.now e.0)) self.now.sets }
+    {
+        self.sets
+            .range((Bound::Excluded(key), Bound::Unbounded))
+            .next()
+    }
+
+    /// The first entry that isn't before a key.
+    fn entry_from(&self, key: &SetKey) -> Option<(&SetKey, &RecordSet)>
+        ensures { option_map deref_pair result ≡ find (λ e. is_le (key_cmp key.now e.0)) self.now.sets }
+    {
+        self.sets
+            .range((Bound::Included(key), Bound::Unbounded))
+            .next()
+    }
+
+    /// The first set whose owner isn't before a name in canonical order (RFC 4034, 6.1).
+    pub fn first_from<N: Labelled>(&self, owner: &N) -> Option<(&SetKey, &RecordSet)>
+        ensures { option_map deref_pair result ≡ first_from self.now (N.labels owner.now) }
+    {
+        self.entry_from(&SetKey::new(owner, Rtype::from_int(0)))
+    }
+
+    /// The first stop behind an owner and type.
+    pub fn next_stop(&self, owner: &KeyName, rtype: Rtype) -> Option<WalkItem<'_>>
+        ensures { result ≡ next_stop self.now owner.now rtype }
+    {
+        match self.entry_behind(&SetKey::new(owner, rtype)) {
+            Some((key, contents)) => Some(self.stop(key, contents)),
+            None => None,
+        }
+    }
+}
+
+// Edits.
+impl ZoneVersion {
+    /// Whether equal data stand in the set at a key.
+    fn has_item(&self, key: &SetKey, item: &StoredRecordData) -> bool
+        ensures { result ≡ list_any (same_data (data_fields item.now)) (items_at self.now.sets key.now) }
+    {
+        match self.sets.get(key) {
+            Some(set) => set.contains(item),
+            None => false,
+        }
+    }
+
+    /// Whether a record's data stand in its set.
+    pub fn has_data(&self, added: &StoredRecord) -> bool
+        ensures { result ≡ edits.has_data self.now added.now }
+    {
+        self.has_item(&SetKey::new(added.owner(), added.rtype()), added.data())
+    }
+
+    /// Whether a record would be a second CNAME of a name below the apex (RFC 2181, 10.1).
+    pub fn is_second_alias(&self, added: &StoredRecord) -> bool
+        ensures { result ≡ edits.second_alias self.now added.now }
+    {
+        if !self.is_below_apex(added.owner()) {
+            return false;
+        }
+        if added.rtype() != Rtype::CNAME {
+            return false;
+        }
+        self.has_set(added.owner(), Rtype::CNAME)
+    }
+
+    /// Whether a record would be a second CNAME of a name below the apex, other than the one there (RFC 2181, 10.1).
+    pub fn adds_alias(&self, added: &StoredRecord) -> bool
+        ensures { result ≡ adds_alias self.now added.now }
+    {
+        self.is_second_alias(added) && !self.has_data(added)
+    }
+
+    /// Whether a record's owner is neither the apex nor below it.
+    pub fn is_outside(&self, added: &StoredRecord) -> bool
+        ensures { result ≡ not (under added.now.owner self.now.apex) }
+    {
+        !added.owner().ends_with(&self.apex)
+    }
+
+    /// What refuses a record.
+    pub fn refusal(&self, added: &StoredRecord) -> Option<EditError>
+        ensures refused { IfSome result (λ e. IsSomeAnd (refusal_of e) (λ why. add self.now added.now ≡ Err why)) }
+        ensures accepted { IfNone result (add self.now added.now ≡ Ok (appended self.now added.now)) }
+    {
+        if self.is_outside(added) {
+            Some(EditError::OutOfZone)
+        } else if self.has_data(added) {
+            Some(EditError::Incompatible)
+        } else if self.is_second_alias(added) {
+            Some(EditError::InvalidData)
+        } else {
+            None
+        }
+    }
+
+    /// What refuses the deletion of a record.
+    pub fn deletion_refusal(&self, deleted: &StoredRecord) -> Option<EditError>
+        ensures refused { IfSome result (λ e. IsSomeAnd (refusal_of e) (λ why. delete self.now deleted.now ≡ Err why)) }
+        ensures accepted { IfNone result (delete self.now deleted.now ≡ Ok (without self.now deleted.now)) }
+    {
+        if self.is_outside(deleted) {
+            Some(EditError::OutOfZone)
+        } else if !self.has_data(deleted) {
+            Some(EditError::Incompatible)
+        } else {
+            None
+        }
+    }
+
+    /// Puts the data of a record that isn't refused last in its set, whose TTL is then the record's.
+    pub fn append(&mut self, alloc: Global, added: StoredRecord) -> Result<(), AllocError>
+        requires { add self.old added ≡ Ok (appended self.old added) }
+        ensures ok { OnOk result (self.new ≡ appended self.old added) }
+        ensures err { OnErr result (self.new ≡ self.old) }
+    {
+        let key = SetKey::new(added.owner(), added.rtype());
+        let ttl = added.ttl();
+        put_last(&mut self.sets, alloc, key, ttl, added.into_data())?;
+        Ok(())
+    }
+
+    /// Takes the data of a record that isn't refused out of its set, whose TTL is then the record's; an emptied set goes.
+    pub fn remove(&mut self, deleted: &StoredRecord)
+        requires { delete self.old deleted.now ≡ Ok (without self.old deleted.now) }
+        ensures { self.new ≡ without self.old deleted.now }
+    {
+        let key = SetKey::new(deleted.owner(), deleted.rtype());
+        take_out(&mut self.sets, &key, deleted.ttl(), deleted.data());
+    }
+
+    /// Puts a record that the zone opens with: data that the set has already are not put again, and the lower TTL stays.
+    pub fn open_with(&mut self, alloc: Global, added: StoredRecord) -> Result<(), AllocError>
+        requires zone { under added.owner self.old.apex ≡ true }
+        requires no_alias { adds_alias self.old added ≡ false }
+        ensures ok { OnOk result (self.new ≡ opened_with self.old added) }
+        ensures err { OnErr result (self.new ≡ self.old) }
+    {
+        let had = self.has_data(&added);
+        let key = SetKey::new(added.owner(), added.rtype());
+        let ttl = added.ttl();
+        put_opening(&mut self.sets, alloc, key, ttl, added.into_data(), had)?;
+        Ok(())
+    }
+
+    /// Makes the apex SOA set this one record.
+    pub fn set_soa(
+        &mut self,
+        alloc: Global,
+        ttl: Ttl,
+        item: StoredRecordData,
+    ) -> Result<(), AllocError>
+        ensures ok { OnOk result (self.new ≡ with_soa self.old ttl (data_fields item)) }
+        ensures err { OnErr result (self.new ≡ self.old) }
+    {
+        let key = SetKey::new(&self.apex, Rtype::SOA);
+        self.sets.insert(key, RecordSet::of_one(alloc, ttl, item)?)?;
+        Ok(())
+    }
+
+    /// Whether a set is a DS set below the apex without NS beside it (RFC 4035, 2.4).
+    fn is_stray(&self, key: &SetKey) -> bool
+        ensures { result ≡ is_stray_at self.now key.now }
+    {
+        if !self.is_below_apex(key.owner()) {
+            return false;
+        }
+        if key.rtype() != Rtype::DS {
+            return false;
+        }
+        !self.has_set(key.owner(), Rtype::NS)
+    }
+
+    /// Whether a commit leaves a set out.
+    pub fn has_stray(&self) -> bool
+        ensures is { result ≡ list_any (is_stray_at self.now) (keys_of self.now.sets) }
+        ensures none { result ≡ false → IsValid self.now }
+    {
+        any_stray(self, &self.sets)
+    }
+
+    /// What a commit publishes: the version without DS sets below the apex that lack NS.
+    pub fn closed(&self) -> Result<ZoneVersion, AllocError>
+        ensures is { IfOk result (λ v. v ≡ edits.close self.now) }
+        ensures valid { IfOk result (λ v. IsValid v) }
+    {
+        let mut copy = self.clone()?;
+        drop_strays(self, &mut copy.sets);
+        Ok(copy)
+    }
+
+    /// The same of a version that isn't needed otherwise, which is copied only where a set goes.
+    #[tactic(auto, using(crate::proofs::Closing::closed_is))]
+    pub fn into_closed(self) -> Result<ZoneVersion, AllocError>
+        ensures is { IfOk result (λ v. v ≡ edits.close self) }
+        ensures valid { IfOk result (λ v. IsValid v) }
+    {
+        if self.has_stray() {
+            return self.closed();
+        }
+        Ok(self)
+    }
+}
+
+/// Whether a commit of the version would leave one of the sets out.
+fn any_stray(version: &ZoneVersion, sets: &BTreeMap<SetKey, RecordSet>) -> bool
+    ensures { result ≡ list_any (is_stray_at version.now) (keys_of sets.now.entries) }
+{
+    sets.keys().any(|key| version.is_stray(key))
+}
+
+/// Drops the sets that a commit of the version leaves out.
+fn drop_strays(version: &ZoneVersion, sets: &mut BTreeMap<SetKey, RecordSet>)
+    ensures { sets.new.entries ≡ filter (λ e. not (is_stray_at version.now e.0)) sets.old.entries }
+{
+    sets.retain(|key, _| !version.is_stray(key));
+}
+
+/// Puts data last in the set at a key, and this TTL in place of the set's.
+fn put_last(
+    sets: &mut BTreeMap<SetKey, RecordSet>,
+    alloc: Global,
+    key: SetKey,
+    ttl: Ttl,
+    item: StoredRecordData,
+) -> Result<(), AllocError>
+    ensures ok { OnOk result (sets.new.entries ≡ put_with (last_set ttl (data_fields item)) key sets.old.entries) }
+    ensures err { OnErr result (sets.new.entries ≡ sets.old.entries) }
+{
+    match sets.get_mut(&key) {
+        Some(set) => set.append(alloc, ttl, item),
+        None => {
+            sets.insert(key, RecordSet::of_one(alloc, ttl, item)?)?;
+            Ok(())
+        }
+    }
+}
+
+/// Whether data other than these stand in the set at a key.
+fn has_others(sets: &BTreeMap<SetKey, RecordSet>, key: &SetKey, item: &StoredRecordData) -> bool
+    ensures { result ≡ list_any (λ d. not (same_data (data_fields item.now) d)) (items_at sets.now.entries key.now) }
+{
+    match sets.get(key) {
+        Some(set) => set.has_others(item),
+        None => false,
+    }
+}
+
+/// Takes the data equal to these out of a set that stands at a key, and puts this TTL in place of the set's.
+fn thin_out(sets: &mut BTreeMap<SetKey, RecordSet>, key: &SetKey, ttl: Ttl, item: &StoredRecordData)
+    ensures { IsSome (set_in sets.old.entries key.now) → sets.new.entries ≡ insert_entry key_cmp sets.old.entries key.now (thinned ttl (data_fields item.now) sets.old.entries key.now) }
+{
+    if let Some(set) = sets.get_mut(key) {
+        set.remove(ttl, item);
+    }
+}
+
+/// Takes the data equal to these out of the set at a key, and puts this TTL in place of the set's; an emptied set goes.
+#[tactic(auto, using(crate::proofs::Removing::some_others, crate::proofs::Removing::no_others, crate::proofs::Removing::others_some))]
+fn take_out(sets: &mut BTreeMap<SetKey, RecordSet>, key: &SetKey, ttl: Ttl, item: &StoredRecordData)
+    ensures { sets.new.entries ≡ taken_out ttl (data_fields item.now) key.now sets.old.entries }
+{
+    if has_others(sets, key, item) {
+        thin_out(sets, key, ttl, item);
+    } else {
+        let _ = sets.remove(key);
+    }
+}
+
+/// Puts data that the zone opens with in the set at a key, unless it had equal data; the set's TTL is the lower one.
+fn put_opening(
+    sets: &mut BTreeMap<SetKey, RecordSet>,
+    alloc: Global,
+    key: SetKey,
+    ttl: Ttl,
+    item: StoredRecordData,
+    had: bool,
+) -> Result<(), AllocError>
+    ensures ok { OnOk result (sets.new.entries ≡ put_with (opening_set ttl (data_fields item) had) key sets.old.entries) }
+    ensures err { OnErr result (sets.new.entries ≡ sets.old.entries) }
+{
+    match sets.get_mut(&key) {
+        Some(set) => set.open_with(alloc, ttl, item, had),
+        None => {
+            sets.insert(key, RecordSet::of_one(alloc, ttl, item)?)?;
+            Ok(())
+        }
+    }
+}
