@@ -15,6 +15,7 @@ use std::alloc::Global;
 use std::convert::AsRef;
 use std::fmt;
 use std::marker::Model;
+use std::sync::Arc;
 
 /// A shared key. Its secret is filled up to a block of the algorithm's digest, by which the MACs are the same (RFC 2104, 2).
 #[derive(Drop)]
@@ -199,6 +200,16 @@ impl AsRef<Key> for Key {
 
 impl KeyRef for Key {
     ghost the_key = { λ k. k };
+
+    fn key_ref(&self) -> &Key {
+        self
+    }
+}
+
+impl KeyRef for Arc<Key> {
+    ghost use Rattle.std.specs.Arc.{arc_value};
+
+    ghost the_key = { λ a. arc_value a };
 
     fn key_ref(&self) -> &Key {
         self
