@@ -13,6 +13,8 @@ mod fields;
 mod laws;
 mod octets;
 mod spelling;
+#[cfg(test)]
+mod tests;
 mod text;
 mod unknown;
 
