@@ -40,7 +40,3 @@ pub message_taken : (text m : List ℕ) (start id : ℕ) → 12 ≤ start → st
 message_taken text m start id header within =
     four text (u16_octets id) (slice_range m 2 10) (u16_octets (arcount_in m - 1)) (slice_range m 12 start)
     ∙ ap (λ x. text ++ x) (digested m start id header within)
-
--- TSIG data, piece by piece
-pub tsig_written : (out n s f ml m i e ol o : List ℕ) → out ++ n ++ s ++ f ++ ml ++ m ++ i ++ e ++ ol ++ o ≡ out ++ (n ++ (s ++ f ++ ml ++ m ++ i ++ e ++ ol ++ o))
-tsig_written out n s f ml m i e ol o = simp append_assoc

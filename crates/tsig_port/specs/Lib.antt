@@ -17,11 +17,12 @@ pub use Rattle.tsig_keys.specs.HmacState
 pub use Rattle.tsig_keys.specs.TsigKeys
 pub use Rattle.tsig_keys.specs.Keys
 pub use Rattle.tsig_keys.specs.KeySources
+pub use Rattle.tsig_rdata.specs.TsigData
+pub use Rattle.tsig_rdata.specs.TsigParts
+pub use Rattle.tsig_rdata.specs.TsigOrder
+pub use Rattle.tsig_rdata.specs.CanonicalTsig
+pub use Rattle.tsig_rdata.specs.TsigText
 pub mod Tsig
-pub mod TsigParts
-pub mod TsigOrder
-pub mod CanonicalTsig
-pub mod TsigText
 pub mod Received
 pub mod Signers
 pub mod Signing

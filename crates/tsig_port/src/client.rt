@@ -10,13 +10,13 @@ ghost use Rattle.tsig_port.specs.Tsig.{request_tsig, tsig_record, signature_of a
 ghost use Rattle.tsig_port.specs.Tsig.Signature.{Signed};
 ghost use Rattle.tsig_keys.specs.declared.algorithms.Algorithm.{Algorithm};
 
-use crate::errors::{Time48, ValidationError};
-use crate::rdata::ReadTsig;
+use crate::errors::ValidationError;
 use crate::signature::{SignedBy, signature, update_message, update_timers, update_variables};
 use crate::signing::{DEFAULT_FUDGE, chained, record_of, sign_first};
 use dns_name::{Rcode, ToName, TsigRcode};
 use dns_wire::{AdditionalBuilder, Message, MessageBuf, PushError};
 use tsig_keys::{Hmac, Key, KeyRef};
+use tsig_rdata::{ReadTsig, Time48};
 
 /// The client's state between the answers to a signed request: the MAC of the next answer is under way.
 #[derive(Drop)]

@@ -10,14 +10,13 @@ ghost use Rattle.tsig_port.specs.ServerCheck.{Verdict, reply_to, unsigned_error 
 ghost use Rattle.tsig_port.specs.States.{RefusalOf};
 ghost use Rattle.tsig_port.specs.Tsig.{badtime_tsig as badtime_tsig_of, blank_tsig, signature_of, tsig_record, with_len};
 
-use crate::errors::Time48;
-use crate::rdata::{SigningTsig, Tsig, TsigRecord};
 use crate::server::ServerError;
 use crate::signature::{SignedBy, signature, update_variables};
 use crate::signing::{record_of, sent_mac};
 use dns_name::{Labelled, Rcode, TsigRcode};
 use dns_wire::{AdditionalBuilder, Message, MessageBuilder, PushError};
 use tsig_keys::{Hmac, Key, KeyRef, Mac};
+use tsig_rdata::{SigningTsig, Time48, Tsig, TsigRecord};
 
 impl<K: KeyRef> ServerError<K> {
     /// The reply to the refused request: its id, opcode, RD and questions, and no record but the TSIG. FORMERR has none. BADKEY,

@@ -7,13 +7,12 @@ ghost use Rattle.tsig_port.specs.ServerCheck.{Verdict, key_for as key_for_of, ve
 ghost use Rattle.tsig_port.specs.States.{Requests, ServerStands, RefusalOf, error_of, error_found, mac_fault as mac_fault_of};
 ghost use Rattle.tsig_port.specs.Tsig.{algorithm_of, answer_tsig, digested_message, request_input, tsig_record};
 
-use crate::errors::Time48;
-use crate::rdata::SigningTsig;
 use crate::signature::{SignedBy, signature, update_message, update_variables};
 use crate::signing::{DEFAULT_FUDGE, chained, record_of, sign_first, sign_later};
 use dns_name::{Labelled, TsigRcode};
 use dns_wire::{AdditionalBuilder, Message, MessageBuf, PushError};
 use tsig_keys::{Algorithm, Hmac, Key, KeyRef, KeyStore};
+use tsig_rdata::{SigningTsig, Time48};
 
 /// The server's state between the answers to a signed request: the MAC of the next answer is under way.
 #[derive(Drop)]

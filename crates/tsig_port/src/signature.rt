@@ -6,12 +6,12 @@ ghost use Rattle.tsig_port.specs.Tsig.{signature_of, signature_by, tsig_of, dige
 ghost use Rattle.tsig_port.specs.Tsig.Signature.{Malformed, Unsigned, Signed};
 ghost use Rattle.tsig_keys.specs.declared.algorithms.Algorithm.{Algorithm};
 
-use crate::rdata::{ReadTsig, Tsig};
 use dns_name::{Labelled, ParseError, ParsedName, Rtype};
 use dns_rdata::ParsedRecord;
 use dns_wire::Message;
 use std::convert::AsSlice;
 use tsig_keys::Hmac;
+use tsig_rdata::{ReadTsig, Tsig};
 
 /// The TSIG that is the last record of a message: where it begins, its owner and its data.
 #[derive(Drop)]

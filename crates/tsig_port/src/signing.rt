@@ -4,11 +4,10 @@ ghost use Rattle.tsig_port.specs.HmacState.{HoldsHmac};
 ghost use Rattle.tsig_port.specs.Tsig.{blank_tsig, signing_mac, with_len};
 ghost use Rattle.tsig_port.specs.Signers.{first_tsig, later_tsig};
 
-use crate::errors::Time48;
-use crate::rdata::{SigningTsig, Tsig, TsigRecord};
 use crate::signature::{update_counted, update_timers, update_variables};
 use dns_wire::AdditionalBuilder;
 use tsig_keys::{Hmac, Key, Mac};
+use tsig_rdata::{SigningTsig, Time48, Tsig, TsigRecord};
 
 /// The fudge that a signer gives where none is asked for, in seconds (RFC 8945, 10).
 pub const DEFAULT_FUDGE: u16 = 300;

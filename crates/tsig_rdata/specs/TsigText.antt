@@ -6,7 +6,7 @@ use Rattle.base64.specs.Engines.{standard}
 use Rattle.base64.specs.GeneralPurpose.{encode_of}
 use Rattle.dns_numbers.specs.CodeTexts.{tsig_rcode_text}
 use Rattle.dns_name.specs.Names.{Name, name_text}
-use Rattle.tsig_port.specs.Tsig.{Tsig}
+use Rattle.tsig_rdata.specs.TsigData.{Tsig}
 
 -- the name with its last dot, which the root's text is already (RFC 1035, 5.1)
 abbrev pub absolute_text : Name → List ℕ

@@ -1,5 +1,5 @@
-use Rattle.tsig_port.proofs.CanonicalTies.{canonical_ties_where_equal, canonical_total}
-use Rattle.tsig_port.proofs.tsig_laws.canonical_order_ties_where_equal.Goals as goal
+use Rattle.tsig_rdata.proofs.CanonicalTies.{canonical_ties_where_equal, canonical_total}
+use Rattle.tsig_rdata.proofs.laws.canonical_order_ties_where_equal.Goals as goal
 
 pub returns-clause-total : goal.returns-clause-total
 returns-clause-total c = canonical_total

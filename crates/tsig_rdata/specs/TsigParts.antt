@@ -2,7 +2,7 @@
 use Rattle.std.specs.Prelude.{ℕ, ◌==◌, List, length, Option, Some, None, if◌then◌else◌}
 use Rattle.dns_name.specs.Octets.{u48_number}
 use Rattle.dns_name.specs.Names.{Name}
-use Rattle.tsig_port.specs.Tsig.{Tsig}
+use Rattle.tsig_rdata.specs.TsigData.{Tsig}
 
 -- the data of these fields (RFC 8945, 4.2)
 abbrev pub tsig_with : Name → ℕ → ℕ → List ℕ → ℕ → ℕ → List ℕ → Tsig

@@ -2,10 +2,10 @@
 ghost use Rattle.std.specs.Prelude.{◌≡◌, ◌≤◌, ◌<◌, ◌++◌, length, IfOk, IfSome, OnOk, OnErr, Some, None, take};
 ghost use Rattle.dns_rdata.specs.Records.{record_wire};
 ghost use Rattle.dns_name.specs.Codes.{type_tsig};
-ghost use Rattle.tsig_port.specs.Tsig.{tsig_at, tsig_of, tsig_wire, tsig_record, within_fudge};
-ghost use Rattle.tsig_port.specs.TsigParts.{tsig_with, time_in};
+ghost use Rattle.tsig_rdata.specs.TsigData.{tsig_at, tsig_of, tsig_wire, tsig_record, within_fudge};
+ghost use Rattle.tsig_rdata.specs.TsigParts.{tsig_with, time_in};
 
-use crate::errors::Time48;
+use crate::time::Time48;
 use bytes::Bytes;
 use dns_name::{
     Class, KeyName, Labelled, ParseError, ParsedName, Rtype, StoredName, parse_octets, parse_u16,
@@ -42,7 +42,7 @@ pub type SigningTsig = Tsig<Mac, KeyName>;
 impl<O: AsSlice<u8> + Drop, N: Labelled + Drop> Model for Tsig<O, N> {
     ghost use Rattle.std.specs.Prelude.{◌<◌, ◌+◌, length};
     ghost use Rattle.dns_name.specs.Names.{name_wire};
-    ghost use Rattle.tsig_port.specs.Tsig.{Tsig as TsigData};
+    ghost use Rattle.tsig_rdata.specs.TsigData.{Tsig as TsigData};
 
     ghost Value = { TsigData };
 
@@ -262,7 +262,7 @@ impl<'m> Tsig<&'m [u8], ParsedName<'m>> {
     }
 
     /// The data of a record: they fill RDLENGTH, and have at most 65,535 octets with the algorithm's name written out.
-    #[tactic(auto, unfolding(crate::specs::Tsig::tsig_of))]
+    #[tactic(auto, unfolding(crate::specs::TsigData::tsig_of))]
     pub fn parse(head: &ParsedRecord<'m>) -> Result<ReadTsig<'m>, ParseError>
         ensures found { IfOk result (λ t. tsig_of head.now.message head.now.raw ≡ Some t) }
         ensures none { OnErr result (tsig_of head.now.message head.now.raw ≡ None) }

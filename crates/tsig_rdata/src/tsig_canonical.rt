@@ -1,6 +1,6 @@
 // Canonical order of TSIG data (RFC 4034, 6.2 and 6.3).
 ghost use Rattle.std.specs.Prelude.{◌≡◌};
-ghost use Rattle.tsig_port.specs.CanonicalTsig.{canonical_tsig_cmp, times_wire, state_wire};
+ghost use Rattle.tsig_rdata.specs.CanonicalTsig.{canonical_tsig_cmp, times_wire, state_wire};
 
 use crate::rdata::Tsig;
 use dns_name::Labelled;

@@ -9,7 +9,7 @@ use Rattle.std.specs.Cmp.{IsTotalOrder, IsEquivalence, IsPartialEquivalence, IsP
 use Rattle.std.specs.Cmp.Lexicographic.{slice_cmp, texts_ties, bytes_decides, nat_list_cmp_total, nat_list_eq_equiv}
 use Rattle.dns_name.specs.Names.{same_name, canonical_cmp}
 use Rattle.dns_name.specs.NameOrder.{same_name_equiv, canonical_total, canonical_ties, name_hash, same_hash}
-use Rattle.tsig_port.specs.Tsig.{Tsig}
+use Rattle.tsig_rdata.specs.TsigData.{Tsig}
 
 -- the algorithms' names are equal ASCII case aside, all else as it is (RFC 8945, 4.2; RFC 4343, 3)
 abbrev pub same_tsig : Tsig → Tsig → Bool

@@ -1,6 +1,6 @@
 // Equality, order and hash of TSIG data, the algorithm's name ASCII case aside.
 ghost use Rattle.std.specs.Prelude.{◌≡◌, Some, refl};
-ghost use Rattle.tsig_port.specs.TsigOrder.{same_tsig, tsig_cmp, tsig_hash, same_tsig_equiv, same_tsig_partial, tsig_total, tsig_ties, tsig_partial_order, same_tsig_hash};
+ghost use Rattle.tsig_rdata.specs.TsigOrder.{same_tsig, tsig_cmp, tsig_hash, same_tsig_equiv, same_tsig_partial, tsig_total, tsig_ties, tsig_partial_order, same_tsig_hash};
 
 use crate::rdata::Tsig;
 use dns_name::{Labelled, ToName};

@@ -5,7 +5,7 @@ use Rattle.std.specs.declared.cmp.Ordering.{Ordering}
 use Rattle.std.specs.Cmp.Lexicographic.{slice_cmp}
 use Rattle.dns_name.specs.Octets.{u16_octets, u48_octets}
 use Rattle.dns_name.specs.Names.{name_wire, fold}
-use Rattle.tsig_port.specs.Tsig.{Tsig, tsig_rest}
+use Rattle.tsig_rdata.specs.TsigData.{Tsig, tsig_rest}
 
 -- the data as they are sent, the algorithm's name written out in lower case (RFC 4034, 6.2)
 abbrev pub canonical_wire : Tsig → List ℕ

@@ -1,5 +1,5 @@
-use Rattle.tsig_port.proofs.Times.{time_again}
-use Rattle.tsig_port.proofs.errors.Time48.parse.Goals as goal
+use Rattle.tsig_rdata.proofs.Times.{time_again}
+use Rattle.tsig_rdata.proofs.time.Time48.parse.Goals as goal
 
 pub returns-clause-round_trip : goal.returns-clause-round_trip
 returns-clause-round_trip c = λ t before after small stands at.

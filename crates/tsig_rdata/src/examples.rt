@@ -1,10 +1,10 @@
 // Worked examples of TSIG data, proved by computation: equality, order, and parts of the text.
 ghost use Rattle.std.specs.Prelude.{◌≡◌, ◌∷◌, [], codes, true, false, Some, None};
 ghost use Rattle.std.specs.declared.cmp.Ordering.TheVariants.{Less, Equal, Greater};
-ghost use Rattle.tsig_port.specs.TsigOrder.{same_tsig, tsig_cmp};
-ghost use Rattle.tsig_port.specs.CanonicalTsig.{canonical_tsig_cmp};
-ghost use Rattle.tsig_port.specs.TsigParts.{tsig_with, time_in};
-ghost use Rattle.tsig_port.specs.TsigText.{absolute_text, base64_text};
+ghost use Rattle.tsig_rdata.specs.TsigOrder.{same_tsig, tsig_cmp};
+ghost use Rattle.tsig_rdata.specs.CanonicalTsig.{canonical_tsig_cmp};
+ghost use Rattle.tsig_rdata.specs.TsigParts.{tsig_with, time_in};
+ghost use Rattle.tsig_rdata.specs.TsigText.{absolute_text, base64_text};
 
 /// Names in text, and octets in base64 (RFC 4648, 10).
 #[tactic(auto, unfolding(crate::specs::TsigText::base64_text, base64::proofs::OnLiterals::base64_on_literals))]

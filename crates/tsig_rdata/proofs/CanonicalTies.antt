@@ -10,12 +10,12 @@ use Rattle.std.proofs.lemmas.Bool.{and_parts}
 use Rattle.dns_name.specs.Names.{fold, labels_eq}
 use Rattle.dns_name.proofs.FoldedLabels.{equal_names}
 use Rattle.dns_name.proofs.WireForms.{fold_is_name}
-use Rattle.tsig_port.specs.Tsig.{Tsig, tsig_at, tsig_wire}
-use Rattle.tsig_port.specs.TsigOrder.{same_tsig, same_tsig_equiv}
-use Rattle.tsig_port.specs.CanonicalTsig.{canonical_wire, canonical_tsig_cmp}
-use Rattle.tsig_port.specs.Signing.{IsTsig}
-use Rattle.tsig_port.proofs.SignatureReading.{data_again}
-use Rattle.tsig_port.proofs.CanonicalOrder.{tied}
+use Rattle.tsig_rdata.specs.TsigData.{Tsig, tsig_at, tsig_wire}
+use Rattle.tsig_rdata.specs.TsigOrder.{same_tsig, same_tsig_equiv}
+use Rattle.tsig_rdata.specs.CanonicalTsig.{canonical_wire, canonical_tsig_cmp}
+use Rattle.tsig_rdata.specs.TsigData.{IsTsig}
+use Rattle.tsig_rdata.proofs.DataReading.{data_again}
+use Rattle.tsig_rdata.proofs.CanonicalOrder.{tied}
 
 -- the data with the algorithm's name in lower case
 abbrev folded : Tsig → Tsig

@@ -1,6 +1,6 @@
 // TSIG data as text.
 ghost use Rattle.std.specs.Prelude.{◌≡◌, ◌++◌, Some, codes};
-ghost use Rattle.tsig_port.specs.TsigText.{absolute_text, base64_text, tsig_text};
+ghost use Rattle.tsig_rdata.specs.TsigText.{absolute_text, base64_text, tsig_text};
 
 use crate::rdata::Tsig;
 use base64::display::Base64Display;

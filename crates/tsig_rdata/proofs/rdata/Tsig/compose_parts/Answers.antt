@@ -1,9 +1,9 @@
 use Rattle.std.proofs.Common.{◌≡◌, ◌++◌, length, ap, ◌∙◌}
 use Rattle.dns_name.specs.Octets.{u16_octets, u48_octets}
 use Rattle.dns_name.specs.Names.{name_wire}
-use Rattle.tsig_port.specs.Tsig.{tsig_wire, Tsig as TsigData}
-use Rattle.tsig_port.proofs.Taking.{tsig_written}
-use Rattle.tsig_port.proofs.rdata.Tsig.compose_parts.Goals as goal
+use Rattle.tsig_rdata.specs.TsigData.{tsig_wire, Tsig as TsigData}
+use Rattle.tsig_rdata.proofs.Pieces.{tsig_written}
+use Rattle.tsig_rdata.proofs.rdata.Tsig.compose_parts.Goals as goal
 
 pub returns-clause-ok : goal.returns-clause-ok
 returns-clause-ok g c =

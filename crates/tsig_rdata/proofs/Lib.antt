@@ -1,0 +1,5 @@
+pub mod Times
+pub mod DataReading
+mod Pieces
+mod CanonicalOrder
+mod CanonicalTies
