@@ -31,4 +31,5 @@ pub mod OneByOne
 pub mod Exchange
 pub mod ServerCheck
 pub mod States
+pub mod Transactions
 pub mod ExchangeRows

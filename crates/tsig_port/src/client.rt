@@ -108,6 +108,19 @@ impl<K: KeyRef> ClientSequence<K> {
         }
     }
 
+    /// The same state again, with a copy of the key.
+    pub(crate) fn duplicate(&self) -> ClientSequence<Key>
+        ensures key { result.key ≡ K.the_key self.now.key }
+        ensures stands { (request_mac : List ℕ) (taken : List (List ℕ)) → ClientStands K.the_key self.now request_mac taken → ClientStands (λ k. k) result request_mac taken }
+    {
+        ClientSequence {
+            key: self.key.key_ref().duplicate(),
+            context: self.context.duplicate(),
+            first: self.first,
+            unsigned: self.unsigned,
+        }
+    }
+
     /// The end of the answers, of which the last must be signed: else `TooManyUnsigned`. Ok where no answer came.
     pub fn done(self) -> Result<(), ValidationError>
         ensures { (request_mac : List ℕ) (taken : List (List ℕ)) → ClientStands K.the_key self request_mac taken → MatchResult result (λ u. unsigned_since taken ≡ []) (λ e. (unsigned_since taken ≢ []) × (e ≡ ValidationError.TooManyUnsigned)) }

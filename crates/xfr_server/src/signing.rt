@@ -17,8 +17,9 @@ use std::alloc::Global;
 use std::marker::Model;
 use tsig_port::{KeyRef, KeyStore, ServerSequence, Time48};
 
-/// Checks the signatures of requests, hands them on with their key, and signs the replies with it. Contracts see the next service
-/// and the keys.
+/// Checks the signatures of requests, hands them on with their key, and signs the replies with it. A refused request gets the one
+/// reply that tells its TSIG error (RFC 8945, 5.2), and `InternalError` where that would pass 65,535 octets. Contracts see the next
+/// service and the keys.
 #[derive(Drop)]
 pub struct TsigMiddlewareSvc<S: Drop, KS: Drop> {
     next: S,
