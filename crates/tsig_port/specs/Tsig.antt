@@ -14,7 +14,8 @@ use Rattle.dns_wire.specs.Parse.{Parsed, parsed}
 use Rattle.dns_rdata.specs.Heads.{RawRecord}
 use Rattle.tsig_port.specs.Hmac.{hmac}
 pub use Rattle.tsig_keys.specs.TsigKeys.{algorithm_name, algorithm_of, is_mac_len, TsigKey, new_key, compose_len}
-pub use Rattle.tsig_rdata.specs.TsigData.{Tsig, tsig_rest, tsig_wire, tsig_record, tsig_at, tsig_of, within_fudge}
+pub use Rattle.tsig_rdata.specs.TsigData.{Tsig, tsig_rest, tsig_wire, tsig_record, tsig_at, within_fudge}
+unfoldable pub use Rattle.tsig_rdata.specs.TsigData.{tsig_of}
 
 -- ---- how a message is signed
 
