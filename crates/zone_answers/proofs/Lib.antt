@@ -1,0 +1,6 @@
+mod Existence
+mod Highest
+mod Enclosers
+mod FirstSets
+mod Wildcards
+mod Referrals

@@ -1,0 +1,54 @@
+-- What a version lends for a question.
+use Rattle.std.specs.Prelude.{ℕ, Option, Some, None, option_copied}
+use Rattle.dns_name.specs.Names.{Name}
+use Rattle.dns_name.specs.Codes.{type_cname}
+use Rattle.zone_model.specs.Version.{RecordSet}
+use Rattle.zone_model.specs.Answer.{Answer}
+use Rattle.zone_model.specs.Answer.Answer.{Referral as ReferralOf, Alias as AliasOf, Found as FoundOf, NoData as NoDataOf, NameError as NameErrorOf}
+use Rattle.zone_answers.specs.declared.content.Content.{Content}
+use Rattle.zone_answers.specs.declared.content.Content.TheVariants.{Referral, Alias, Found, NoData, NameError}
+
+-- the answer of the definitions that lent sets stand for
+abbrev pub answer_of : Content → Answer
+answer_of (Referral owner servers signer) = ReferralOf owner servers.now (option_copied signer)
+answer_of (Alias target) = AliasOf target.now
+answer_of (Found rtype found) = FoundOf rtype found.now
+answer_of NoData = NoDataOf
+answer_of NameError = NameErrorOf
+
+-- the set that answers, and its type
+abbrev pub set_found : Answer → Option RecordSet
+set_found (ReferralOf owner servers signer) = None
+set_found (AliasOf target) = Some target
+set_found (FoundOf rtype found) = Some found
+set_found NoDataOf = None
+set_found NameErrorOf = None
+
+abbrev pub type_found : Answer → Option ℕ
+type_found (ReferralOf owner servers signer) = None
+type_found (AliasOf target) = Some type_cname
+type_found (FoundOf rtype found) = Some rtype
+type_found NoDataOf = None
+type_found NameErrorOf = None
+
+-- the name, the NS set and the DS set of a referral's cut
+abbrev pub cut_of : Answer → Option Name
+cut_of (ReferralOf owner servers signer) = Some owner
+cut_of (AliasOf target) = None
+cut_of (FoundOf rtype found) = None
+cut_of NoDataOf = None
+cut_of NameErrorOf = None
+
+abbrev pub servers_of : Answer → Option RecordSet
+servers_of (ReferralOf owner servers signer) = Some servers
+servers_of (AliasOf target) = None
+servers_of (FoundOf rtype found) = None
+servers_of NoDataOf = None
+servers_of NameErrorOf = None
+
+abbrev pub signer_of : Answer → Option RecordSet
+signer_of (ReferralOf owner servers signer) = signer
+signer_of (AliasOf target) = None
+signer_of (FoundOf rtype found) = None
+signer_of NoDataOf = None
+signer_of NameErrorOf = None

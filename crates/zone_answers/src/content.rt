@@ -1,0 +1,164 @@
+// What a version has for a question, lent.
+ghost use Rattle.std.specs.Prelude.{◌≡◌, option_copied};
+ghost use Rattle.zone_model.specs.Answer.{is_authoritative, rcode_of, set_or_no_data};
+ghost use Rattle.zone_model.specs.Answer.Answer.{Referral, Alias, NameError};
+ghost use Rattle.zone_answers.specs.Answers.{cut_of, servers_of, set_found, signer_of, type_found};
+
+use dns_name::{KeyName, Rcode, Rtype};
+use std::marker::Model;
+use zone_versions::RecordSet;
+
+/// The five kinds of answer (RFC 1034, 4.3.2; RFC 2308, 2).
+#[derive(Drop)]
+pub(crate) enum Content<'v> {
+    /// A zone cut stands at the name or above it: the cut's name in lower case, its NS set and its DS set.
+    Referral(KeyName, &'v RecordSet, Option<&'v RecordSet>),
+    /// The name's CNAME set, whatever type was asked for.
+    Alias(&'v RecordSet),
+    /// The set of this type.
+    Found(Rtype, &'v RecordSet),
+    /// The name exists and has no set of the type.
+    NoData,
+    /// The name doesn't exist.
+    NameError,
+}
+
+/// What a version has for a question, its sets lent (RFC 1034, 4.3.2).
+#[derive(Drop)]
+pub struct AnswerRef<'v> {
+    content: Content<'v>,
+}
+
+impl<'v> Model for AnswerRef<'v> {
+    ghost use Rattle.zone_model.specs.Answer.{Answer};
+    ghost use Rattle.zone_answers.specs.Answers.{answer_of};
+
+    ghost Value = { Answer };
+
+    ghost view = { λ a. answer_of a.content };
+}
+
+impl<'v> AnswerRef<'v> {
+    /// A referral to the servers of a zone cut.
+    pub(crate) fn referral(
+        owner: KeyName,
+        servers: &'v RecordSet,
+        signer: Option<&'v RecordSet>,
+    ) -> AnswerRef<'v>
+        ensures { result ≡ Referral owner servers.now (option_copied signer.entry) }
+    {
+        AnswerRef {
+            content: Content::Referral(owner, servers, signer),
+        }
+    }
+
+    /// The CNAME set of the name.
+    pub(crate) fn alias(target: &'v RecordSet) -> AnswerRef<'v>
+        ensures { result ≡ Alias target.now }
+    {
+        AnswerRef {
+            content: Content::Alias(target),
+        }
+    }
+
+    /// The set of the type, where there is one.
+    pub(crate) fn set_or_no_data(rtype: Rtype, found: Option<&'v RecordSet>) -> AnswerRef<'v>
+        ensures { result ≡ set_or_no_data rtype (option_copied found.entry) }
+    {
+        match found {
+            Some(found) => AnswerRef {
+                content: Content::Found(rtype, found),
+            },
+            None => AnswerRef {
+                content: Content::NoData,
+            },
+        }
+    }
+
+    /// The name doesn't exist.
+    pub(crate) fn name_error() -> AnswerRef<'v>
+        ensures { result ≡ NameError }
+    {
+        AnswerRef {
+            content: Content::NameError,
+        }
+    }
+
+    /// NXDOMAIN where the name doesn't exist, else NOERROR (RFC 1035, 4.1.1).
+    pub fn rcode(&self) -> Rcode
+        ensures { result ≡ rcode_of self.now }
+    {
+        match &self.content {
+            Content::Referral(_, _, _) => Rcode::NOERROR,
+            Content::Alias(_) => Rcode::NOERROR,
+            Content::Found(_, _) => Rcode::NOERROR,
+            Content::NoData => Rcode::NOERROR,
+            Content::NameError => Rcode::NXDOMAIN,
+        }
+    }
+
+    /// Whether the zone answers with authority: all but a referral do (RFC 1034, 4.3.2).
+    pub fn authoritative(&self) -> bool
+        ensures { result ≡ is_authoritative self.now }
+    {
+        match &self.content {
+            Content::Referral(_, _, _) => false,
+            Content::Alias(_) => true,
+            Content::Found(_, _) => true,
+            Content::NoData => true,
+            Content::NameError => true,
+        }
+    }
+
+    /// The set that answers: the one asked for, or the name's CNAME set.
+    pub fn found(&self) -> Option<&'v RecordSet>
+        ensures { option_copied result ≡ set_found self.now }
+    {
+        match &self.content {
+            Content::Alias(target) => Some(*target),
+            Content::Found(_, found) => Some(*found),
+            _ => None,
+        }
+    }
+
+    /// Its type.
+    pub fn found_type(&self) -> Option<Rtype>
+        ensures { result ≡ type_found self.now }
+    {
+        match &self.content {
+            Content::Alias(_) => Some(Rtype::CNAME),
+            Content::Found(rtype, _) => Some(*rtype),
+            _ => None,
+        }
+    }
+
+    /// The NS set of a referral's zone cut.
+    pub fn servers(&self) -> Option<&'v RecordSet>
+        ensures { option_copied result ≡ servers_of self.now }
+    {
+        match &self.content {
+            Content::Referral(_, servers, _) => Some(*servers),
+            _ => None,
+        }
+    }
+
+    /// The DS set of a referral's zone cut, where it has one.
+    pub fn signer(&self) -> Option<&'v RecordSet>
+        ensures { option_copied result ≡ signer_of self.now }
+    {
+        match &self.content {
+            Content::Referral(_, _, signer) => *signer,
+            _ => None,
+        }
+    }
+
+    /// The name of a referral's zone cut, in lower case.
+    pub fn cut(&self) -> Option<KeyName>
+        ensures { result ≡ cut_of self.now }
+    {
+        match &self.content {
+            Content::Referral(owner, _, _) => Some(owner.duplicate()),
+            _ => None,
+        }
+    }
+}

@@ -1,0 +1,12 @@
+//! Questions to one version of a zone (RFC 1034, 4.3.2; RFC 4592): what it has for a name and a type, its sets lent.
+//!
+//! A name is walked label by label, with one ordered look-up or two at each; that a name exists is a question for the first owner from it on,
+//! since in canonical order the owners at or below a name stand together.
+#![tactic(auto)]
+
+mod content;
+mod finding;
+mod question;
+
+pub use content::AnswerRef;
+pub use question::{OutOfZone, look_up};

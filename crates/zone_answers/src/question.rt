@@ -1,0 +1,37 @@
+// A question to a read handle.
+ghost use Rattle.std.specs.Prelude.{◌≡◌, true, false, IfOk, OnOk, OnErr};
+ghost use Rattle.dns_name.specs.Names.{under};
+ghost use Rattle.zone_model.specs.Answer.{answer as answer_of};
+
+use crate::content::AnswerRef;
+use crate::finding::answer;
+use dns_name::{Rtype, ToName};
+use thiserror::Error;
+use zone_store::ReadZone;
+
+/// The name is neither the zone's apex nor below it.
+#[derive(Clone, Copy, Debug, PartialEq, Eq, Drop, Error)]
+#[error("Out of zone")]
+pub struct OutOfZone;
+
+/// What the handle's version has for a name and a type, without a copy and in no memory: the highest zone cut at or above the name refers, but DS
+/// at the cut itself is the zone's own; else a name that exists has its CNAME, whatever is asked below the apex, or the set of the type, for ANY that of
+/// the least type; else `*` below the closest encloser answers in its place (RFC 1034, 4.3.2; RFC 4592, 3.3; RFC 4035, 3.1.4.1). `OutOfZone`
+/// exactly where the name isn't in the zone.
+pub fn look_up<'v, N: ToName>(
+    zone: &'v ReadZone,
+    qname: &N,
+    qtype: Rtype,
+) -> Result<AnswerRef<'v>, OutOfZone>
+    ensures inside { OnOk result (under (N.labels qname.now) zone.now.version.apex ≡ true) }
+    ensures outside { OnErr result (under (N.labels qname.now) zone.now.version.apex ≡ false) }
+    ensures answer { IfOk result (λ a. a ≡ answer_of zone.now.version (N.labels qname.now) qtype) }
+{
+    if !qname.ends_with(zone.apex_name()) {
+        return Err(OutOfZone);
+    }
+    // For the proof: a published version is valid.
+    zone.validity();
+    let name = qname.to_key_name();
+    Ok(answer(zone.contents(), &name.borrowed(), qtype))
+}
