@@ -1,0 +1,11 @@
+//! Why records don't make a zone: a refusal for each record that doesn't fit those before it, what a zone of records lacks, and lists of
+//! refusals by owner (RFC 1034, 3.6.2 and 4.2.1). Nothing here looks at a zone.
+#![tactic(auto)]
+
+mod errors;
+mod list;
+#[cfg(test)]
+mod tests;
+
+pub use errors::{ContextError, RecordError};
+pub use list::ZoneErrors;
