@@ -1,0 +1,9 @@
+//! What a zone's store and its read handles have in common, whatever keeps the zone: a store gives read handles, and a handle answers, walks and
+//! compares the one version that it stands for (RFC 1034, 4.3.2 and 4.3.5).
+#![tactic(auto)]
+
+mod comparing;
+mod walking;
+
+pub use comparing::is_same;
+pub use walking::walk;
