@@ -3,7 +3,9 @@
 #![tactic(auto)]
 
 mod comparing;
+mod stores;
 mod walking;
 
 pub use comparing::is_same;
+pub use stores::ReadableZone;
 pub use walking::walk;

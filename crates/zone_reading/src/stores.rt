@@ -1,0 +1,56 @@
+// Read handles, whatever keeps their zone.
+ghost use Rattle.std.specs.Prelude.{◌≡◌, true, false, IfOk, OnOk, OnErr};
+ghost use Rattle.std.specs.List.{FoldsTo};
+ghost use Rattle.dns_name.specs.Names.{under};
+ghost use Rattle.zone_model.specs.Answer.{answer};
+ghost use Rattle.zone_model.specs.Walk.{next_stop, walk as walk_of};
+ghost use Rattle.zone_answers.specs.Answers.{answered_by};
+
+use crate::walking::walk;
+use dns_name::{Labelled, Rtype, ToName};
+use zone_answers::{AnswerRef, OutOfZone, look_up};
+use zone_store::{ReadZone, WalkItem};
+
+/// A read handle: one version of a zone, whatever keeps it.
+pub trait ReadableZone {
+    ghost use Rattle.zone_model.specs.Version.{Version};
+
+    /// The version that the handle stands for.
+    ghost version_of: { Self → Version };
+
+    /// What the version has for a name and a type, in no memory (RFC 1034, 4.3.2; RFC 4592). `OutOfZone` exactly where the name is
+    /// neither the apex nor below it.
+    fn look_up<'v, N: ToName>(&'v self, qname: &N, qtype: Rtype) -> Result<AnswerRef<'v>, OutOfZone>
+        ensures inside { OnOk result (under (N.labels qname.now) (version_of self.now).apex ≡ true) }
+        ensures outside { OnErr result (under (N.labels qname.now) (version_of self.now).apex ≡ false) }
+        ensures answer { IfOk result (λ a. a ≡ answered_by (version_of self.now) (answer (version_of self.now) (N.labels qname.now) qtype)) };
+
+    /// The first set behind an owner and type: owners in canonical order, types ascending (RFC 4034, 6.1).
+    fn next_rrset<N: Labelled>(&self, owner: &N, rtype: Rtype) -> Option<WalkItem<'_>>
+        ensures { result ≡ next_stop (version_of self.now) (N.labels owner.now) rtype };
+
+    /// Hands each set to `visit`, once, in the same order.
+    fn walk<F: FnMut(WalkItem<'_>)>(&self, visit: F)
+        requires { F.IsAlwaysCallable visit }
+        ensures { (last : F) × FoldsTo (λ p x q. F.step p x tt q) visit (walk_of (version_of self.now)) last };
+}
+
+impl ReadableZone for ReadZone {
+    ghost version_of = { λ z. z.version };
+
+    fn look_up<'v, N: ToName>(
+        &'v self,
+        qname: &N,
+        qtype: Rtype,
+    ) -> Result<AnswerRef<'v>, OutOfZone> {
+        look_up(self, qname, qtype)
+    }
+
+    fn next_rrset<N: Labelled>(&self, owner: &N, rtype: Rtype) -> Option<WalkItem<'_>> {
+        ReadZone::next_rrset(self, owner, rtype)
+    }
+
+    fn walk<F: FnMut(WalkItem<'_>)>(&self, visit: F) {
+        walk(self, visit);
+    }
+}
