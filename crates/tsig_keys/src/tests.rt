@@ -239,3 +239,20 @@ fn texts(rt: HostRuntime) {
         "Key { name: key, algorithm: hmac-sha256, .. }"
     );
 }
+
+#[test]
+fn texts_of_lengths(rt: HostRuntime) {
+    let alloc = rt.alloc();
+    let text = NewKeyError::BadMinMacLen
+        .to_string(alloc)
+        .expect(&rt, "memory");
+    assert_eq!(rt; text.as_str(), "minimum signature length out of bounds");
+    let text = GenerateKeyError::BadMinMacLen
+        .to_string(alloc)
+        .expect(&rt, "memory");
+    assert_eq!(rt; text.as_str(), "minimum signature length out of bounds");
+    let text = GenerateKeyError::BadSigningLen
+        .to_string(alloc)
+        .expect(&rt, "memory");
+    assert_eq!(rt; text.as_str(), "created signature length out of bounds");
+}
