@@ -10,6 +10,8 @@ mod finding;
 mod question;
 mod records;
 mod sections;
+#[cfg(test)]
+mod tests;
 
 pub use answer_ref::AnswerRef;
 pub use question::{OutOfZone, look_up};
