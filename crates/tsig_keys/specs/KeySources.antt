@@ -1,19 +1,17 @@
 -- Sources of the octets of new keys, and why no key is made of them.
-use Rattle.std.specs.Prelude.{◌≡◌, ◌<◌, ◌-◌, ◌^◌, ◌⊎◌, ℕ, List, [], Result, Err, IsOk}
+use Rattle.std.specs.Prelude.{◌≡◌, ℕ, List, [], Result, Err, IsOk}
+use Rattle.outside_calls.specs.Calls.{Calls}
+pub use Rattle.outside_calls.specs.Calls.{Rose}
 use Rattle.tsig_keys.specs.TsigKeys.{TsigKey}
 use Rattle.tsig_keys.specs.declared.errors.NewKeyError.{NewKeyError}
 use Rattle.tsig_keys.specs.declared.errors.NewKeyError.TheVariants as lengths
 use Rattle.tsig_keys.specs.declared.errors.GenerateKeyError.{GenerateKeyError}
 use Rattle.tsig_keys.specs.declared.errors.GenerateKeyError.TheVariants.{BadMinMacLen, BadSigningLen, GenerationFailed, Memory}
 
--- a count of faults rose, or stands at the greatest number
-abbrev pub Rose : ℕ → ℕ → Type 0
-Rose old new = (old < new) ⊎ (new ≡ 2 ^ 64 - 1)
-
--- what a source in memory has left, and how often it failed
+-- what a source in memory has left, and its calls
 pub record OctetsLeft : Type 0 where
   pub left : List ℕ
-  pub faults : ℕ
+  pub calls : Calls
 
 -- the refusal of a length, as the refusal of a new key
 abbrev pub length_refusal : NewKeyError → GenerateKeyError

@@ -1,8 +1,10 @@
 // Where the octets of new keys come from.
-ghost use Rattle.std.specs.Prelude.{◌≡◌, ◌≤◌, ◌++◌, ◌↔◌, [], length, IsOk, OnOk, OnErr};
+ghost use Rattle.std.specs.Prelude.{◌≡◌, ◌≤◌, ◌++◌, ◌↔◌, [], false, length, IsOk, OnOk, OnErr};
+ghost use Rattle.outside_calls.specs.Calls.{no_calls, fails_next, after_call, after_fault};
 ghost use Rattle.tsig_keys.specs.KeySources.{Rose};
 
 use crate::errors::FillError;
+use outside_calls::failures::Failures;
 use rand_core::Rng;
 use std::marker::Model;
 
@@ -60,12 +62,12 @@ impl<R: Rng + Drop> KeySource for FromRng<R> {
     }
 }
 
-/// The octets of a list as a source, which fails where fewer are left than are asked for.
+/// The octets of a list as a source whose calls can be made to fail. A call fails too where fewer octets are left than are asked for.
 #[derive(Drop)]
 pub struct MemoryKeySource {
     octets: Vec<u8>,
     place: usize,
-    faults: u64,
+    failures: Failures,
 }
 
 impl Model for MemoryKeySource {
@@ -74,20 +76,20 @@ impl Model for MemoryKeySource {
 
     ghost Value = { OctetsLeft };
 
-    ghost view = { λ s. record { left = drop s.place s.octets.items; faults = s.faults } };
+    ghost view = { λ s. record { left = drop s.place s.octets.items; calls = s.failures } };
 
     ghost invariant = { λ s. s.place ≤ length s.octets.items };
 }
 
 impl MemoryKeySource {
-    /// The source of these octets.
-    pub fn new(octets: Vec<u8>) -> MemoryKeySource
-        ensures { result ≡ record { left = octets.items; faults = 0 } }
+    /// The source of these octets; the calls of the list, numbered from 1, fail.
+    pub fn new(octets: Vec<u8>, failing: Vec<u64>) -> MemoryKeySource
+        ensures { result ≡ record { left = octets.items; calls = no_calls failing.items } }
     {
         MemoryKeySource {
             octets,
             place: 0,
-            faults: 0,
+            failures: Failures::new(failing),
         }
     }
 }
@@ -97,18 +99,24 @@ impl KeySource for MemoryKeySource {
 
     ghost Gives = { λ a octets b. a.left ≡ octets ++ b.left };
 
-    ghost faults = { λ s. s.faults };
+    ghost faults = { λ s. s.calls.faults };
 
-    /// Fails exactly where fewer octets are left than the buffer has.
+    /// Fails exactly where the call is one of the list, or fewer octets are left than the buffer has; the buffer then stays too.
     fn fill(&mut self, buf: &mut [u8]) -> Result<(), FillError>
-        ensures exact { IsOk result ↔ (length buf.old ≤ length self.old.left) }
+        ensures exact { IsOk result ↔ ((fails_next self.old.calls ≡ false) × (length buf.old ≤ length self.old.left)) }
         ensures given { OnOk result (self.old.left ≡ buf.new ++ self.new.left) }
-        ensures steady { OnOk result (self.new.faults ≡ self.old.faults) }
+        ensures called { OnOk result (self.new.calls ≡ after_call self.old.calls) }
+        ensures steady { OnOk result (self.new.calls.faults ≡ self.old.calls.faults) }
         ensures kept { OnErr result (self.new.left ≡ self.old.left) }
-        ensures failed { OnErr result (Rose self.old.faults self.new.faults) }
+        ensures untouched { OnErr result (buf.new ≡ buf.old) }
+        ensures fault { OnErr result (self.new.calls ≡ after_fault self.old.calls) }
+        ensures failed { OnErr result (Rose self.old.calls.faults self.new.calls.faults) }
     {
+        if self.failures.is_next_failing() {
+            return Err(FillError);
+        }
         if self.octets.len() - self.place < buf.len() {
-            self.faults = self.faults.saturating_add(1);
+            self.failures.count_fault();
             return Err(FillError);
         }
         let end = self.place + buf.len();

@@ -32,9 +32,9 @@ fn counted<R: Abort>(rt: &R, alloc: Global, len: u8) -> Vec<u8> {
     octets
 }
 
-/// A source of octets from 0 on, so many of them.
+/// A source of octets from 0 on, so many of them, none of whose calls is to fail.
 fn source<R: Abort>(rt: &R, alloc: Global, len: u8) -> MemoryKeySource {
-    MemoryKeySource::new(counted(rt, alloc, len))
+    MemoryKeySource::new(counted(rt, alloc, len), Vec::new(alloc))
 }
 
 /// The refusal of lengths of a key of that algorithm, if there is one.
@@ -167,6 +167,21 @@ fn failing_sources(rt: HostRuntime) {
         alloc,
     );
     assert_eq!(rt; made.err(), Some(GenerateKeyError::BadSigningLen));
+}
+
+#[test]
+fn failing_calls(rt: HostRuntime) {
+    let alloc = rt.alloc();
+    let mut failing = Vec::new(alloc);
+    failing.push(1).expect(&rt, "memory");
+    let mut source = MemoryKeySource::new(counted(&rt, alloc, 64), failing);
+    let root = name(&rt, b"\0");
+    let made = Key::generate(Algorithm::Sha256, root, None, None, &mut source, alloc);
+    assert_eq!(rt; made.err(), Some(GenerateKeyError::GenerationFailed));
+    let root = name(&rt, b"\0");
+    let made = Key::generate(Algorithm::Sha256, root, None, None, &mut source, alloc);
+    let (_, octets) = made.expect(&rt, "a key");
+    assert_eq!(rt; octets.as_slice(), counted(&rt, alloc, 32).as_slice());
 }
 
 #[test]

@@ -39,8 +39,8 @@ one_more_signed (x ∷ taken) m all signed = (all.0, one_more_signed taken m all
 -- ---- one answer
 
 pub answer_is_accepted : AnswerIsAccepted
-answer_is_accepted key request taken macs m at now fudge meets step =
-    passes key (mac_in request) at now fudge meets.is_key meets.early meets.small meets.near 0 taken (last_or None macs) m meets.can_sign
+answer_is_accepted most key request taken macs m at now fudge meets step =
+    passes key (mac_in request) at now fudge meets.is_key meets.early meets.small meets.near most taken (last_or None macs) m meets.can_sign
     (prior_in_step taken macs step) (none_by [] taken step.all_signed refl)
 
 pub answer_keeps_octets : AnswerKeepsOctets

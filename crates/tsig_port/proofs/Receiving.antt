@@ -1,6 +1,6 @@
 -- The signature of a message by the readings of its additional records.
-use Rattle.std.proofs.Common.{◌≡◌, ℕ, List, [], ◌∷◌, refl, sym, ap, ◌∙◌, Some, None}
-use Rattle.std.specs.Prelude.{map, Result, Ok, Err, OnErr, if◌then◌else◌}
+use Rattle.std.proofs.Common.{◌≡◌, ℕ, List, [], ◌∷◌, refl, sym, ap, ◌∙◌, subst, Option, Some, None}
+use Rattle.std.specs.Prelude.{map, Result, Ok, Err, OnErr, MatchOption, if◌then◌else◌}
 use Rattle.dns_rdata.specs.Heads.{RawRecord}
 use Rattle.dns_wire.specs.Parse.{Parsed, parsed, additional_readings}
 use Rattle.dns_wire.specs.Reads.{ReadsAs}
@@ -22,6 +22,10 @@ left_is m (raw ∷ next ∷ rest) = ap (λ (s : Signature). if is_tsig raw then 
 pub signature-left : (m : List ℕ) (p : Parsed) → ReadsAs m p → signature_left m (additional_readings m) ≡ signature_of m
 unfolding signature_of
 signature-left m p reads = ap (signature_left m) reads.others ∙ left_is m p.additional ∙ sym (ap (signature_parsed m) reads.whole)
+
+-- what holds of an option that is there
+pub at_some : {A : Type 0} {o : Option A} {x : A} (P : Type 0) (Q : A → Type 0) → o ≡ Some x → MatchOption o P Q → Q x
+at_some P Q is h = subst (λ o. MatchOption o P Q) is h
 
 -- what holds, holds at an error
 pub at_err : {T E P : Type 0} (r : Result T E) → P → OnErr r P

@@ -1,19 +1,23 @@
 -- Steps of a signed exchange.
-use Rattle.std.proofs.Common.{◌≡◌, ◌≢◌, ℕ, Bool, true, false, List, [], ◌∷◌, ◌++◌, length, refl, sym, ap, ◌∙◌, subst, Option, Some, None}
-use Rattle.std.specs.Prelude.{◌↔◌, IsTrue, IsSome, is_some}
+use Rattle.std.proofs.Common.{◌≡◌, ◌≢◌, ℕ, ◌+◌, ◌<◌, lt-ltb, Bool, true, false, List, [], ◌∷◌, ◌++◌, length, length-append, refl, sym, ap, ◌∙◌, subst, Option, Some, None}
+use Rattle.std.specs.Prelude.{◌↔◌, IsTrue, IsSome, is_some, nat_lt, not, reverse, take_while, unwrap_or, cond, if◌then◌else◌}
+use Rattle.std.specs.List.{concat}
 use Rattle.std.specs.Option.{option_map_or}
-use Rattle.std.proofs.lemmas.List.{append-nil, reverse-append, drop-drop}
+use Rattle.std.proofs.lemmas.List.{append-nil, append_assoc, reverse-append, drop-drop}
+use Rattle.std.proofs.lemmas.List.Folds.{concat-append}
+use Rattle.std.proofs.lemmas.List.Sums.{take_while-cons}
 use Rattle.dns_name.specs.Names.{Name}
 use Rattle.dns_wire.specs.Wire.{header_in, without_last_additional}
 use Rattle.dns_wire.specs.Numbers.{with_number}
 use Rattle.tsig_port.specs.Tsig.{TsigKey, Tsig, Signature, with_len, variables, timers, answer_input, is_signed, tsig_by, mac_in, without_tsig, signature_of, digested_message}
-use Rattle.tsig_port.specs.Tsig.Signature.{Signed}
+use Rattle.tsig_port.specs.Tsig.Signature.{Malformed, Unsigned, Signed}
 use Rattle.tsig_port.specs.HmacState.{HoldsHmac}
 use Rattle.tsig_keys.specs.declared.digests.Hmac.{Hmac}
 use Rattle.tsig_port.specs.declared.errors.ValidationError.{ValidationError}
-use Rattle.tsig_port.specs.Checked.{prior_mac, unsigned_since, signed_fault, answer_fault, fault_by, taken_message, taken_by}
+use Rattle.tsig_port.specs.declared.errors.ValidationError.TheVariants.{TooManyUnsigned}
+use Rattle.tsig_port.specs.Checked.{prior_mac, unsigned_since, signed_fault, unsigned_fault, answer_fault, fault_by, taken_message, taken_by}
 use Rattle.tsig_port.specs.Signers.{behind_message}
-use Rattle.tsig_port.specs.States.{digested_before}
+use Rattle.tsig_port.specs.States.{digested_before, bare_fault}
 
 by_prior : (request_mac : List ℕ) (prior : Option (List ℕ)) (unsigned : List (List ℕ)) (message : List ℕ) (owner : Name) (t : Tsig) → IsSome prior
     → digested_before request_mac prior unsigned ++ message ++ timers t ≡ answer_input request_mac prior unsigned message owner t
@@ -37,6 +41,17 @@ prior_after taken m signed = rw (reverse-append taken (m ∷ []), signed) refl
 
 pub unsigned_after : (taken : List (List ℕ)) (m : List ℕ) → is_signed m ≡ true → unsigned_since (taken ++ m ∷ []) ≡ []
 unsigned_after taken m signed = rw (reverse-append taken (m ∷ []), signed) refl
+
+-- an unsigned message behind others
+prior_stays : (taken : List (List ℕ)) (m : List ℕ) → is_signed m ≡ false → prior_mac (taken ++ m ∷ []) ≡ prior_mac taken
+prior_stays taken m bare = rw (reverse-append taken (m ∷ []), bare) refl
+
+one_more_since : (taken : List (List ℕ)) (m : List ℕ) → is_signed m ≡ false → unsigned_since (taken ++ m ∷ []) ≡ unsigned_since taken ++ m ∷ []
+one_more_since taken m bare =
+    let p : List ℕ → Bool = λ x. not (is_signed x) in
+    ap (λ l. reverse (take_while p l)) (reverse-append taken (m ∷ []))
+    ∙ ap (λ l. reverse l) (take_while-cons p m (reverse taken) ∙ ap (λ b. cond (not b) (m ∷ take_while p (reverse taken)) []) bare)
+    ∙ reverse-append (m ∷ []) (take_while p (reverse taken))
 
 -- the original id and ARCOUNT one less
 pub taken_away : (m : List ℕ) (id : ℕ) → without_last_additional (with_number 0 m id) ≡ without_tsig id m
@@ -95,3 +110,60 @@ signed_begun taken m r start owner t same signed =
 pub not_nothing : (taken : List (List ℕ)) (m : List ℕ) → (taken ++ m ∷ []) ≡ [] → false ≡ true
 not_nothing [] m e = absurd (cc e)
 not_nothing (x ∷ taken) m e = absurd (cc e)
+
+-- ---- the client's step at an answer without a TSIG
+
+bare_of : (m : List ℕ) → signature_of m ≡ Unsigned → is_signed m ≡ false
+bare_of m unsigned = ap (λ (s : Signature). is_some (tsig_by s)) unsigned
+
+-- the fault of an answer that has none to be checked, from the state before it
+bare_is : (most : ℕ) (taken : List (List ℕ)) (first : Bool) (unsigned : ℕ) → (IsTrue first ↔ (taken ≡ [])) → unsigned ≡ length (unsigned_since taken)
+    → bare_fault most first unsigned Unsigned ≡ unsigned_fault most taken
+bare_is most [] true unsigned is count = refl
+bare_is most [] false unsigned is count = absurd (cc (is.1 refl))
+bare_is most (x ∷ taken) true unsigned is count = absurd (cc (is.0 refl))
+bare_is most (x ∷ taken) false unsigned is count = ap (λ n. if nat_lt n most then None else Some TooManyUnsigned) count
+
+refused_by : (most : ℕ) (key : TsigKey) (request_mac : List ℕ) (now : ℕ) (taken : List (List ℕ)) (m : List ℕ) (s : Signature) (first : Bool) (unsigned : ℕ) (e : ValidationError)
+    → (IsTrue first ↔ (taken ≡ [])) → unsigned ≡ length (unsigned_since taken) → bare_fault most first unsigned s ≡ Some e → fault_by most key request_mac now taken m s ≡ Some e
+refused_by most key request_mac now taken m Malformed true unsigned e is count fault = fault
+refused_by most key request_mac now taken m Malformed false unsigned e is count fault = fault
+refused_by most key request_mac now taken m Unsigned first unsigned e is count fault = sym (bare_is most taken first unsigned is count) ∙ fault
+refused_by most key request_mac now taken m (Signed start owner t) true unsigned e is count fault = absurd (cc fault)
+refused_by most key request_mac now taken m (Signed start owner t) false unsigned e is count fault = absurd (cc fault)
+
+pub bare_refused : (most : ℕ) (key : TsigKey) (request_mac : List ℕ) (now : ℕ) (taken : List (List ℕ)) (m r : List ℕ) (first : Bool) (unsigned : ℕ) (e : ValidationError)
+    → r ≡ m → (IsTrue first ↔ (taken ≡ [])) → unsigned ≡ length (unsigned_since taken) → bare_fault most first unsigned (signature_of r) ≡ Some e
+    → answer_fault most key request_mac now taken m ≡ Some e
+bare_refused most key request_mac now taken m r first unsigned e same is count fault =
+    ap (λ (x : List ℕ). answer_fault most key request_mac now taken x) (sym same) ∙ refused_by most key request_mac now taken r (signature_of r) first unsigned e is count fault
+
+-- it has none, and stays
+pub bare_passes : (most : ℕ) (key : TsigKey) (request_mac : List ℕ) (now : ℕ) (taken : List (List ℕ)) (m r : List ℕ) (first : Bool) (unsigned : ℕ)
+    → r ≡ m → (IsTrue first ↔ (taken ≡ [])) → unsigned ≡ length (unsigned_since taken) → signature_of r ≡ Unsigned → first ≡ false → unsigned < most
+    → (answer_fault most key request_mac now taken m ≡ None) × (m ≡ taken_message m)
+bare_passes most key request_mac now taken m r first unsigned same is count bare begun room =
+    let by_m : signature_of m ≡ Unsigned = subst (λ (x : List ℕ). signature_of x ≡ Unsigned) same bare in
+    let few : bare_fault most false unsigned Unsigned ≡ None = ap (λ b. if b then None else Some TooManyUnsigned) (lt-ltb unsigned most room) in
+    let none = sym (bare_is most taken first unsigned is count) ∙ ap (λ b. bare_fault most b unsigned Unsigned) begun ∙ few in
+    (ap (λ (s : Signature). fault_by most key request_mac now taken m s) by_m ∙ none, sym (ap (λ (s : Signature). taken_by m s) by_m))
+
+-- what was digested before, and the unsigned message
+pub bare_digested : (request_mac : List ℕ) (taken : List (List ℕ)) (m : List ℕ) → signature_of m ≡ Unsigned
+    → digested_before request_mac (prior_mac taken) (unsigned_since taken) ++ m ≡ digested_before request_mac (prior_mac (taken ++ m ∷ [])) (unsigned_since (taken ++ m ∷ []))
+bare_digested request_mac taken m unsigned =
+    let bare = bare_of m unsigned in
+    let since = unsigned_since taken in
+    let front = with_len (unwrap_or (prior_mac taken) request_mac) in
+    let more : concat (since ++ m ∷ []) ≡ concat since ++ m = concat-append since (m ∷ []) ∙ ap (λ x. concat since ++ x) (append-nil m) in
+    append_assoc front (concat since) m ∙ ap (λ x. front ++ x) (sym more)
+    ∙ sym (ap (λ p. digested_before request_mac p (unsigned_since (taken ++ m ∷ []))) (prior_stays taken m bare) ∙ ap (λ u. digested_before request_mac (prior_mac taken) u) (one_more_since taken m bare))
+
+pub bare_counted : (taken : List (List ℕ)) (m : List ℕ) → signature_of m ≡ Unsigned → length (unsigned_since (taken ++ m ∷ [])) ≡ length (unsigned_since taken) + 1
+bare_counted taken m unsigned = ap length (one_more_since taken m (bare_of m unsigned)) ∙ length-append (unsigned_since taken) (m ∷ [])
+
+pub bare_begun : (taken : List (List ℕ)) (m : List ℕ) → signature_of m ≡ Unsigned → IsSome (prior_mac taken) → IsSome (prior_mac (taken ++ m ∷ []))
+bare_begun taken m unsigned some = rw (prior_stays taken m (bare_of m unsigned)) some
+
+pub not_first : (first : Bool) (taken : List (List ℕ)) → first ≡ false → (IsTrue first ↔ (taken ≡ [])) → taken ≢ []
+not_first first taken begun is none = absurd (cc (is.1 none, begun))

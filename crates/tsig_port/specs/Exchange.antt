@@ -31,10 +31,10 @@ pub record IsExchange (key : TsigKey) (m : Message) (at now fudge : ℕ) : Type 
   pub small : fudge < 2 ^ 16
   pub near : abs_diff at now ≤ fudge
 
--- the client accepts the answer
+-- the client accepts the answer, however many unsigned ones may follow each other
 abbrev pub AnswerIsAccepted : Type 0
-AnswerIsAccepted = (key : TsigKey) (request : List ℕ) (taken macs : List (List ℕ)) (m : Message) (at now fudge : ℕ) → IsExchange key m at now fudge → IsInStep taken macs
-    → answer_fault 0 key (mac_in request) now taken (next_answer key request macs m at fudge) ≡ None
+AnswerIsAccepted = (most : ℕ) (key : TsigKey) (request : List ℕ) (taken macs : List (List ℕ)) (m : Message) (at now fudge : ℕ) → IsExchange key m at now fudge → IsInStep taken macs
+    → answer_fault most key (mac_in request) now taken (next_answer key request macs m at fudge) ≡ None
 
 -- which then has the header, the question and the records that it had before it was signed
 abbrev pub AnswerIsKept : Type 0

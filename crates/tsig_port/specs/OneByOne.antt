@@ -1,8 +1,9 @@
 -- Answers that are taken one by one, each judged behind those before it (RFC 8945, 5.3.1 and 5.4).
-use Rattle.std.specs.Prelude.{◌≡◌, ◌↔◌, ℕ, List, [], ◌∷◌, ◌++◌, Some, None}
+use Rattle.std.specs.Prelude.{◌≡◌, ◌↔◌, ◌<◌, ℕ, List, [], ◌∷◌, ◌++◌, length, Some, None}
 use Rattle.tsig_port.specs.Tsig.{TsigKey, mac_in}
-use Rattle.tsig_port.specs.Checked.{answer_fault, passing, first_fault, strictly_checked, strict_fault, checked, check_fault}
+use Rattle.tsig_port.specs.Checked.{unsigned_since, answer_fault, passing, first_fault, strictly_checked, strict_fault, checked, check_fault}
 use Rattle.tsig_port.specs.declared.errors.ValidationError.{ValidationError}
+use Rattle.tsig_port.specs.declared.errors.ValidationError.TheVariants.{TooManyUnsigned}
 
 -- each of the answers passes every test behind those before it, where no unsigned one may follow
 abbrev pub EachPasses : TsigKey → List ℕ → ℕ → List (List ℕ) → Type 0
@@ -64,3 +65,21 @@ StrictIsChecked = (key : TsigKey) (request : List ℕ) (now : ℕ) (taken : List
 abbrev pub StrictIsFaultless : Type 0
 StrictIsFaultless = (key : TsigKey) (request : List ℕ) (now : ℕ) (taken : List (List ℕ)) → EachPasses key (mac_in request) now taken
     → check_fault key request now taken ≡ None
+
+-- Where none may follow is judged by where 99 may: what is refused there is refused here for the same cause;
+
+abbrev pub RefusedStrictly : Type 0
+RefusedStrictly = (key : TsigKey) (request_mac : List ℕ) (now : ℕ) (taken : List (List ℕ)) (message : List ℕ) (e : ValidationError)
+    → answer_fault 99 key request_mac now taken message ≡ Some e → answer_fault 0 key request_mac now taken message ≡ Some e
+
+-- what passes there passes here if none is unsigned behind the last signed one,
+abbrev pub PassesStrictly : Type 0
+PassesStrictly = (key : TsigKey) (request_mac : List ℕ) (now : ℕ) (taken : List (List ℕ)) (message : List ℕ)
+    → answer_fault 99 key request_mac now taken message ≡ None → length (unsigned_since (taken ++ message ∷ [])) ≡ 0
+    → answer_fault 0 key request_mac now taken message ≡ None
+
+-- and else is an unsigned one too many
+abbrev pub BareStrictly : Type 0
+BareStrictly = (key : TsigKey) (request_mac : List ℕ) (now : ℕ) (taken : List (List ℕ)) (message : List ℕ)
+    → answer_fault 99 key request_mac now taken message ≡ None → 0 < length (unsigned_since (taken ++ message ∷ []))
+    → answer_fault 0 key request_mac now taken message ≡ Some TooManyUnsigned

@@ -31,12 +31,13 @@ abbrev pub Answers : ℕ → TsigKey → List ℕ → ℕ → List (List ℕ) �
 Answers most key request_mac now taken old (Ok u) new = (answer_fault most key request_mac now taken old ≡ None) × (new ≡ taken_message old)
 Answers most key request_mac now taken old (Err e) new = (answer_fault most key request_mac now taken old ≡ Some e) × (new ≡ old)
 
--- the fault of an answer whose TSIG isn't there to be checked, the first answer or a later one, where no unsigned one may follow
-abbrev pub bare_fault : Bool → Signature → Option ValidationError
-bare_fault first Malformed = Some FormErr
-bare_fault true Unsigned = Some ServerUnsigned
-bare_fault false Unsigned = Some TooManyUnsigned
-bare_fault first (Signed start owner t) = None
+-- the fault of an answer whose TSIG isn't there to be checked: the first answer or a later one, behind so many unsigned ones since the
+-- last signed one, of which at most so many may follow each other (RFC 8945, 5.3.1)
+abbrev pub bare_fault : ℕ → Bool → ℕ → Signature → Option ValidationError
+bare_fault most first unsigned Malformed = Some FormErr
+bare_fault most true unsigned Unsigned = Some ServerUnsigned
+bare_fault most false unsigned Unsigned = if nat_lt unsigned most then None else Some TooManyUnsigned
+bare_fault most first unsigned (Signed start owner t) = None
 
 -- the server's state, after a request with this MAC and signed answers with those MACs
 pub record ServerStands {K : Type 0} (the_key : K → TsigKey) (s : ServerSequence K) (request_mac : List ℕ) (macs : List (List ℕ)) : Type 0 where

@@ -35,7 +35,7 @@ pub(crate) fn message<R: Abort>(rt: &R, alloc: Global, qr: bool) -> AdditionalBu
 }
 
 /// A reply that the server signs at the moment.
-fn signed_reply<R: Abort>(
+pub(crate) fn signed_reply<R: Abort>(
     rt: &R,
     alloc: Global,
     server: &mut ServerSequence<Key>,
@@ -96,9 +96,10 @@ fn signed_exchange(rt: HostRuntime) {
     assert_eq!(rt; client.unsigned(), 0);
     let mut bare = message(&rt, alloc, true).finish();
     let taken = client.answer(&mut bare, now);
-    assert_eq!(rt; taken, Err(ValidationError::TooManyUnsigned));
+    assert_eq!(rt; taken, Ok(()));
+    assert_eq!(rt; client.unsigned(), 1);
     let done = client.done();
-    assert_eq!(rt; done, Ok(()));
+    assert_eq!(rt; done, Err(ValidationError::TooManyUnsigned));
 }
 
 #[test]

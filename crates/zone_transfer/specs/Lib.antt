@@ -51,8 +51,8 @@ pub use Rattle.xfr_course.specs.Honest
 pub use Rattle.xfr_course.specs.Courses
 pub use Rattle.xfr_course.specs.Joining
 pub use Rattle.xfr_course.specs.CourseRows
+pub use Rattle.outside_calls.specs.Calls
 pub mod Links
-pub mod Calls
 pub mod Queues
 pub mod Refusals
 pub mod Ending

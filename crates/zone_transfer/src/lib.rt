@@ -2,7 +2,6 @@
 #![tactic(auto)]
 
 pub mod client;
-pub mod failures;
 pub mod laws;
 pub mod links;
 pub mod loop_link;
@@ -12,3 +11,5 @@ mod queue;
 pub mod sync;
 #[cfg(test)]
 mod tests;
+
+pub use outside_calls::failures;

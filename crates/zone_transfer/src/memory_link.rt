@@ -3,9 +3,9 @@ ghost use Rattle.std.specs.Prelude.{◌≡◌, ◌↔◌, IsTrue, IfOk, OnOk, On
 ghost use Rattle.zone_transfer.specs.Links.{no_lists, on_requests, on_replies, with_taken, after_take};
 ghost use Rattle.zone_transfer.specs.Calls.{no_calls, fails_next, after_call};
 
-use crate::failures::Failures;
 use crate::links::{Link, LinkError};
 use crate::queue::Queue;
+use outside_calls::failures::Failures;
 use std::alloc::Global;
 use std::marker::Model;
 

@@ -1,6 +1,10 @@
--- The calls of an outside in memory, of which some fail.
-use Rattle.std.specs.Prelude.{ℕ, ◌+◌, ◌-◌, ◌^◌, min, Bool, ◌==◌, if◌then◌else◌, List}
+-- The calls of an outside, which may fail, and those of an outside in memory, of which a list says which fail.
+use Rattle.std.specs.Prelude.{◌≡◌, ℕ, ◌+◌, ◌-◌, ◌^◌, ◌<◌, ◌⊎◌, min, Bool, ◌==◌, if◌then◌else◌, List}
 use Rattle.std.specs.List.{list_any}
+
+-- a count of faults rose, or stands at the greatest number
+abbrev pub Rose : ℕ → ℕ → Type 0
+Rose old new = (old < new) ⊎ (new ≡ 2 ^ 64 - 1)
 
 -- the numbers of the calls that fail, where the first has number 1; how many were made, and how many failed
 pub record Calls : Type 0 where

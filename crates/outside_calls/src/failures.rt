@@ -1,7 +1,6 @@
 //! Which calls of an outside in memory fail, and how often it failed.
 ghost use Rattle.std.specs.Prelude.{◌≡◌, IsTrue, false};
-ghost use Rattle.zone_transfer.specs.Links.{Rose};
-ghost use Rattle.zone_transfer.specs.Calls.{no_calls, with_fault, fails_next, after_call};
+ghost use Rattle.outside_calls.specs.Calls.{Rose, no_calls, with_fault, fails_next, after_call};
 
 use std::marker::Model;
 
@@ -14,7 +13,7 @@ pub struct Failures {
 }
 
 impl Model for Failures {
-    ghost use Rattle.zone_transfer.specs.Calls.{Calls};
+    ghost use Rattle.outside_calls.specs.Calls.{Calls};
 
     ghost Value = { Calls };
 
