@@ -7,7 +7,7 @@ use Rattle.dns_rdata.specs.Records.{Record}
 use Rattle.dns_rdata.specs.Heads.{record_in}
 use Rattle.tsig_port.specs.Tsig.{TsigKey}
 use Rattle.zone_script.specs.Script.{Line, ZoneLine, KeyLine, AtLine, PrimaryLine, SecondaryLine, ChangeLine, QueryLine, Change, Plus, Minus, Commit, hex_of, number_below, both, no_fields, one_field, two_fields, at_line, zone_line, query_line, record_line, record_field, name_field, of_stage, read_word, read_fields, read_line}
-use Rattle.zone_script.specs.ScriptReaders.{readers_so_far, record_so_far, key_so_far, is_read_type}
+use Rattle.zone_script.specs.ScriptReaders.{readers_so_far, record_so_far, key_of, is_read_type}
 
 abbrev pub IsReadLine : Line TsigKey → Type 0
 IsReadLine (ZoneLine apex class) = Unit {0}
@@ -122,7 +122,7 @@ late_read word fields =
 word_read : (word : List ℕ) (fields : List (List ℕ)) → IsReadIf (staged (read_word readers_so_far word fields))
 word_read word fields =
     either (bytes_eq word (codes "zone")) _ _ (two_read (zone_line readers_so_far) fields (λ x y. zone_read (name_field readers_so_far x) (number_below (2 ^ 16) y)))
-    (either (bytes_eq word (codes "key")) _ _ (key_read (key_so_far fields))
+    (either (bytes_eq word (codes "key")) _ _ (key_read (key_of fields))
     (either (bytes_eq word (codes "at")) _ _ (two_read at_line fields (λ x y. at_read (number_below (2 ^ 48) x) (number_below (2 ^ 48) y)))
     (either (bytes_eq word (codes "p")) _ _ (one_read (record_line readers_so_far PrimaryLine) fields (λ x. primary_read (record_field readers_so_far x) (field_typed x)))
     (either (bytes_eq word (codes "s")) _ _ (one_read (record_line readers_so_far SecondaryLine) fields (λ x. secondary_read (record_field readers_so_far x) (field_typed x)))
@@ -159,8 +159,8 @@ at_passes (x ∷ y ∷ []) = by (number_below (2 ^ 48) x) (number_below (2 ^ 48)
     by (Some n) (Some c) = refl
 at_passes (x ∷ y ∷ z ∷ more) = refl
 
-pub key_passes : (fields : List (List ℕ)) → staged (option_map KeyLine (key_so_far fields)) ≡ option_map KeyLine (key_so_far fields)
-key_passes fields = by (key_so_far fields)
+pub key_passes : (fields : List (List ℕ)) → staged (option_map KeyLine (key_of fields)) ≡ option_map KeyLine (key_of fields)
+key_passes fields = by (key_of fields)
   where
     by : (k : Option TsigKey) → staged (option_map KeyLine k) ≡ option_map KeyLine k
     by None = refl

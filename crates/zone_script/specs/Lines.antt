@@ -1,10 +1,15 @@
 -- The lines and fields that the code reads, as those of the definitions.
-use Rattle.std.specs.Prelude.{ℕ, ◌==◌, ◌||◌, Bool, false, List, [], Option, codes, bytes_eq}
+use Rattle.std.specs.Prelude.{ℕ, ◌==◌, List, [], Option, Some, None, option_map}
 use Rattle.std.specs.Option.{option_map_or}
+use Rattle.std.specs.Result.{result_ok}
 use Rattle.std.specs.List.{slice_split}
-use Rattle.tsig_port.specs.Tsig.{TsigKey}
+use Rattle.dns_name.specs.Names.{Name}
+use Rattle.dns_name.specs.Octets.{◌>>=◌}
+use Rattle.tsig_keys.specs.declared.algorithms.Algorithm.{Algorithm}
+use Rattle.tsig_port.specs.Tsig.{TsigKey, new_key}
 use Rattle.zone_script.specs.Script as scripts
-use Rattle.zone_script.specs.Script.{number_of}
+use Rattle.zone_script.specs.Script.{number_below}
+use Rattle.zone_script.specs.ScriptReaders.{or_none, length_field}
 use Rattle.zone_script.specs.declared.fields.Line.{Line}
 use Rattle.zone_script.specs.declared.fields.Line.TheVariants as line
 
@@ -19,6 +24,13 @@ line_of (line.Secondary found) = scripts.SecondaryLine found
 abbrev pub fields_in : Option (List ℕ) → List (List ℕ)
 fields_in rest = option_map_or (slice_split (λ o. o == 32)) rest []
 
--- whether a field stands for the length of a whole MAC, 32 octets
-abbrev pub is_whole : List ℕ → Bool
-is_whole field = bytes_eq field (codes "-") || option_map_or (λ n. n == 32) (number_of field) false
+-- the length of a MAC, up to that of the longest whole one, which has 64 octets; or a hyphen for the whole
+abbrev pub mac_len_field : List ℕ → Option (Option ℕ)
+mac_len_field field = or_none None (λ f. option_map Some (number_below 65 f)) field
+
+-- the key of its parts, the lengths as they are written
+abbrev pub key_from : Algorithm → List ℕ → Name → List ℕ → List ℕ → Option TsigKey
+key_from a s n signing least = do
+  long ← length_field signing
+  short ← length_field least
+  result_ok (new_key a s n short long)

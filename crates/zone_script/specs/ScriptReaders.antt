@@ -1,5 +1,5 @@
 -- How the program's script reads names, records and keys: whole octets, without pointers.
-use Rattle.std.specs.Prelude.{ℕ, ◌==◌, ◌&&◌, ◌||◌, Bool, true, false, List, [], ◌∷◌, Option, Some, None, option_map, option_and_then, codes, bytes_eq, if◌then◌else◌}
+use Rattle.std.specs.Prelude.{ℕ, ◌==◌, ◌||◌, Bool, List, [], ◌∷◌, Option, Some, None, option_map, option_and_then, codes, bytes_eq, if◌then◌else◌}
 use Rattle.std.specs.Result.{result_ok}
 use Rattle.dns_name.specs.Octets.{◌>>=◌}
 use Rattle.dns_name.specs.Compression.{name_in}
@@ -41,22 +41,12 @@ key_of _ = None
 abbrev pub wire_readers : Readers TsigKey
 wire_readers = record { name = name_in; found = record_in; key = key_of; last_stage = 7 }
 
--- ---- what is read so far: no edits and no questions; records of three types, A, NS and SOA; keys of one algorithm, with whole MACs
+-- ---- what is read so far: no edits and no questions; records of three types, A, NS and SOA
 abbrev pub is_read_type : ℕ → Bool
 is_read_type rtype = (rtype == type_a) || (rtype == type_ns) || (rtype == type_soa)
 
 abbrev pub record_so_far : List ℕ → Option Record
 record_so_far octets = option_and_then (λ (r : Record). if is_read_type r.rtype then Some r else None) (record_in octets)
 
-abbrev pub is_sha256 : Algorithm → Bool
-is_sha256 Sha256 = true
-is_sha256 _ = false
-
-abbrev pub is_read_key : TsigKey → Bool
-is_read_key k = is_sha256 k.algorithm && (k.signing_len == 32) && (k.min_mac_len == 32)
-
-abbrev pub key_so_far : List (List ℕ) → Option TsigKey
-key_so_far fields = option_and_then (λ (k : TsigKey). if is_read_key k then Some k else None) (key_of fields)
-
 abbrev pub readers_so_far : Readers TsigKey
-readers_so_far = record { name = name_in; found = record_so_far; key = key_so_far; last_stage = 5 }
+readers_so_far = record { name = name_in; found = record_so_far; key = key_of; last_stage = 5 }

@@ -1,9 +1,9 @@
 //! The fields of a line: names, numbers, records, keys.
-ghost use Rattle.std.specs.Prelude.{◌≡◌, ◌^◌, ◌∷◌, [], ◌&&◌, ℕ, List, IfOk, IfSome, IfNone, option_map, option_and_then, bytes_eq, codes};
+ghost use Rattle.std.specs.Prelude.{◌≡◌, ◌^◌, ◌∷◌, [], ℕ, List, IfOk, IfSome, IfNone, option_map, option_and_then};
 ghost use Rattle.dns_name.specs.Compression.{name_in};
 ghost use Rattle.zone_script.specs.Script as scripts;
-ghost use Rattle.zone_script.specs.ScriptReaders.{readers_so_far, record_so_far, key_so_far, is_read_type as is_type_so_far, or_none};
-ghost use Rattle.zone_script.specs.Lines.{line_of, is_whole};
+ghost use Rattle.zone_script.specs.ScriptReaders.{readers_so_far, record_so_far, key_of, algorithm_word, is_read_type as is_type_so_far, or_none};
+ghost use Rattle.zone_script.specs.Lines.{line_of, key_from, mac_len_field};
 
 use crate::lines::cut;
 use crate::numbers::{number_below, octets_of_hex};
@@ -244,7 +244,7 @@ fn name_of_octets(octets: &[u8]) -> Option<KeyName>
 
 /// `NAME ALGORITHM SECRET SIGN MIN`.
 fn read_key_line(alloc: Global, fields: &mut Fields<'_>) -> Result<Option<Line>, AllocError>
-    ensures { IfOk result (λ l. option_map line_of l ≡ option_map scripts.KeyLine (key_so_far fields.old)) }
+    ensures { IfOk result (λ l. option_map line_of l ≡ option_map scripts.KeyLine (key_of fields.old)) }
 {
     match read_key(alloc, fields)? {
         Some(key) => Ok(Some(Line::Key(key))),
@@ -252,23 +252,39 @@ fn read_key_line(alloc: Global, fields: &mut Fields<'_>) -> Result<Option<Line>,
     }
 }
 
-/// The key that the fields say, of the algorithm read so far and with whole MACs.
+/// The key that the fields say.
 fn read_key(alloc: Global, fields: &mut Fields<'_>) -> Result<Option<Key>, AllocError>
-    ensures { IfOk result (λ k. k ≡ key_so_far fields.old) }
+    ensures { IfOk result (λ k. k ≡ key_of fields.old) }
 {
     let Some((name, algorithm, secret, signing, least)) = five_fields(fields) else {
         return Ok(None);
     };
-    if !is_plain(algorithm, signing, least) {
-        return Ok(None);
-    }
     let Some(name) = name_of_hex(alloc, name)? else {
         return Ok(None);
     };
+    let Some(algorithm) = algorithm_of_word(algorithm) else {
+        return Ok(None);
+    };
     match read_secret(alloc, secret)? {
-        Some(secret) => Ok(Key::new(Algorithm::Sha256, secret.as_slice(), name, None, None).ok()),
+        Some(secret) => Ok(key_of_parts(algorithm, secret.as_slice(), name, signing, least)),
         None => Ok(None),
     }
+}
+
+/// The key of these parts, where both lengths lie in the bounds of the algorithm (RFC 8945, 5.2.2.1).
+#[tactic(auto, using(crate::proofs::KeyFields::signing_too_long, crate::proofs::KeyFields::least_too_long, crate::proofs::KeyFields::length_within))]
+fn key_of_parts(
+    algorithm: Algorithm,
+    secret: &[u8],
+    name: KeyName,
+    signing: &[u8],
+    least: &[u8],
+) -> Option<Key>
+    ensures { result ≡ key_from algorithm secret.now name signing.now least.now }
+{
+    let signing = read_mac_len(signing)?;
+    let least = read_mac_len(least)?;
+    Key::new(algorithm, secret, name, least, signing).ok()
 }
 
 /// The only five fields that are left.
@@ -285,18 +301,32 @@ fn five_fields<'l>(
     Some((first, second, third, fourth, fifth))
 }
 
-/// Whether a key is one of those read so far: HMAC-SHA256, with whole MACs.
-fn is_plain(algorithm: &[u8], signing: &[u8], least: &[u8]) -> bool
-    ensures { result ≡ (bytes_eq algorithm.now (codes "hmac-sha256") && is_whole signing.now && is_whole least.now) }
+/// The algorithm of one of the four names in lower case (RFC 8945, 6).
+fn algorithm_of_word(word: &[u8]) -> Option<Algorithm>
+    ensures { result ≡ algorithm_word word.now }
 {
-    algorithm == b"hmac-sha256".as_slice() && is_whole_len(signing) && is_whole_len(least)
+    if word == b"hmac-sha1".as_slice() {
+        Some(Algorithm::Sha1)
+    } else if word == b"hmac-sha256".as_slice() {
+        Some(Algorithm::Sha256)
+    } else if word == b"hmac-sha384".as_slice() {
+        Some(Algorithm::Sha384)
+    } else if word == b"hmac-sha512".as_slice() {
+        Some(Algorithm::Sha512)
+    } else {
+        None
+    }
 }
 
-/// Whether a field stands for the length of a whole MAC, 32 octets.
-fn is_whole_len(field: &[u8]) -> bool
-    ensures { result ≡ is_whole field.now }
+/// How many octets a MAC has, up to the 64 of the longest whole one, or a hyphen for a whole one.
+fn read_mac_len(field: &[u8]) -> Option<Option<usize>>
+    ensures { result ≡ mac_len_field field.now }
 {
-    field == b"-".as_slice() || number_below(33, field) == Some(32)
+    if field == b"-".as_slice() {
+        return Some(None);
+    }
+    let len = number_below(65, field)?;
+    Some(Some(len as usize))
 }
 
 /// A secret as hexadecimal digits, or a hyphen for none.

@@ -72,19 +72,38 @@ const ZONES: &str = "\
 1;;zone 07657g616d706c6500 1|\
 1;;zone example. 1";
 
-/// The key line: algorithm, secret, lengths, fields.
+/// The key line: algorithm, secret, lengths, fields. MACs are truncated to 10 octets and half of the whole at least (RFC 8945, 5.2.2.1).
 const KEYS: &str = "\
-2;zone;key 036b657900 hmac-sha1 000102 - -|\
+2;zone;key 036b657900 hmac-sha224 000102 - -|\
+2;zone;key 036b657900 hmac-sha1. 000102 - -|\
 2;zone;key 036b657900 HMAC-SHA256 000102 - -|\
 2;zone;key 036b657900 hmac-sha256  - -|\
 2;zone;key 036b657900 hmac-sha256 0 - -|\
-2;zone;key 036b657900 hmac-sha256 000102 16 -|\
-2;zone;key 036b657900 hmac-sha256 000102 - 16|\
+2;zone;key 036b657900 hmac-sha1 000102 9 -|\
+2;zone;key 036b657900 hmac-sha1 000102 21 -|\
+2;zone;key 036b657900 hmac-sha1 000102 - 9|\
+2;zone;key 036b657900 hmac-sha1 000102 - 21|\
+2;zone;key 036b657900 hmac-sha256 000102 15 -|\
 2;zone;key 036b657900 hmac-sha256 000102 33 -|\
+2;zone;key 036b657900 hmac-sha256 000102 - 15|\
+2;zone;key 036b657900 hmac-sha256 000102 - 33|\
+2;zone;key 036b657900 hmac-sha384 000102 23 -|\
+2;zone;key 036b657900 hmac-sha512 000102 - 65|\
+2;zone;key 036b657900 hmac-sha256 000102 18446744073709551632 -|\
 2;zone;key 036b657900 hmac-sha256 000102 032 -|\
 2;zone;key 036b657900 hmac-sha256 000102 -|\
 2;zone;key 036b657900 hmac-sha256 000102 - - -|\
 2;zone;key 036b6579 hmac-sha256 000102 - -";
+
+/// Key lines that are read, with a line behind each that isn't: the four algorithms, and the least and greatest lengths.
+const READ_KEYS: &str = "\
+3;zone;key 036b657900 hmac-sha1 - 10 20\nquit|\
+3;zone;key 036b657900 hmac-sha1 000102 20 10\nquit|\
+3;zone;key 036b657900 hmac-sha256 000102 16 32\nquit|\
+3;zone;key 036b657900 hmac-sha256 000102 32 16\nquit|\
+3;zone;key 036b657900 hmac-sha384 000102 24 48\nquit|\
+3;zone;key 036b657900 hmac-sha512 000102 64 32\nquit|\
+3;zone;key 036b657900 hmac-sha512 000102 - -\nquit";
 
 /// The line of the two moments.
 const MOMENTS: &str = "\
@@ -247,7 +266,7 @@ fn refused<R: Abort>(rt: &R, alloc: Global, group: &str) {
 #[test]
 fn scripts_that_are_refused(rt: HostRuntime) {
     for group in [
-        COUNTED, WORDS, IN_ORDER, ZONES, KEYS, MOMENTS, RECORDS, CUTS, OUTSIDE,
+        COUNTED, WORDS, IN_ORDER, ZONES, KEYS, READ_KEYS, MOMENTS, RECORDS, CUTS, OUTSIDE,
     ] {
         refused(&rt, rt.alloc(), group);
     }
@@ -258,4 +277,31 @@ fn scripts_that_are_taken(rt: HostRuntime) {
     for (first, second, status, report) in TAKEN {
         answers(&rt, rt.alloc(), first, second, status, report);
     }
+}
+
+/// Algorithm, secret and lengths of keys by which the zone of that SOA record is transferred.
+const GOOD_KEYS: &str =
+    "hmac-sha1 000102 10 10|hmac-sha256 000102 16 16|hmac-sha384 000102 - 24|hmac-sha512 000102 64 -";
+
+/// A script of the zone of that SOA record, with such a key.
+fn keyed<R: Abort>(rt: &R, alloc: Global, key: &str) -> String {
+    format!(in alloc; "{ZONE}key 036b657900 {key}\n").expect(rt, "memory")
+}
+
+#[test]
+fn keys_of_each_algorithm(rt: HostRuntime) {
+    for key in GOOD_KEYS.split('|') {
+        let head = keyed(&rt, rt.alloc(), key);
+        let alloc = rt.alloc();
+        answers(&rt, alloc, head.as_str(), SOA, Status::Done, SOA_REPORT);
+    }
+}
+
+/// The primary wants 32 octets of the request's MAC, which has 16; its unsigned reply has none (RFC 8945, 5.2.2.1 and 5.3.2).
+#[test]
+fn key_with_min_above_sign(rt: HostRuntime) {
+    let head = keyed(&rt, rt.alloc(), "hmac-sha256 000102 16 32");
+    let refused = "refused tsig bad-trunc\n";
+    let alloc = rt.alloc();
+    answers(&rt, alloc, head.as_str(), SOA, Status::Refused, refused);
 }
