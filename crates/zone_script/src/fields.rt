@@ -26,6 +26,8 @@ pub(crate) enum Line {
     Primary(StoredRecord),
     /// A record with which the secondary's zone opens.
     Secondary(StoredRecord),
+    /// A question to the secondary's zone: name and type.
+    Query(StoredName, Rtype),
 }
 
 impl Line {
@@ -39,6 +41,7 @@ impl Line {
             Line::At(_, _) => 3,
             Line::Primary(_) => 4,
             Line::Secondary(_) => 5,
+            Line::Query(_, _) => 7,
         }
     }
 }
@@ -103,7 +106,7 @@ pub(crate) fn read_line(alloc: Global, line: &[u8]) -> Result<Option<Line>, Allo
 }
 
 /// What a word says with the fields behind it.
-#[tactic(auto, using(crate::proofs::ReadLines::zone_passes, crate::proofs::ReadLines::key_passes, crate::proofs::ReadLines::at_passes, crate::proofs::ReadLines::primary_passes, crate::proofs::ReadLines::secondary_passes, crate::proofs::ReadLines::late_none))]
+#[tactic(auto, using(crate::proofs::ReadLines::zone_passes, crate::proofs::ReadLines::key_passes, crate::proofs::ReadLines::at_passes, crate::proofs::ReadLines::primary_passes, crate::proofs::ReadLines::secondary_passes, crate::proofs::ReadLines::late_query, crate::proofs::ReadLines::late_none))]
 fn read_word(
     alloc: Global,
     word: &[u8],
@@ -121,6 +124,8 @@ fn read_word(
         read_primary(alloc, fields)
     } else if word == b"s".as_slice() {
         read_secondary(alloc, fields)
+    } else if word == b"query".as_slice() {
+        read_query(alloc, fields)
     } else {
         Ok(None)
     }
@@ -185,6 +190,23 @@ fn read_secondary(alloc: Global, fields: &mut Fields<'_>) -> Result<Option<Line>
         Some(found) => Ok(Some(Line::Secondary(found))),
         None => Ok(None),
     }
+}
+
+/// `NAME TYPE`: a question, of any type.
+fn read_query(alloc: Global, fields: &mut Fields<'_>) -> Result<Option<Line>, AllocError>
+    ensures { IfOk result (λ l. option_map line_of l ≡ scripts.two_fields (scripts.query_line readers_so_far) fields.old) }
+{
+    let Some((name, rtype)) = two_fields(fields) else {
+        return Ok(None);
+    };
+    let Some(name) = name_of_hex(alloc, name)? else {
+        return Ok(None);
+    };
+    let Some(rtype) = number_below(65_536, rtype) else {
+        return Ok(None);
+    };
+    let qname = name.to_stored(alloc)?;
+    Ok(Some(Line::Query(qname, Rtype::from_int(rtype as u16))))
 }
 
 /// One record in wire form without pointers, as hexadecimal digits.
