@@ -138,64 +138,7 @@ first_only k s n h none later e =
     let behind : ((n == 1) || nat_le 1 k.stage) ≡ true = second_and (nat_le k.stage n && not (scripts.is_once n && (k.stage == n))) _ late in
     absurd (true≢false (sym behind ∙ ap (λ b. b || nat_le 1 k.stage) later ∙ ap (nat_le 1) (sym h.stage ∙ none.0)))
 
-zone_-- ---- the opening zones, once their lines are behind
-
--- both refuse at one line, or what is kept stands for what the definition goes on with
-abbrev OpensAlike : Reading → Option ℕ → Result (scripts.Script TsigKey) ℕ → Type 0
-OpensAlike k None (Ok s) = Stands k s
-OpensAlike k None (Err n) = ⊥
-OpensAlike k (Some m) (Ok s) = ⊥
-OpensAlike k (Some m) (Err n) = m ≡ n
-
-outside_is : (z : OpeningZone) (f : ZoneFile) (last : ℕ) → ZoneStands z f last → not (converts f) ≡ z.has_outside
-outside_is z f last g = ap not (converts_is f g.read) ∙ sym g.outside
-
-fault_is : (z : Zones) (s : scripts.Script TsigKey) → ZonesStand (Some z) s → opening_fault s ≡ (if z.primary.has_outside then Some s.last_primary else if z.secondary.has_outside then Some s.last_secondary else None)
-fault_is z s some i = if outside_is z.primary s.primary s.last_primary some.0 i then Some s.last_primary else if outside_is z.secondary s.secondary s.last_secondary some.1 i then Some s.last_secondary else None
-
-begins_alike : (k : Reading) (s : scripts.Script TsigKey) (z : Zones) → Stands k s → ZonesStand (Some z) s → OpensAlike k (zones_refusal (Some z)) (begun s (opening_fault s))
-begins_alike k s z h some = subst (λ o. OpensAlike k (zones_refusal (Some z)) (begun s o)) (sym (fault_is z s some)) (by z.primary.has_outside z.secondary.has_outside refl refl)
-  where
-    by : (a b : Bool) → z.primary.has_outside ≡ a → z.secondary.has_outside ≡ b
-        → OpensAlike k (option_or (if a then Some z.primary.last_line else None) (if b then Some z.secondary.last_line else None)) (begun s (if a then Some s.last_primary else if b then Some s.last_secondary else None))
-    by true b p q = some.0.line p
-    by false true p q = some.1.line q
-    by false false p q = record { stage = h.stage; key = h.key; at_primary = h.at_primary; at_secondary = h.at_secondary; queries = h.queries; zones = h.zones }
-
-opens_alike : (k : Reading) (s : scripts.Script TsigKey) (z : Zones) → k.zones ≡ Some z → Stands k s → OpensAlike k (refused_before k 7) (scripts.opened_before s 7)
-opens_alike k s z e h = subst (λ n. OpensAlike k (refused_before k 7) (if nat_lt n 6 then begun s (opening_fault s) else Ok s)) (sym h.stage) (by (nat_lt k.stage 6))
-  where
-    begins : OpensAlike k (zones_refusal k.zones) (begun s (opening_fault s))
-    begins = subst (λ o. OpensAlike k (zones_refusal o) (begun s (opening_fault s))) (sym e) (begins_alike k s z h (subst (λ o. ZonesStand o s) e h.zones))
-
-    by : (b : Bool) → OpensAlike k (if b then zones_refusal k.zones else None) (if b then begun s (opening_fault s) else Ok s)
-    by true = begins
-    by false = h
-
-query_line_stands : (k : Reading) (s : scripts.Script TsigKey) (name : Name) (rtype n : ℕ) → Stands k s → StandsAlike (take_line k n (QueryLine name rtype)) (next_line s n (QueryLine name rtype))
-query_line_stands k s name rtype n h =
-    by_may_come k s n 7 (unless (refused_before k 7) (put_line k n (QueryLine name rtype))) (take_from n (QueryLine name rtype) (scripts.opened_before s 7)) h (by k.zones refl h.zones)
-  where
-    taken : (z : Zones) (o : Option ℕ) (r : Result (scripts.Script TsigKey) ℕ) → k.zones ≡ Some z → OpensAlike k o r → StandsAlike (unless o (put_line k n (QueryLine name rtype))) (take_from n (QueryLine name rtype) r)
-    taken z None (Ok t) e g =
-        let some : ZonesStand (Some z) t = subst (λ o. ZonesStand o t) e g.zones in
-        record {
-          stage = refl;
-          key = g.key;
-          at_primary = g.at_primary;
-          at_secondary = g.at_secondary;
-          queries = ap (λ q. q ++ (name, rtype) ∷ []) g.queries;
-          zones = subst (λ o. ZonesStand o (record t { stage = 7; queries = t.queries ++ (name, rtype) ∷ [] })) (sym e) some;
-        }
-    taken z None (Err m) e g = absurd g
-    taken z (Some m) (Ok t) e g = absurd g
-    taken z (Some m) (Err d) e g = g
-
-    by : (z : Option Zones) → k.zones ≡ z → ZonesStand z s → may_come k 7 ≡ true → StandsAlike (unless (refused_before k 7) (put_line k n (QueryLine name rtype))) (take_from n (QueryLine name rtype) (scripts.opened_before s 7))
-    by None e none come = absurd (first_only k s 7 h none refl come)
-    by (Some z) e some come = taken z (refused_before k 7) (scripts.opened_before s 7) e (opens_alike k s z e h)
-
-line_stands : (k : Reading) (s : scripts.Script TsigKey) (apex : Name) (class n : ℕ) → Stands k s → StandsAlike (take_line k n (ZoneLine apex class)) (next_line s n (ZoneLine apex class))
+zone_line_stands : (k : Reading) (s : scripts.Script TsigKey) (apex : Name) (class n : ℕ) → Stands k s → StandsAlike (take_line k n (ZoneLine apex class)) (next_line s n (ZoneLine apex class))
 zone_line_stands k s apex class n h =
     by_may_come k s n 1 (put_line k n (ZoneLine apex class)) (take_from n (ZoneLine apex class) (Ok s)) h (λ e. record {
       stage = refl;
@@ -285,6 +228,63 @@ secondary_line_stands k s r n typed h = by_may_come k s n 5 (put_line k n (Secon
     by (Some z) some e =
         subst (λ a. StandsAlike (with_zones k 5 (into_secondary (Some z) n r)) (or_line n (option_map (λ f. record s { stage = 5; secondary = f; last_secondary = n }) a)))
         (sym (accept_by_version z.secondary s.secondary s.last_secondary r typed some.1)) (taken z (is_taken z.secondary.builder r) some)
+
+-- ---- the opening zones, once their lines are behind
+
+-- both refuse at one line, or what is kept stands for what the definition goes on with
+abbrev OpensAlike : Reading → Option ℕ → Result (scripts.Script TsigKey) ℕ → Type 0
+OpensAlike k None (Ok s) = Stands k s
+OpensAlike k None (Err n) = ⊥
+OpensAlike k (Some m) (Ok s) = ⊥
+OpensAlike k (Some m) (Err n) = m ≡ n
+
+outside_is : (z : OpeningZone) (f : ZoneFile) (last : ℕ) → ZoneStands z f last → not (converts f) ≡ z.has_outside
+outside_is z f last g = ap not (converts_is f g.read) ∙ sym g.outside
+
+fault_is : (z : Zones) (s : scripts.Script TsigKey) → ZonesStand (Some z) s → opening_fault s ≡ (if z.primary.has_outside then Some s.last_primary else if z.secondary.has_outside then Some s.last_secondary else None)
+fault_is z s some i = if outside_is z.primary s.primary s.last_primary some.0 i then Some s.last_primary else if outside_is z.secondary s.secondary s.last_secondary some.1 i then Some s.last_secondary else None
+
+begins_alike : (k : Reading) (s : scripts.Script TsigKey) (z : Zones) → Stands k s → ZonesStand (Some z) s → OpensAlike k (zones_refusal (Some z)) (begun s (opening_fault s))
+begins_alike k s z h some = subst (λ o. OpensAlike k (zones_refusal (Some z)) (begun s o)) (sym (fault_is z s some)) (by z.primary.has_outside z.secondary.has_outside refl refl)
+  where
+    by : (a b : Bool) → z.primary.has_outside ≡ a → z.secondary.has_outside ≡ b
+        → OpensAlike k (option_or (if a then Some z.primary.last_line else None) (if b then Some z.secondary.last_line else None)) (begun s (if a then Some s.last_primary else if b then Some s.last_secondary else None))
+    by true b p q = some.0.line p
+    by false true p q = some.1.line q
+    by false false p q = record { stage = h.stage; key = h.key; at_primary = h.at_primary; at_secondary = h.at_secondary; queries = h.queries; zones = h.zones }
+
+opens_alike : (k : Reading) (s : scripts.Script TsigKey) (z : Zones) → k.zones ≡ Some z → Stands k s → OpensAlike k (refused_before k 7) (scripts.opened_before s 7)
+opens_alike k s z e h = subst (λ n. OpensAlike k (refused_before k 7) (if nat_lt n 6 then begun s (opening_fault s) else Ok s)) (sym h.stage) (by (nat_lt k.stage 6))
+  where
+    begins : OpensAlike k (zones_refusal k.zones) (begun s (opening_fault s))
+    begins = subst (λ o. OpensAlike k (zones_refusal o) (begun s (opening_fault s))) (sym e) (begins_alike k s z h (subst (λ o. ZonesStand o s) e h.zones))
+
+    by : (b : Bool) → OpensAlike k (if b then zones_refusal k.zones else None) (if b then begun s (opening_fault s) else Ok s)
+    by true = begins
+    by false = h
+
+query_line_stands : (k : Reading) (s : scripts.Script TsigKey) (name : Name) (rtype n : ℕ) → Stands k s → StandsAlike (take_line k n (QueryLine name rtype)) (next_line s n (QueryLine name rtype))
+query_line_stands k s name rtype n h =
+    by_may_come k s n 7 (unless (refused_before k 7) (put_line k n (QueryLine name rtype))) (take_from n (QueryLine name rtype) (scripts.opened_before s 7)) h (by k.zones refl h.zones)
+  where
+    taken : (z : Zones) (o : Option ℕ) (r : Result (scripts.Script TsigKey) ℕ) → k.zones ≡ Some z → OpensAlike k o r → StandsAlike (unless o (put_line k n (QueryLine name rtype))) (take_from n (QueryLine name rtype) r)
+    taken z None (Ok t) e g =
+        let some : ZonesStand (Some z) t = subst (λ o. ZonesStand o t) e g.zones in
+        record {
+          stage = refl;
+          key = g.key;
+          at_primary = g.at_primary;
+          at_secondary = g.at_secondary;
+          queries = ap (λ q. q ++ (name, rtype) ∷ []) g.queries;
+          zones = subst (λ o. ZonesStand o (record t { stage = 7; queries = t.queries ++ (name, rtype) ∷ [] })) (sym e) some;
+        }
+    taken z None (Err m) e g = absurd g
+    taken z (Some m) (Ok t) e g = absurd g
+    taken z (Some m) (Err d) e g = g
+
+    by : (z : Option Zones) → k.zones ≡ z → ZonesStand z s → may_come k 7 ≡ true → StandsAlike (unless (refused_before k 7) (put_line k n (QueryLine name rtype))) (take_from n (QueryLine name rtype) (scripts.opened_before s 7))
+    by None e none come = absurd (first_only k s 7 h none refl come)
+    by (Some z) e some come = taken z (refused_before k 7) (scripts.opened_before s 7) e (opens_alike k s z e h)
 
 line_stands : (k : Reading) (s : scripts.Script TsigKey) (line : Line TsigKey) (n : ℕ) → IsReadLine line → Stands k s → StandsAlike (take_line k n line) (next_line s n line)
 line_stands k s (ZoneLine apex class) n typed h = zone_line_stands k s apex class n h
