@@ -1,6 +1,7 @@
 -- What the code keeps as it reads a script, and what the definition says of it.
-use Rattle.std.proofs.Common.{◌≡◌, ℕ, ◌+◌, ◌==◌, Bool, true, false, cond, ◌&&◌, ◌||◌, not, nat_le, nat_lt, if◌then◌else◌, List, [], ◌∷◌, ◌++◌, filter, fold as fold_list, refl, sym, ap, ◌∙◌, subst, true≢false, Option, Some, None, is_some, option_or, Result, Ok, Err}
+use Rattle.std.proofs.Common.{◌≡◌, ℕ, ◌+◌, ◌==◌, Bool, true, false, cond, ◌&&◌, ◌||◌, not, nat_le, nat_lt, if◌then◌else◌, List, [], ◌∷◌, ◌++◌, filter, fold as fold_list, refl, sym, ap, ◌∙◌, subst, true≢false, Option, Some, None, is_some, Result, Ok, Err}
 use Rattle.std.specs.Prelude.{option_map}
+use Rattle.std.specs.Option.{option_or}
 use Rattle.std.specs.List.{list_all}
 use Rattle.std.proofs.lemmas.List.Elements.{filter-append}
 use Rattle.dns_name.specs.Names.{Name, under}
@@ -244,20 +245,20 @@ outside_is z f last g = ap not (converts_is f g.read) ∙ sym g.outside
 fault_is : (z : Zones) (s : scripts.Script TsigKey) → ZonesStand (Some z) s → opening_fault s ≡ (if z.primary.has_outside then Some s.last_primary else if z.secondary.has_outside then Some s.last_secondary else None)
 fault_is z s some i = if outside_is z.primary s.primary s.last_primary some.0 i then Some s.last_primary else if outside_is z.secondary s.secondary s.last_secondary some.1 i then Some s.last_secondary else None
 
-begins_alike : (k : Reading) (s : scripts.Script TsigKey) (z : Zones) → Stands k s → ZonesStand (Some z) s → OpensAlike k (zones_refusal (Some z)) (begun s (opening_fault s))
-begins_alike k s z h some = subst (λ o. OpensAlike k (zones_refusal (Some z)) (begun s o)) (sym (fault_is z s some)) (by z.primary.has_outside z.secondary.has_outside refl refl)
+begins_alike : (k : Reading) (s : scripts.Script TsigKey) (z : Zones) → k.zones ≡ Some z → Stands k s → ZonesStand (Some z) s → OpensAlike k (zones_refusal (Some z)) (begun s (opening_fault s))
+begins_alike k s z e h some = subst (λ o. OpensAlike k (zones_refusal (Some z)) (begun s o)) (sym (fault_is z s some)) (by z.primary.has_outside z.secondary.has_outside refl refl)
   where
     by : (a b : Bool) → z.primary.has_outside ≡ a → z.secondary.has_outside ≡ b
         → OpensAlike k (option_or (if a then Some z.primary.last_line else None) (if b then Some z.secondary.last_line else None)) (begun s (if a then Some s.last_primary else if b then Some s.last_secondary else None))
     by true b p q = some.0.line p
     by false true p q = some.1.line q
-    by false false p q = record { stage = h.stage; key = h.key; at_primary = h.at_primary; at_secondary = h.at_secondary; queries = h.queries; zones = h.zones }
+    by false false p q = record { stage = h.stage; key = h.key; at_primary = h.at_primary; at_secondary = h.at_secondary; queries = h.queries; zones = subst (λ o. ZonesStand o (begin_edits s)) (sym e) some }
 
 opens_alike : (k : Reading) (s : scripts.Script TsigKey) (z : Zones) → k.zones ≡ Some z → Stands k s → OpensAlike k (refused_before k 7) (scripts.opened_before s 7)
 opens_alike k s z e h = subst (λ n. OpensAlike k (refused_before k 7) (if nat_lt n 6 then begun s (opening_fault s) else Ok s)) (sym h.stage) (by (nat_lt k.stage 6))
   where
     begins : OpensAlike k (zones_refusal k.zones) (begun s (opening_fault s))
-    begins = subst (λ o. OpensAlike k (zones_refusal o) (begun s (opening_fault s))) (sym e) (begins_alike k s z h (subst (λ o. ZonesStand o s) e h.zones))
+    begins = subst (λ o. OpensAlike k (zones_refusal o) (begun s (opening_fault s))) (sym e) (begins_alike k s z e h (subst (λ o. ZonesStand o s) e h.zones))
 
     by : (b : Bool) → OpensAlike k (if b then zones_refusal k.zones else None) (if b then begun s (opening_fault s) else Ok s)
     by true = begins

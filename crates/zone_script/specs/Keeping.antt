@@ -1,5 +1,6 @@
 -- What the code keeps of a script as it reads it, and what it makes of each line.
-use Rattle.std.specs.Prelude.{◌≡◌, ℕ, ◌+◌, Bool, false, ◌&&◌, ◌||◌, not, ◌==◌, nat_le, nat_lt, if◌then◌else◌, List, [], ◌∷◌, ◌++◌, Option, Some, None, is_some, option_or, Result, Ok, Err}
+use Rattle.std.specs.Prelude.{◌≡◌, ℕ, ◌+◌, Bool, false, ◌&&◌, ◌||◌, not, ◌==◌, nat_le, nat_lt, if◌then◌else◌, List, [], ◌∷◌, ◌++◌, Option, Some, None, is_some, Result, Ok, Err}
+use Rattle.std.specs.Option.{option_or}
 use Rattle.dns_name.specs.Names.{Name, under}
 use Rattle.dns_rdata.specs.Records.{Record}
 use Rattle.tsig_port.specs.Tsig.{TsigKey}

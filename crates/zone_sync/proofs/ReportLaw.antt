@@ -64,12 +64,12 @@ module _ (Sends : List ℕ → Option (List Sending) → Type 0) (at longest : �
       (subst (λ had. Synchronizes Sends (asking_with key now opened) at longest old new f g had handles s answer) none says)
 
   -- what was made of an answer is its report
-  pub reports_so : (a : Asking) (queries : List (Name × ℕ)) (handles : List Commit) (s : Session) (answer : Result SyncOk SyncError) (octets : List ℕ) (n : ℕ) (last : Commit) (status : Status)
-      → Synchronizes Sends a at longest old new f g [] handles s answer → n ≡ length handles → last ≡ s.current → status ≡ status_by answer
-      → IsSomeAnd (outcome_of answer) (λ how. octets ≡ report record_wire how n last.version queries []) → Reports Sends a at longest queries old new f g octets status
-  reports_so a queries handles s answer octets n last status says counted current ends named = by (outcome_of answer) refl named
+  pub reports_so : (a : Asking) (asked queries : List (Name × ℕ)) (handles : List Commit) (s : Session) (answer : Result SyncOk SyncError) (octets : List ℕ) (n : ℕ) (last : Commit) (status : Status)
+      → Synchronizes Sends a at longest old new f g [] handles s answer → n ≡ length handles → last ≡ s.current → status ≡ status_by answer → asked ≡ queries
+      → IsSomeAnd (outcome_of answer) (λ how. octets ≡ report record_wire how n last.version asked []) → Reports Sends a at longest queries old new f g octets status
+  reports_so a asked queries handles s answer octets n last status says counted current ends same named = by (outcome_of answer) refl named
     where
-      by : (o : Option Outcome) → outcome_of answer ≡ o → IsSomeAnd o (λ how. octets ≡ report record_wire how n last.version queries []) → Reports Sends a at longest queries old new f g octets status
+      by : (o : Option Outcome) → outcome_of answer ≡ o → IsSomeAnd o (λ how. octets ≡ report record_wire how n last.version asked []) → Reports Sends a at longest queries old new f g octets status
       by (Some how) e is = record {
         answer = answer;
         handles = handles;
