@@ -97,12 +97,12 @@ fn append_record(
     alloc: Global,
     out: &mut Vec<u8>,
     word: &[u8],
-    record: &AnswerRecord<'_>,
+    found: &AnswerRecord<'_>,
 ) -> Result<(), AllocError>
-    ensures { OnOk result (out.new.items ≡ out.old.items ++ record_line record_wire (word.now ∷ []) record.now) }
+    ensures { OnOk result (out.new.items ≡ out.old.items ++ record_line record_wire (word.now ∷ []) found.now) }
 {
     let mut wire = Vec::new(alloc);
-    record.compose_record(&mut wire)?;
+    found.compose_record(&mut wire)?;
     let text = hex::encode(alloc, wire.as_slice())?;
     out.extend_from_slice(word)?;
     out.extend_from_slice(b" ")?;
