@@ -4,3 +4,4 @@ mod Enclosers
 mod FirstSets
 mod Wildcards
 mod Referrals
+mod JoinedRecords

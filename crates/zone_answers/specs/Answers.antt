@@ -2,11 +2,19 @@
 use Rattle.std.specs.Prelude.{ℕ, Option, Some, None, option_copied}
 use Rattle.dns_name.specs.Names.{Name}
 use Rattle.dns_name.specs.Codes.{type_cname}
-use Rattle.zone_model.specs.Version.{RecordSet}
+use Rattle.zone_model.specs.Version.{RecordSet, Version}
 use Rattle.zone_model.specs.Answer.{Answer}
 use Rattle.zone_model.specs.Answer.Answer.{Referral as ReferralOf, Alias as AliasOf, Found as FoundOf, NoData as NoDataOf, NameError as NameErrorOf}
 use Rattle.zone_answers.specs.declared.content.Content.{Content}
 use Rattle.zone_answers.specs.declared.content.Content.TheVariants.{Referral, Alias, Found, NoData, NameError}
+
+-- a version, and what it answers to a question
+pub record AnsweredBy : Type 0 where
+  pub version : Version
+  pub answer : Answer
+
+abbrev pub answered_by : Version → Answer → AnsweredBy
+answered_by v a = record { version = v; answer = a }
 
 -- the answer of the definitions that lent sets stand for
 abbrev pub answer_of : Content → Answer

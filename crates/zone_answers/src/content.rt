@@ -1,12 +1,14 @@
-// What a version has for a question, lent.
+// The kinds of answer, lent.
 ghost use Rattle.std.specs.Prelude.{◌≡◌, option_copied};
-ghost use Rattle.zone_model.specs.Answer.{is_authoritative, rcode_of, set_or_no_data};
+ghost use Rattle.zone_model.specs.Answer.{answer_section, authority_section, glue_section, is_authoritative, rcode_of, set_or_no_data};
 ghost use Rattle.zone_model.specs.Answer.Answer.{Referral, Alias, NameError};
 ghost use Rattle.zone_answers.specs.Answers.{cut_of, servers_of, set_found, signer_of, type_found};
 
+use crate::records::SetRecords;
+use crate::sections::{AnswerRecords, apex_soa};
 use dns_name::{KeyName, Rcode, Rtype};
 use std::marker::Model;
-use zone_versions::RecordSet;
+use zone_versions::{RecordSet, ZoneVersion};
 
 /// The five kinds of answer (RFC 1034, 4.3.2; RFC 2308, 2).
 #[derive(Drop)]
@@ -23,13 +25,13 @@ pub(crate) enum Content<'v> {
     NameError,
 }
 
-/// What a version has for a question, its sets lent (RFC 1034, 4.3.2).
+/// An answer, its sets lent.
 #[derive(Drop)]
-pub struct AnswerRef<'v> {
+pub(crate) struct LentAnswer<'v> {
     content: Content<'v>,
 }
 
-impl<'v> Model for AnswerRef<'v> {
+impl<'v> Model for LentAnswer<'v> {
     ghost use Rattle.zone_model.specs.Answer.{Answer};
     ghost use Rattle.zone_answers.specs.Answers.{answer_of};
 
@@ -38,54 +40,54 @@ impl<'v> Model for AnswerRef<'v> {
     ghost view = { λ a. answer_of a.content };
 }
 
-impl<'v> AnswerRef<'v> {
+impl<'v> LentAnswer<'v> {
     /// A referral to the servers of a zone cut.
     pub(crate) fn referral(
         owner: KeyName,
         servers: &'v RecordSet,
         signer: Option<&'v RecordSet>,
-    ) -> AnswerRef<'v>
+    ) -> LentAnswer<'v>
         ensures { result ≡ Referral owner servers.now (option_copied signer.entry) }
     {
-        AnswerRef {
+        LentAnswer {
             content: Content::Referral(owner, servers, signer),
         }
     }
 
     /// The CNAME set of the name.
-    pub(crate) fn alias(target: &'v RecordSet) -> AnswerRef<'v>
+    pub(crate) fn alias(target: &'v RecordSet) -> LentAnswer<'v>
         ensures { result ≡ Alias target.now }
     {
-        AnswerRef {
+        LentAnswer {
             content: Content::Alias(target),
         }
     }
 
     /// The set of the type, where there is one.
-    pub(crate) fn set_or_no_data(rtype: Rtype, found: Option<&'v RecordSet>) -> AnswerRef<'v>
+    pub(crate) fn set_or_no_data(rtype: Rtype, found: Option<&'v RecordSet>) -> LentAnswer<'v>
         ensures { result ≡ set_or_no_data rtype (option_copied found.entry) }
     {
         match found {
-            Some(found) => AnswerRef {
+            Some(found) => LentAnswer {
                 content: Content::Found(rtype, found),
             },
-            None => AnswerRef {
+            None => LentAnswer {
                 content: Content::NoData,
             },
         }
     }
 
     /// The name doesn't exist.
-    pub(crate) fn name_error() -> AnswerRef<'v>
+    pub(crate) fn name_error() -> LentAnswer<'v>
         ensures { result ≡ NameError }
     {
-        AnswerRef {
+        LentAnswer {
             content: Content::NameError,
         }
     }
 
     /// NXDOMAIN where the name doesn't exist, else NOERROR (RFC 1035, 4.1.1).
-    pub fn rcode(&self) -> Rcode
+    pub(crate) fn rcode(&self) -> Rcode
         ensures { result ≡ rcode_of self.now }
     {
         match &self.content {
@@ -98,7 +100,7 @@ impl<'v> AnswerRef<'v> {
     }
 
     /// Whether the zone answers with authority: all but a referral do (RFC 1034, 4.3.2).
-    pub fn authoritative(&self) -> bool
+    pub(crate) fn authoritative(&self) -> bool
         ensures { result ≡ is_authoritative self.now }
     {
         match &self.content {
@@ -111,7 +113,7 @@ impl<'v> AnswerRef<'v> {
     }
 
     /// The set that answers: the one asked for, or the name's CNAME set.
-    pub fn found(&self) -> Option<&'v RecordSet>
+    pub(crate) fn found(&self) -> Option<&'v RecordSet>
         ensures { option_copied result ≡ set_found self.now }
     {
         match &self.content {
@@ -122,7 +124,7 @@ impl<'v> AnswerRef<'v> {
     }
 
     /// Its type.
-    pub fn found_type(&self) -> Option<Rtype>
+    pub(crate) fn found_type(&self) -> Option<Rtype>
         ensures { result ≡ type_found self.now }
     {
         match &self.content {
@@ -133,7 +135,7 @@ impl<'v> AnswerRef<'v> {
     }
 
     /// The NS set of a referral's zone cut.
-    pub fn servers(&self) -> Option<&'v RecordSet>
+    pub(crate) fn servers(&self) -> Option<&'v RecordSet>
         ensures { option_copied result ≡ servers_of self.now }
     {
         match &self.content {
@@ -143,7 +145,7 @@ impl<'v> AnswerRef<'v> {
     }
 
     /// The DS set of a referral's zone cut, where it has one.
-    pub fn signer(&self) -> Option<&'v RecordSet>
+    pub(crate) fn signer(&self) -> Option<&'v RecordSet>
         ensures { option_copied result ≡ signer_of self.now }
     {
         match &self.content {
@@ -153,12 +155,62 @@ impl<'v> AnswerRef<'v> {
     }
 
     /// The name of a referral's zone cut, in lower case.
-    pub fn cut(&self) -> Option<KeyName>
+    pub(crate) fn cut(&self) -> Option<KeyName>
         ensures { result ≡ cut_of self.now }
     {
         match &self.content {
             Content::Referral(owner, _, _) => Some(owner.duplicate()),
             _ => None,
+        }
+    }
+
+    /// The records of the answer section, at the name that was asked for (RFC 4592, 3.3.1).
+    pub(crate) fn answer(&self, version: &'v ZoneVersion, qname: KeyName) -> AnswerRecords<'v>
+        ensures { result ≡ answer_section version.now qname self.now }
+    {
+        match &self.content {
+            Content::Alias(target) => AnswerRecords::of_set(
+                version,
+                SetRecords::of(qname, Rtype::CNAME, version.class(), Some(*target)),
+            ),
+            Content::Found(rtype, found) => AnswerRecords::of_set(
+                version,
+                SetRecords::of(qname, *rtype, version.class(), Some(*found)),
+            ),
+            _ => AnswerRecords::none(version),
+        }
+    }
+
+    /// The records of the authority section: NS and DS of a referral, the SOA of a negative answer (RFC 2308, 3).
+    pub(crate) fn authority(&self, version: &'v ZoneVersion) -> AnswerRecords<'v>
+        ensures { result ≡ authority_section version.now self.now }
+    {
+        match &self.content {
+            Content::Referral(owner, servers, signer) => {
+                let servers = SetRecords::of(
+                    owner.duplicate(),
+                    Rtype::NS,
+                    version.class(),
+                    Some(*servers),
+                );
+                let signer = SetRecords::of(owner.duplicate(), Rtype::DS, version.class(), *signer);
+                AnswerRecords::of_sets(version, servers, signer)
+            }
+            Content::NoData => AnswerRecords::of_set(version, apex_soa(version)),
+            Content::NameError => AnswerRecords::of_set(version, apex_soa(version)),
+            _ => AnswerRecords::none(version),
+        }
+    }
+
+    /// The records of the additional section: the addresses of a referral's name servers (RFC 1034, 4.2.1).
+    pub(crate) fn glue(&self, version: &'v ZoneVersion) -> AnswerRecords<'v>
+        ensures { result ≡ glue_section version.now self.now }
+    {
+        match &self.content {
+            Content::Referral(_, servers, _) => {
+                AnswerRecords::of_servers(version, servers.items())
+            }
+            _ => AnswerRecords::none(version),
         }
     }
 }

@@ -4,7 +4,7 @@ ghost use Rattle.dns_name.specs.Names.{under, wildcard_below, name_wire};
 ghost use Rattle.zone_model.specs.Version.{IsValid, exists, is_cut};
 ghost use Rattle.zone_model.specs.Answer.{answer, answer_at, alias_at, at_cut, closest_encloser, first_set, from_wildcard, highest_cut, own_sets, sets_of};
 
-use crate::content::AnswerRef;
+use crate::content::LentAnswer;
 use dns_name::{KeyName, NameOctets, NameRef, Rtype, ToName};
 use zone_versions::ZoneVersion;
 
@@ -41,36 +41,36 @@ fn highest_cut(version: &ZoneVersion, name: &NameRef<'_>) -> Option<KeyName>
 }
 
 /// The first set of an owner by type, which a question for any type gets (RFC 1035, 3.2.3).
-fn first_set<'v>(version: &'v ZoneVersion, name: &NameRef<'_>) -> AnswerRef<'v>
+fn first_set<'v>(version: &'v ZoneVersion, name: &NameRef<'_>) -> LentAnswer<'v>
     requires { IsValid version.now }
     ensures { result ≡ first_set (sets_of version.now name.now) }
 {
     match version.first_from(name) {
         Some((key, set)) => {
             if key.owner().name_eq(name) {
-                AnswerRef::set_or_no_data(key.rtype(), Some(set))
+                LentAnswer::set_or_no_data(key.rtype(), Some(set))
             } else {
-                AnswerRef::set_or_no_data(key.rtype(), None)
+                LentAnswer::set_or_no_data(key.rtype(), None)
             }
         }
-        None => AnswerRef::set_or_no_data(Rtype::ANY, None),
+        None => LentAnswer::set_or_no_data(Rtype::ANY, None),
     }
 }
 
 /// What a name below no cut has: below the apex its CNAME, else the set of the type (RFC 1034, 4.3.2, step 3a).
-fn own_sets<'v>(version: &'v ZoneVersion, name: &NameRef<'_>, rtype: Rtype) -> AnswerRef<'v>
+fn own_sets<'v>(version: &'v ZoneVersion, name: &NameRef<'_>, rtype: Rtype) -> LentAnswer<'v>
     requires { IsValid version.now }
     ensures { result ≡ own_sets version.now name.now rtype (alias_at version.now name.now) }
 {
     if version.is_below_apex(name) {
         if let Some(target) = version.set_at(name, Rtype::CNAME) {
-            return AnswerRef::alias(target);
+            return LentAnswer::alias(target);
         }
     }
     if rtype == Rtype::ANY {
         return first_set(version, name);
     }
-    AnswerRef::set_or_no_data(rtype, version.set_at(name, rtype))
+    LentAnswer::set_or_no_data(rtype, version.set_at(name, rtype))
 }
 
 /// What a zone cut at a name or above it answers: a referral, but DS at the cut itself is the parent's own (RFC 1034, 4.3.2, step 3b; RFC 4035,
@@ -80,17 +80,17 @@ fn at_cut<'v>(
     name: &NameRef<'_>,
     rtype: Rtype,
     cut: KeyName,
-) -> AnswerRef<'v>
+) -> LentAnswer<'v>
     requires { is_cut version.now cut ≡ true }
     ensures { result ≡ at_cut version.now name.now rtype cut }
 {
     let signer = version.set_at(&cut, Rtype::DS);
     if rtype == Rtype::DS && name.name_eq(&cut) {
-        return AnswerRef::set_or_no_data(Rtype::DS, signer);
+        return LentAnswer::set_or_no_data(Rtype::DS, signer);
     }
     match version.set_at(&cut, Rtype::NS) {
-        Some(servers) => AnswerRef::referral(cut.into_canonical(), servers, signer),
-        None => AnswerRef::name_error(),
+        Some(servers) => LentAnswer::referral(cut.into_canonical(), servers, signer),
+        None => LentAnswer::name_error(),
     }
 }
 
@@ -100,7 +100,7 @@ fn answer_at<'v>(
     name: &NameRef<'_>,
     rtype: Rtype,
     cut: Option<KeyName>,
-) -> AnswerRef<'v>
+) -> LentAnswer<'v>
     requires valid { IsValid version.now }
     requires cut { IfSome cut (λ c. is_cut version.now c ≡ true) }
     ensures { result ≡ answer_at version.now name.now rtype cut }
@@ -145,7 +145,7 @@ pub(crate) fn answer<'v>(
     version: &'v ZoneVersion,
     name: &NameRef<'_>,
     rtype: Rtype,
-) -> AnswerRef<'v>
+) -> LentAnswer<'v>
     requires valid { IsValid version.now }
     requires inside { under name.now version.now.apex ≡ true }
     ensures { result ≡ answer version.now name.now rtype }
@@ -163,13 +163,13 @@ fn from_wildcard<'v>(
     version: &'v ZoneVersion,
     wildcard: &NameRef<'_>,
     rtype: Rtype,
-) -> AnswerRef<'v>
+) -> LentAnswer<'v>
     requires { IsValid version.now }
     ensures { result ≡ from_wildcard version.now wildcard.now rtype }
 {
     if exists(version, wildcard) {
         answer_at(version, wildcard, rtype, highest_cut(version, wildcard))
     } else {
-        AnswerRef::name_error()
+        LentAnswer::name_error()
     }
 }

@@ -4,9 +4,14 @@
 //! since in canonical order the owners at or below a name stand together.
 #![tactic(auto)]
 
+mod answer_ref;
 mod content;
 mod finding;
 mod question;
+mod records;
+mod sections;
 
-pub use content::AnswerRef;
+pub use answer_ref::AnswerRef;
 pub use question::{OutOfZone, look_up};
+pub use records::AnswerRecord;
+pub use sections::AnswerRecords;

@@ -2,8 +2,9 @@
 ghost use Rattle.std.specs.Prelude.{◌≡◌, true, false, IfOk, OnOk, OnErr};
 ghost use Rattle.dns_name.specs.Names.{under};
 ghost use Rattle.zone_model.specs.Answer.{answer as answer_of};
+ghost use Rattle.zone_answers.specs.Answers.{answered_by};
 
-use crate::content::AnswerRef;
+use crate::answer_ref::AnswerRef;
 use crate::finding::answer;
 use dns_name::{Rtype, ToName};
 use thiserror::Error;
@@ -25,7 +26,7 @@ pub fn look_up<'v, N: ToName>(
 ) -> Result<AnswerRef<'v>, OutOfZone>
     ensures inside { OnOk result (under (N.labels qname.now) zone.now.version.apex ≡ true) }
     ensures outside { OnErr result (under (N.labels qname.now) zone.now.version.apex ≡ false) }
-    ensures answer { IfOk result (λ a. a ≡ answer_of zone.now.version (N.labels qname.now) qtype) }
+    ensures answer { IfOk result (λ a. a ≡ answered_by zone.now.version (answer_of zone.now.version (N.labels qname.now) qtype)) }
 {
     if !qname.ends_with(zone.apex_name()) {
         return Err(OutOfZone);
@@ -33,5 +34,6 @@ pub fn look_up<'v, N: ToName>(
     // For the proof: a published version is valid.
     zone.validity();
     let name = qname.to_key_name();
-    Ok(answer(zone.contents(), &name.borrowed(), qtype))
+    let version = zone.contents();
+    Ok(AnswerRef::of(version, answer(version, &name.borrowed(), qtype)))
 }
