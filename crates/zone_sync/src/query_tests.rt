@@ -2,6 +2,8 @@
 
 use crate::program::Status;
 use crate::script_tests::{HEAD, answers, refused};
+use std::alloc::Global;
+use std::process::Abort;
 
 /// Question lines that aren't read or may not stand there, and zones that are refused before a question or behind it.
 const REFUSED: &str = "\
@@ -109,15 +111,22 @@ fn questions_that_are_refused(rt: HostRuntime) {
     refused(&rt, rt.alloc(), REFUSED);
 }
 
+/// Asserts what the zone answers.
+fn asked<R: Abort>(rt: &R, alloc: Global, queries: &str, lines: &str) {
+    let head = format!(in alloc; "{HEAD}{ZONE}").expect(rt, "memory");
+    let report = format!(in alloc; "{WALK}{lines}").expect(rt, "memory");
+    let output = report.as_str();
+    answers(rt, alloc, head.as_str(), queries, Status::Done, output);
+}
+
 #[test]
-fn questions_to_a_zone(rt: HostRuntime) {
-    let alloc = rt.alloc();
-    let head = format!(in alloc; "{HEAD}{ZONE}").expect(&rt, "memory");
-    for (queries, lines) in [(WILDCARD, BY_WILDCARD), (CUT, AT_CUT)] {
-        let report = format!(in alloc; "{WALK}{lines}").expect(&rt, "memory");
-        let output = report.as_str();
-        answers(&rt, alloc, head.as_str(), queries, Status::Done, output);
-    }
+fn questions_to_names_of_a_zone(rt: HostRuntime) {
+    asked(&rt, rt.alloc(), WILDCARD, BY_WILDCARD);
+}
+
+#[test]
+fn questions_at_a_cut_and_outside(rt: HostRuntime) {
+    asked(&rt, rt.alloc(), CUT, AT_CUT);
 }
 
 #[test]
