@@ -69,7 +69,7 @@ read_or_past field = by (bytes_eq field (codes "-")) (number_of field)
     by false None = inl refl
     by false (Some k) = past_bound k (nat_lt k 65) refl
 
-pub length_within : (field : List ℕ) (l : Option ℕ) → mac_len_field field ≡ Some l → length_field field ≡ Some l
+length_within : (field : List ℕ) (l : Option ℕ) → mac_len_field field ≡ Some l → length_field field ≡ Some l
 length_within field l h = by (read_or_past field)
   where
     by : ((mac_len_field field ≡ length_field field) ⊎ IsPast (mac_len_field field) (length_field field)) → length_field field ≡ Some l
@@ -94,3 +94,8 @@ least_too_long a s n signing least h = by (read_or_past least)
     by : ((mac_len_field least ≡ length_field least) ⊎ IsPast (mac_len_field least) (length_field least)) → key_with a s n (length_field signing) (length_field least) ≡ None
     by (inl e) = ap (key_with a s n (length_field signing)) (sym e ∙ h) ∙ none_least a s n (length_field signing)
     by (inr (p, (k, (e, f)))) = ap (key_with a s n (length_field signing)) e ∙ no_least a s n (length_field signing) k (no_mac_len a k f)
+
+-- and with both there is the key of these lengths
+pub made_of : (a : Algorithm) (s : List ℕ) (n : Name) (signing least : List ℕ) (long short : Option ℕ) → mac_len_field signing ≡ Some long → mac_len_field least ≡ Some short → result_ok (new_key a s n short long) ≡ key_from a s n signing least
+made_of a s n signing least long short h k =
+    ap (λ x. key_with a s n x (Some short)) (sym (length_within signing long h)) ∙ ap (key_with a s n (length_field signing)) (sym (length_within least short k))

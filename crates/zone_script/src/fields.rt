@@ -294,7 +294,7 @@ fn read_key(alloc: Global, fields: &mut Fields<'_>) -> Result<Option<Key>, Alloc
 }
 
 /// The key of these parts, where both lengths lie in the bounds of the algorithm (RFC 8945, 5.2.2.1).
-#[tactic(auto, using(crate::proofs::KeyFields::signing_too_long, crate::proofs::KeyFields::least_too_long, crate::proofs::KeyFields::length_within))]
+#[tactic(auto, using(crate::proofs::KeyFields::signing_too_long, crate::proofs::KeyFields::least_too_long))]
 fn key_of_parts(
     algorithm: Algorithm,
     secret: &[u8],

@@ -282,18 +282,22 @@ fn scripts_that_are_taken(rt: HostRuntime) {
 const GOOD_KEYS: &str =
     "hmac-sha1 000102 10 10|hmac-sha256 000102 16 16|hmac-sha384 000102 - 24|hmac-sha512 000102 64 -";
 
-/// A script of the zone of that SOA record, with such a key.
+/// Zone line and key line with such a key.
 fn keyed<R: Abort>(rt: &R, alloc: Global, key: &str) -> String {
     format!(in alloc; "{ZONE}key 036b657900 {key}\n").expect(rt, "memory")
 }
 
+/// Asserts that the zone of that SOA record is transferred with each of these keys.
+fn transferred<R: Abort>(rt: &R, alloc: Global, keys: &str) {
+    for key in keys.split('|') {
+        let head = keyed(rt, alloc, key);
+        answers(rt, alloc, head.as_str(), SOA, Status::Done, SOA_REPORT);
+    }
+}
+
 #[test]
 fn keys_of_each_algorithm(rt: HostRuntime) {
-    for key in GOOD_KEYS.split('|') {
-        let head = keyed(&rt, rt.alloc(), key);
-        let alloc = rt.alloc();
-        answers(&rt, alloc, head.as_str(), SOA, Status::Done, SOA_REPORT);
-    }
+    transferred(&rt, rt.alloc(), GOOD_KEYS);
 }
 
 /// The primary wants 32 octets of the request's MAC, which has 16; its unsigned reply has none (RFC 8945, 5.2.2.1 and 5.3.2).
