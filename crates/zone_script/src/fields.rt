@@ -1,6 +1,8 @@
 //! The fields of a line: names, numbers, records, keys.
 ghost use Rattle.std.specs.Prelude.{◌≡◌, ◌^◌, ◌∷◌, [], ℕ, List, IfOk, IfSome, IfNone, option_map, option_and_then};
+ghost use Rattle.std.specs.Result.{result_ok};
 ghost use Rattle.dns_name.specs.Compression.{name_in};
+ghost use Rattle.tsig_port.specs.Tsig.{new_key};
 ghost use Rattle.zone_script.specs.Script as scripts;
 ghost use Rattle.zone_script.specs.ScriptReaders.{readers_so_far, record_so_far, key_of, algorithm_word, is_read_type as is_type_so_far, or_none};
 ghost use Rattle.zone_script.specs.Lines.{line_of, key_from, mac_len_field};
@@ -293,7 +295,7 @@ fn read_key(alloc: Global, fields: &mut Fields<'_>) -> Result<Option<Key>, Alloc
     }
 }
 
-/// The key of these parts, where both lengths lie in the bounds of the algorithm (RFC 8945, 5.2.2.1).
+/// The key of these parts, the lengths as they are written (RFC 8945, 5.2.2.1).
 #[tactic(auto, using(crate::proofs::KeyFields::signing_too_long, crate::proofs::KeyFields::least_too_long))]
 fn key_of_parts(
     algorithm: Algorithm,
@@ -306,6 +308,19 @@ fn key_of_parts(
 {
     let signing = read_mac_len(signing)?;
     let least = read_mac_len(least)?;
+    key_of_lens(algorithm, secret, name, signing, least)
+}
+
+/// The key of these parts, where both lengths lie in the bounds of the algorithm.
+fn key_of_lens(
+    algorithm: Algorithm,
+    secret: &[u8],
+    name: KeyName,
+    signing: Option<usize>,
+    least: Option<usize>,
+) -> Option<Key>
+    ensures { result ≡ result_ok (new_key algorithm secret.now name least signing) }
+{
     Key::new(algorithm, secret, name, least, signing).ok()
 }
 

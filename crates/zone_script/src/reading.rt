@@ -101,6 +101,15 @@ impl Reading {
         if let Some(refused) = self.refused_before(stage) {
             return Err(ScriptError::Line(refused));
         }
+        self.put(alloc, number, line)
+    }
+
+    /// Puts a line to what was read.
+    fn put(&mut self, alloc: Global, number: u64, line: Line) -> Result<(), ScriptError>
+        ensures ok { OnOk result (keeping.put_line self.old number (line_of line) ≡ Ok self.new) }
+        ensures bad { IfErr result (λ e. IfSome (line_in e) (λ n. keeping.put_line self.old number (line_of line) ≡ Err n)) }
+    {
+        let stage = line.stage();
         match line {
             Line::Zone(apex, class) => self.zones = Some(Zones::new(alloc, apex, class)?),
             Line::Key(key) => self.key = Some(key),
