@@ -14,7 +14,7 @@ use Rattle.zone_script.specs.Script as scripts
 use Rattle.zone_script.specs.Script.{Line, ZoneLine, KeyLine, AtLine, PrimaryLine, SecondaryLine, ChangeLine, QueryLine, stage_of, is_skipped, read_line, read_lines, read_next, next_line, take_from, or_line, script_of, script_lines, no_script, converts, at_end, accept, begun, begin_edits, opening_fault}
 use Rattle.zone_script.specs.ScriptReaders.{readers_so_far, is_read_type}
 use Rattle.zone_script.specs.ZoneFiles.{is_taken}
-use Rattle.zone_script.specs.Keeping.{empty_zone, with_record, nothing_read, may_come, and_zones, into_primary, into_secondary, with_zones, put_line, zones_refusal, refused_before, unless, take_line, take_read, take_text, commit_of, script_with, script_from, finished, take_lines, Gives}
+use Rattle.zone_script.specs.Keeping.{empty_zone, with_record, nothing_read, may_come, and_zones, into_primary, into_secondary, with_zones, put_line, zones_refusal, refused_before, refused_at, unless, take_line, take_read, take_text, commit_of, script_with, script_from, finished, take_lines, Gives}
 use Rattle.zone_script.specs.declared.opening.OpeningZone.{OpeningZone}
 use Rattle.zone_script.specs.declared.reading.Zones.{Zones}
 use Rattle.zone_script.specs.declared.reading.Reading.{Reading}
@@ -132,6 +132,20 @@ by_may_come : (k : Reading) (s : scripts.Script TsigKey) (n stage : ℕ) (x : Re
     → StandsAlike (if may_come k stage then x else Err n) (if scripts.may_come s stage && true then y else Err n)
 by_may_come k s n stage x y h f = subst (λ b. StandsAlike (if may_come k stage then x else Err n) (if b && true then y else Err n)) (sym (may_come_alike k s stage h)) (alike_if (may_come k stage) n x y f)
 
+take_line_is : (k : Reading) (n : ℕ) (line : Line TsigKey) → take_line k n line ≡ (if may_come k (stage_of line) then unless (refused_before k (stage_of line)) (put_line k n line) else Err n)
+unfolding refused_at
+take_line_is k n line = by (may_come k (stage_of line))
+  where
+    by : (b : Bool) → unless (if b then refused_before k (stage_of line) else Some n) (put_line k n line) ≡ (if b then unless (refused_before k (stage_of line)) (put_line k n line) else Err n)
+    by true = refl
+    by false = refl
+
+by_take : (k : Reading) (s : scripts.Script TsigKey) (n : ℕ) (line : Line TsigKey) (y : Result (scripts.Script TsigKey) ℕ) → Stands k s → (may_come k (stage_of line) ≡ true → StandsAlike (unless (refused_before k (stage_of line)) (put_line k n line)) y)
+    → StandsAlike (take_line k n line) (if scripts.may_come s (stage_of line) && true then y else Err n)
+by_take k s n line y h f =
+    subst (λ r. StandsAlike r (if scripts.may_come s (stage_of line) && true then y else Err n)) (sym (take_line_is k n line))
+    (by_may_come k s n (stage_of line) (unless (refused_before k (stage_of line)) (put_line k n line)) y h f)
+
 -- without zones, only a zone line may come
 first_only : (k : Reading) (s : scripts.Script TsigKey) (n : ℕ) → Stands k s → ZonesStand None s → (n == 1) ≡ false → may_come k n ≡ true → ⊥
 first_only k s n h none later e =
@@ -141,7 +155,7 @@ first_only k s n h none later e =
 
 zone_line_stands : (k : Reading) (s : scripts.Script TsigKey) (apex : Name) (class n : ℕ) → Stands k s → StandsAlike (take_line k n (ZoneLine apex class)) (next_line s n (ZoneLine apex class))
 zone_line_stands k s apex class n h =
-    by_may_come k s n 1 (put_line k n (ZoneLine apex class)) (take_from n (ZoneLine apex class) (Ok s)) h (λ e. record {
+    by_take k s n (ZoneLine apex class) (take_from n (ZoneLine apex class) (Ok s)) h (λ e. record {
       stage = refl;
       key = h.key;
       at_primary = h.at_primary;
@@ -152,7 +166,7 @@ zone_line_stands k s apex class n h =
 
 key_line_stands : (k : Reading) (s : scripts.Script TsigKey) (key : TsigKey) (n : ℕ) → Stands k s → StandsAlike (take_line k n (KeyLine key)) (next_line s n (KeyLine key))
 key_line_stands k s key n h =
-    by_may_come k s n 2 (put_line k n (KeyLine key)) (take_from n (KeyLine key) (Ok s)) h (λ e. record {
+    by_take k s n (KeyLine key) (take_from n (KeyLine key) (Ok s)) h (λ e. record {
       stage = refl;
       key = refl;
       at_primary = h.at_primary;
@@ -167,7 +181,7 @@ key_line_stands k s key n h =
 
 at_line_stands : (k : Reading) (s : scripts.Script TsigKey) (p q n : ℕ) → Stands k s → StandsAlike (take_line k n (AtLine p q)) (next_line s n (AtLine p q))
 at_line_stands k s p q n h =
-    by_may_come k s n 3 (put_line k n (AtLine p q)) (take_from n (AtLine p q) (Ok s)) h (λ e. record {
+    by_take k s n (AtLine p q) (take_from n (AtLine p q) (Ok s)) h (λ e. record {
       stage = refl;
       key = h.key;
       at_primary = refl;
@@ -185,7 +199,7 @@ accept_by_version : (z : OpeningZone) (f : ZoneFile) (last : ℕ) (r : Record) �
 accept_by_version z f last r typed h = accept_is f r h.read typed ∙ ap (λ v. if is_taken v r then Some (scripts.with_record f r) else None) (sym h.version)
 
 primary_line_stands : (k : Reading) (s : scripts.Script TsigKey) (r : Record) (n : ℕ) → is_read_type r.rtype ≡ true → Stands k s → StandsAlike (take_line k n (PrimaryLine r)) (next_line s n (PrimaryLine r))
-primary_line_stands k s r n typed h = by_may_come k s n 4 (put_line k n (PrimaryLine r)) (take_from n (PrimaryLine r) (Ok s)) h (by k.zones h.zones)
+primary_line_stands k s r n typed h = by_take k s n (PrimaryLine r) (take_from n (PrimaryLine r) (Ok s)) h (by k.zones h.zones)
   where
     taken : (z : Zones) (b : Bool) → ZonesStand (Some z) s
         → StandsAlike (with_zones k 4 (and_zones (λ p. record z { primary = p }) (if b then Ok (with_record z.primary n r) else Err n)))
@@ -208,7 +222,7 @@ primary_line_stands k s r n typed h = by_may_come k s n 4 (put_line k n (Primary
         (sym (accept_by_version z.primary s.primary s.last_primary r typed some.0)) (taken z (is_taken z.primary.builder r) some)
 
 secondary_line_stands : (k : Reading) (s : scripts.Script TsigKey) (r : Record) (n : ℕ) → is_read_type r.rtype ≡ true → Stands k s → StandsAlike (take_line k n (SecondaryLine r)) (next_line s n (SecondaryLine r))
-secondary_line_stands k s r n typed h = by_may_come k s n 5 (put_line k n (SecondaryLine r)) (take_from n (SecondaryLine r) (Ok s)) h (by k.zones h.zones)
+secondary_line_stands k s r n typed h = by_take k s n (SecondaryLine r) (take_from n (SecondaryLine r) (Ok s)) h (by k.zones h.zones)
   where
     taken : (z : Zones) (b : Bool) → ZonesStand (Some z) s
         → StandsAlike (with_zones k 5 (and_zones (λ q. record z { secondary = q }) (if b then Ok (with_record z.secondary n r) else Err n)))
@@ -266,7 +280,7 @@ opens_alike k s z e h = subst (λ n. OpensAlike k (refused_before k 7) (if nat_l
 
 query_line_stands : (k : Reading) (s : scripts.Script TsigKey) (name : Name) (rtype n : ℕ) → Stands k s → StandsAlike (take_line k n (QueryLine name rtype)) (next_line s n (QueryLine name rtype))
 query_line_stands k s name rtype n h =
-    by_may_come k s n 7 (unless (refused_before k 7) (put_line k n (QueryLine name rtype))) (take_from n (QueryLine name rtype) (scripts.opened_before s 7)) h (by k.zones refl h.zones)
+    by_take k s n (QueryLine name rtype) (take_from n (QueryLine name rtype) (scripts.opened_before s 7)) h (by k.zones refl h.zones)
   where
     taken : (z : Zones) (o : Option ℕ) (r : Result (scripts.Script TsigKey) ℕ) → k.zones ≡ Some z → OpensAlike k o r → StandsAlike (unless o (put_line k n (QueryLine name rtype))) (take_from n (QueryLine name rtype) r)
     taken z None (Ok t) e g =

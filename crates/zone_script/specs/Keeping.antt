@@ -82,8 +82,12 @@ abbrev pub unless : {A : Type 0} → Option ℕ → Result A ℕ → Result A �
 unless None r = r
 unless (Some n) r = Err n
 
+-- the line that refuses one of a stage: its own where it may not come, else that of an opening zone
+unfoldable pub refused_at : Reading → ℕ → ℕ → Option ℕ
+refused_at k n stage = if may_come k stage then refused_before k stage else Some n
+
 abbrev pub take_line : Reading → ℕ → scripts.Line TsigKey → Result Reading ℕ
-take_line k n line = if may_come k (stage_of line) then unless (refused_before k (stage_of line)) (put_line k n line) else Err n
+take_line k n line = unless (refused_at k n (stage_of line)) (put_line k n line)
 
 abbrev pub take_read : Reading → ℕ → Option (scripts.Line TsigKey) → Result Reading ℕ
 take_read k n None = Err n

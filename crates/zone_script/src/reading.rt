@@ -94,14 +94,22 @@ impl Reading {
         ensures ok { OnOk result (keeping.take_line self.old number (line_of line) ≡ Ok self.new) }
         ensures bad { IfErr result (λ e. IfSome (line_in e) (λ n. keeping.take_line self.old number (line_of line) ≡ Err n)) }
     {
-        let stage = line.stage();
-        if !self.may_come(stage) {
-            return Err(ScriptError::Line(number));
-        }
-        if let Some(refused) = self.refused_before(stage) {
+        if let Some(refused) = self.refused_at(number, line.stage()) {
             return Err(ScriptError::Line(refused));
         }
         self.put(alloc, number, line)
+    }
+
+    /// The line that refuses one of a stage at this number: its own where it may not come, else that of an opening zone.
+    #[tactic(auto, unfolding(crate::specs::Keeping::refused_at))]
+    fn refused_at(&self, number: u64, stage: u8) -> Option<u64>
+        ensures { result ≡ keeping.refused_at self.now number stage }
+    {
+        if self.may_come(stage) {
+            self.refused_before(stage)
+        } else {
+            Some(number)
+        }
     }
 
     /// Puts a line to what was read.
