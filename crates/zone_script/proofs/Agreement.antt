@@ -1,6 +1,7 @@
 -- What the code keeps as it reads a script, and what the definition says of it.
 use Rattle.std.proofs.Common.{◌≡◌, ℕ, ◌+◌, ◌==◌, Bool, true, false, cond, ◌&&◌, ◌||◌, not, nat_le, nat_lt, if◌then◌else◌, List, [], ◌∷◌, ◌++◌, filter, fold as fold_list, refl, sym, ap, ◌∙◌, subst, true≢false, Option, Some, None, is_some, Result, Ok, Err}
 use Rattle.std.specs.Prelude.{option_map}
+use Rattle.std.specs.Option.{option_or}
 use Rattle.std.specs.List.{list_all}
 use Rattle.std.proofs.lemmas.List.Elements.{filter-append}
 use Rattle.dns_name.specs.Names.{Name, under}
@@ -13,7 +14,7 @@ use Rattle.zone_script.specs.Script as scripts
 use Rattle.zone_script.specs.Script.{Line, ZoneLine, KeyLine, AtLine, PrimaryLine, SecondaryLine, ChangeLine, QueryLine, stage_of, is_skipped, read_line, read_lines, read_next, next_line, take_from, or_line, script_of, script_lines, no_script, converts, at_end, accept, begun, begin_edits, opening_fault}
 use Rattle.zone_script.specs.ScriptReaders.{readers_so_far, is_read_type}
 use Rattle.zone_script.specs.ZoneFiles.{is_taken}
-use Rattle.zone_script.specs.Keeping.{empty_zone, with_record, nothing_read, may_come, and_zones, into_primary, into_secondary, with_zones, put_line, take_line, take_read, take_text, commit_of, script_from, finished, take_lines, Gives}
+use Rattle.zone_script.specs.Keeping.{empty_zone, with_record, nothing_read, may_come, and_zones, into_primary, into_secondary, with_zones, put_line, zones_refusal, refused_before, refused_at, unless, take_line, take_read, take_text, commit_of, script_with, script_from, finished, take_lines, Gives}
 use Rattle.zone_script.specs.declared.opening.OpeningZone.{OpeningZone}
 use Rattle.zone_script.specs.declared.reading.Zones.{Zones}
 use Rattle.zone_script.specs.declared.reading.Reading.{Reading}
@@ -39,10 +40,10 @@ ZonesStand (Some z) s = ZoneStands z.primary s.primary s.last_primary × ZoneSta
 -- what is kept stands for a script as far as it was read
 record Stands (k : Reading) (s : scripts.Script TsigKey) : Type 0 where
   stage : s.stage ≡ k.stage
-  early : nat_lt s.stage 6 ≡ true
   key : s.key ≡ k.key
   at_primary : s.at_primary ≡ k.at_primary
   at_secondary : s.at_secondary ≡ k.at_secondary
+  queries : s.queries ≡ k.queries
   zones : ZonesStand k.zones s
 
 abbrev StandsAlike : Result Reading ℕ → Result (scripts.Script TsigKey) ℕ → Type 0
@@ -131,6 +132,20 @@ by_may_come : (k : Reading) (s : scripts.Script TsigKey) (n stage : ℕ) (x : Re
     → StandsAlike (if may_come k stage then x else Err n) (if scripts.may_come s stage && true then y else Err n)
 by_may_come k s n stage x y h f = subst (λ b. StandsAlike (if may_come k stage then x else Err n) (if b && true then y else Err n)) (sym (may_come_alike k s stage h)) (alike_if (may_come k stage) n x y f)
 
+take_line_is : (k : Reading) (n : ℕ) (line : Line TsigKey) → take_line k n line ≡ (if may_come k (stage_of line) then unless (refused_before k (stage_of line)) (put_line k n line) else Err n)
+unfolding refused_at
+take_line_is k n line = by (may_come k (stage_of line))
+  where
+    by : (b : Bool) → unless (if b then refused_before k (stage_of line) else Some n) (put_line k n line) ≡ (if b then unless (refused_before k (stage_of line)) (put_line k n line) else Err n)
+    by true = refl
+    by false = refl
+
+by_take : (k : Reading) (s : scripts.Script TsigKey) (n : ℕ) (line : Line TsigKey) (y : Result (scripts.Script TsigKey) ℕ) → Stands k s → (may_come k (stage_of line) ≡ true → StandsAlike (unless (refused_before k (stage_of line)) (put_line k n line)) y)
+    → StandsAlike (take_line k n line) (if scripts.may_come s (stage_of line) && true then y else Err n)
+by_take k s n line y h f =
+    subst (λ r. StandsAlike r (if scripts.may_come s (stage_of line) && true then y else Err n)) (sym (take_line_is k n line))
+    (by_may_come k s n (stage_of line) (unless (refused_before k (stage_of line)) (put_line k n line)) y h f)
+
 -- without zones, only a zone line may come
 first_only : (k : Reading) (s : scripts.Script TsigKey) (n : ℕ) → Stands k s → ZonesStand None s → (n == 1) ≡ false → may_come k n ≡ true → ⊥
 first_only k s n h none later e =
@@ -140,23 +155,23 @@ first_only k s n h none later e =
 
 zone_line_stands : (k : Reading) (s : scripts.Script TsigKey) (apex : Name) (class n : ℕ) → Stands k s → StandsAlike (take_line k n (ZoneLine apex class)) (next_line s n (ZoneLine apex class))
 zone_line_stands k s apex class n h =
-    by_may_come k s n 1 (put_line k n (ZoneLine apex class)) (take_from n (ZoneLine apex class) (Ok s)) h (λ e. record {
+    by_take k s n (ZoneLine apex class) (take_from n (ZoneLine apex class) (Ok s)) h (λ e. record {
       stage = refl;
-      early = refl;
       key = h.key;
       at_primary = h.at_primary;
       at_secondary = h.at_secondary;
+      queries = h.queries;
       zones = (empty_stands apex class s.last_primary, empty_stands apex class s.last_secondary);
     })
 
 key_line_stands : (k : Reading) (s : scripts.Script TsigKey) (key : TsigKey) (n : ℕ) → Stands k s → StandsAlike (take_line k n (KeyLine key)) (next_line s n (KeyLine key))
 key_line_stands k s key n h =
-    by_may_come k s n 2 (put_line k n (KeyLine key)) (take_from n (KeyLine key) (Ok s)) h (λ e. record {
+    by_take k s n (KeyLine key) (take_from n (KeyLine key) (Ok s)) h (λ e. record {
       stage = refl;
-      early = refl;
       key = refl;
       at_primary = h.at_primary;
       at_secondary = h.at_secondary;
+      queries = h.queries;
       zones = by k.zones h.zones e;
     })
   where
@@ -166,12 +181,12 @@ key_line_stands k s key n h =
 
 at_line_stands : (k : Reading) (s : scripts.Script TsigKey) (p q n : ℕ) → Stands k s → StandsAlike (take_line k n (AtLine p q)) (next_line s n (AtLine p q))
 at_line_stands k s p q n h =
-    by_may_come k s n 3 (put_line k n (AtLine p q)) (take_from n (AtLine p q) (Ok s)) h (λ e. record {
+    by_take k s n (AtLine p q) (take_from n (AtLine p q) (Ok s)) h (λ e. record {
       stage = refl;
-      early = refl;
       key = h.key;
       at_primary = refl;
       at_secondary = refl;
+      queries = h.queries;
       zones = by k.zones h.zones e;
     })
   where
@@ -184,17 +199,17 @@ accept_by_version : (z : OpeningZone) (f : ZoneFile) (last : ℕ) (r : Record) �
 accept_by_version z f last r typed h = accept_is f r h.read typed ∙ ap (λ v. if is_taken v r then Some (scripts.with_record f r) else None) (sym h.version)
 
 primary_line_stands : (k : Reading) (s : scripts.Script TsigKey) (r : Record) (n : ℕ) → is_read_type r.rtype ≡ true → Stands k s → StandsAlike (take_line k n (PrimaryLine r)) (next_line s n (PrimaryLine r))
-primary_line_stands k s r n typed h = by_may_come k s n 4 (put_line k n (PrimaryLine r)) (take_from n (PrimaryLine r) (Ok s)) h (by k.zones h.zones)
+primary_line_stands k s r n typed h = by_take k s n (PrimaryLine r) (take_from n (PrimaryLine r) (Ok s)) h (by k.zones h.zones)
   where
     taken : (z : Zones) (b : Bool) → ZonesStand (Some z) s
         → StandsAlike (with_zones k 4 (and_zones (λ p. record z { primary = p }) (if b then Ok (with_record z.primary n r) else Err n)))
         (or_line n (option_map (λ f. record s { stage = 4; primary = f; last_primary = n }) (if b then Some (scripts.with_record s.primary r) else None)))
     taken z true some = record {
       stage = refl;
-      early = refl;
       key = h.key;
       at_primary = h.at_primary;
       at_secondary = h.at_secondary;
+      queries = h.queries;
       zones = (record_stands z.primary s.primary s.last_primary n r typed some.0, some.1);
     }
     taken z false some = refl
@@ -207,17 +222,17 @@ primary_line_stands k s r n typed h = by_may_come k s n 4 (put_line k n (Primary
         (sym (accept_by_version z.primary s.primary s.last_primary r typed some.0)) (taken z (is_taken z.primary.builder r) some)
 
 secondary_line_stands : (k : Reading) (s : scripts.Script TsigKey) (r : Record) (n : ℕ) → is_read_type r.rtype ≡ true → Stands k s → StandsAlike (take_line k n (SecondaryLine r)) (next_line s n (SecondaryLine r))
-secondary_line_stands k s r n typed h = by_may_come k s n 5 (put_line k n (SecondaryLine r)) (take_from n (SecondaryLine r) (Ok s)) h (by k.zones h.zones)
+secondary_line_stands k s r n typed h = by_take k s n (SecondaryLine r) (take_from n (SecondaryLine r) (Ok s)) h (by k.zones h.zones)
   where
     taken : (z : Zones) (b : Bool) → ZonesStand (Some z) s
         → StandsAlike (with_zones k 5 (and_zones (λ q. record z { secondary = q }) (if b then Ok (with_record z.secondary n r) else Err n)))
         (or_line n (option_map (λ f. record s { stage = 5; secondary = f; last_secondary = n }) (if b then Some (scripts.with_record s.secondary r) else None)))
     taken z true some = record {
       stage = refl;
-      early = refl;
       key = h.key;
       at_primary = h.at_primary;
       at_secondary = h.at_secondary;
+      queries = h.queries;
       zones = (some.0, record_stands z.secondary s.secondary s.last_secondary n r typed some.1);
     }
     taken z false some = refl
@@ -229,6 +244,63 @@ secondary_line_stands k s r n typed h = by_may_come k s n 5 (put_line k n (Secon
         subst (λ a. StandsAlike (with_zones k 5 (into_secondary (Some z) n r)) (or_line n (option_map (λ f. record s { stage = 5; secondary = f; last_secondary = n }) a)))
         (sym (accept_by_version z.secondary s.secondary s.last_secondary r typed some.1)) (taken z (is_taken z.secondary.builder r) some)
 
+-- ---- the opening zones, once their lines are behind
+
+-- both refuse at one line, or what is kept stands for what the definition goes on with
+abbrev OpensAlike : Reading → Option ℕ → Result (scripts.Script TsigKey) ℕ → Type 0
+OpensAlike k None (Ok s) = Stands k s
+OpensAlike k None (Err n) = ⊥
+OpensAlike k (Some m) (Ok s) = ⊥
+OpensAlike k (Some m) (Err n) = m ≡ n
+
+outside_is : (z : OpeningZone) (f : ZoneFile) (last : ℕ) → ZoneStands z f last → not (converts f) ≡ z.has_outside
+outside_is z f last g = ap not (converts_is f g.read) ∙ sym g.outside
+
+fault_is : (z : Zones) (s : scripts.Script TsigKey) → ZonesStand (Some z) s → opening_fault s ≡ (if z.primary.has_outside then Some s.last_primary else if z.secondary.has_outside then Some s.last_secondary else None)
+fault_is z s some i = if outside_is z.primary s.primary s.last_primary some.0 i then Some s.last_primary else if outside_is z.secondary s.secondary s.last_secondary some.1 i then Some s.last_secondary else None
+
+begins_alike : (k : Reading) (s : scripts.Script TsigKey) (z : Zones) → k.zones ≡ Some z → Stands k s → ZonesStand (Some z) s → OpensAlike k (zones_refusal (Some z)) (begun s (opening_fault s))
+begins_alike k s z e h some = subst (λ o. OpensAlike k (zones_refusal (Some z)) (begun s o)) (sym (fault_is z s some)) (by z.primary.has_outside z.secondary.has_outside refl refl)
+  where
+    by : (a b : Bool) → z.primary.has_outside ≡ a → z.secondary.has_outside ≡ b
+        → OpensAlike k (option_or (if a then Some z.primary.last_line else None) (if b then Some z.secondary.last_line else None)) (begun s (if a then Some s.last_primary else if b then Some s.last_secondary else None))
+    by true b p q = some.0.line p
+    by false true p q = some.1.line q
+    by false false p q = record { stage = h.stage; key = h.key; at_primary = h.at_primary; at_secondary = h.at_secondary; queries = h.queries; zones = subst (λ o. ZonesStand o (begin_edits s)) (sym e) some }
+
+opens_alike : (k : Reading) (s : scripts.Script TsigKey) (z : Zones) → k.zones ≡ Some z → Stands k s → OpensAlike k (refused_before k 7) (scripts.opened_before s 7)
+opens_alike k s z e h = subst (λ n. OpensAlike k (refused_before k 7) (if nat_lt n 6 then begun s (opening_fault s) else Ok s)) (sym h.stage) (by (nat_lt k.stage 6))
+  where
+    begins : OpensAlike k (zones_refusal k.zones) (begun s (opening_fault s))
+    begins = subst (λ o. OpensAlike k (zones_refusal o) (begun s (opening_fault s))) (sym e) (begins_alike k s z e h (subst (λ o. ZonesStand o s) e h.zones))
+
+    by : (b : Bool) → OpensAlike k (if b then zones_refusal k.zones else None) (if b then begun s (opening_fault s) else Ok s)
+    by true = begins
+    by false = h
+
+query_line_stands : (k : Reading) (s : scripts.Script TsigKey) (name : Name) (rtype n : ℕ) → Stands k s → StandsAlike (take_line k n (QueryLine name rtype)) (next_line s n (QueryLine name rtype))
+query_line_stands k s name rtype n h =
+    by_take k s n (QueryLine name rtype) (take_from n (QueryLine name rtype) (scripts.opened_before s 7)) h (by k.zones refl h.zones)
+  where
+    taken : (z : Zones) (o : Option ℕ) (r : Result (scripts.Script TsigKey) ℕ) → k.zones ≡ Some z → OpensAlike k o r → StandsAlike (unless o (put_line k n (QueryLine name rtype))) (take_from n (QueryLine name rtype) r)
+    taken z None (Ok t) e g =
+        let some : ZonesStand (Some z) t = subst (λ o. ZonesStand o t) e g.zones in
+        record {
+          stage = refl;
+          key = g.key;
+          at_primary = g.at_primary;
+          at_secondary = g.at_secondary;
+          queries = ap (λ q. q ++ (name, rtype) ∷ []) g.queries;
+          zones = subst (λ o. ZonesStand o (record t { stage = 7; queries = t.queries ++ (name, rtype) ∷ [] })) (sym e) some;
+        }
+    taken z None (Err m) e g = absurd g
+    taken z (Some m) (Ok t) e g = absurd g
+    taken z (Some m) (Err d) e g = g
+
+    by : (z : Option Zones) → k.zones ≡ z → ZonesStand z s → may_come k 7 ≡ true → StandsAlike (unless (refused_before k 7) (put_line k n (QueryLine name rtype))) (take_from n (QueryLine name rtype) (scripts.opened_before s 7))
+    by None e none come = absurd (first_only k s 7 h none refl come)
+    by (Some z) e some come = taken z (refused_before k 7) (scripts.opened_before s 7) e (opens_alike k s z e h)
+
 line_stands : (k : Reading) (s : scripts.Script TsigKey) (line : Line TsigKey) (n : ℕ) → IsReadLine line → Stands k s → StandsAlike (take_line k n line) (next_line s n line)
 line_stands k s (ZoneLine apex class) n typed h = zone_line_stands k s apex class n h
 line_stands k s (KeyLine key) n typed h = key_line_stands k s key n h
@@ -236,7 +308,7 @@ line_stands k s (AtLine p q) n typed h = at_line_stands k s p q n h
 line_stands k s (PrimaryLine r) n typed h = primary_line_stands k s r n typed h
 line_stands k s (SecondaryLine r) n typed h = secondary_line_stands k s r n typed h
 line_stands k s (ChangeLine change) n typed h = absurd typed
-line_stands k s (QueryLine name rtype) n typed h = absurd typed
+line_stands k s (QueryLine name rtype) n typed h = query_line_stands k s name rtype n h
 
 read_stands : (k : Reading) (s : scripts.Script TsigKey) (line : Option (Line TsigKey)) (n : ℕ) → IsReadIf line → Stands k s → StandsAlike (take_read k n line) (read_next s n line)
 read_stands k s None n typed h = refl
@@ -252,40 +324,31 @@ text_stands k s text n h = by (is_skipped text)
 -- ---- the end
 
 end_alike : (k : Reading) (s : scripts.Script TsigKey) (n : ℕ) → Stands k s → GivesAlike (finished k n) (at_end s n)
-end_alike k s n h = by_key k.zones k.key h.zones h.key
+end_alike k s n h = by_key k.zones k.key refl refl h.zones h.key
   where
-    ends : (z : Zones) (key : TsigKey) (a b : Bool) → s.key ≡ Some key → ZonesStand (Some z) s → z.primary.has_outside ≡ a → z.secondary.has_outside ≡ b
-        → GivesAlike (if a then Err z.primary.last_line else if b then Err z.secondary.last_line else Ok (record { key = key; at_primary = k.at_primary; at_secondary = k.at_secondary; primary = commit_of z.primary; secondary = commit_of z.secondary }))
-        (begun s (if a then Some s.last_primary else if b then Some s.last_secondary else None))
-    ends z key true b e some p q = some.0.line p
-    ends z key false true e some p q = some.1.line q
-    ends z key false false e some p q = record {
-      key = e;
-      at_primary = sym h.at_primary;
-      at_secondary = sym h.at_secondary;
-      primary = ap (λ v. record { number = 0; version = close v }) some.0.version;
-      secondary = ap (λ v. record { number = 0; version = close v }) some.1.version;
-    }
+    gives : (z : Zones) (key : TsigKey) (o : Option ℕ) (r : Result (scripts.Script TsigKey) ℕ) → k.zones ≡ Some z → k.key ≡ Some key → OpensAlike k o r → GivesAlike (unless o (Ok (script_with k z key))) r
+    gives z key None (Ok t) e f g =
+        let zones : ZonesStand (Some z) t = subst (λ o. ZonesStand o t) e g.zones in
+        record {
+          key = g.key ∙ f;
+          at_primary = sym g.at_primary;
+          at_secondary = sym g.at_secondary;
+          primary = ap (λ v. record { number = 0; version = close v }) zones.0.version;
+          secondary = ap (λ v. record { number = 0; version = close v }) zones.1.version;
+          queries = sym g.queries;
+        }
+    gives z key None (Err m) e f g = absurd g
+    gives z key (Some m) (Ok t) e f g = absurd g
+    gives z key (Some m) (Err d) e f g = g
 
-    outside_is : (z : OpeningZone) (f : ZoneFile) (last : ℕ) → ZoneStands z f last → not (converts f) ≡ z.has_outside
-    outside_is z f last g = ap not (converts_is f g.read) ∙ sym g.outside
+    at_key : (z : Option Zones) (key : Option TsigKey) → k.zones ≡ z → k.key ≡ key → ZonesStand z s → s.key ≡ key → GivesAlike (script_from k n z key) (if is_some key then scripts.opened_before s 7 else Err n)
+    at_key None None e f none d = refl
+    at_key None (Some key) e f none d = absurd (true≢false (ap is_some (sym d ∙ none.1)))
+    at_key (Some z) None e f some d = refl
+    at_key (Some z) (Some key) e f some d = gives z key (refused_before k 7) (scripts.opened_before s 7) e f (opens_alike k s z e h)
 
-    fault_is : (z : Zones) → ZonesStand (Some z) s → opening_fault s ≡ (if z.primary.has_outside then Some s.last_primary else if z.secondary.has_outside then Some s.last_secondary else None)
-    fault_is z some i = if outside_is z.primary s.primary s.last_primary some.0 i then Some s.last_primary else if outside_is z.secondary s.secondary s.last_secondary some.1 i then Some s.last_secondary else None
-
-    opens : (z : Zones) (key : TsigKey) → ZonesStand (Some z) s → s.key ≡ Some key → GivesAlike (script_from k n (Some z) (Some key)) (scripts.opened_before s 7)
-    opens z key some e =
-        subst (λ b. GivesAlike (script_from k n (Some z) (Some key)) (if b then begun s (opening_fault s) else Ok s)) (sym h.early)
-        (subst (λ o. GivesAlike (script_from k n (Some z) (Some key)) (begun s o)) (sym (fault_is z some)) (ends z key z.primary.has_outside z.secondary.has_outside e some refl refl))
-
-    at_key : (z : Option Zones) (key : Option TsigKey) → ZonesStand z s → s.key ≡ key → GivesAlike (script_from k n z key) (if is_some key then scripts.opened_before s 7 else Err n)
-    at_key None None none e = refl
-    at_key None (Some key) none e = absurd (true≢false (ap is_some (sym e ∙ none.1)))
-    at_key (Some z) None some e = refl
-    at_key (Some z) (Some key) some e = opens z key some e
-
-    by_key : (z : Option Zones) (key : Option TsigKey) → ZonesStand z s → s.key ≡ key → GivesAlike (script_from k n z key) (at_end s n)
-    by_key z key g e = subst (λ o. GivesAlike (script_from k n z key) (if is_some o then scripts.opened_before s 7 else Err n)) (sym e) (at_key z key g e)
+    by_key : (z : Option Zones) (key : Option TsigKey) → k.zones ≡ z → k.key ≡ key → ZonesStand z s → s.key ≡ key → GivesAlike (script_from k n z key) (at_end s n)
+    by_key z key e f g d = subst (λ o. GivesAlike (script_from k n z key) (if is_some o then scripts.opened_before s 7 else Err n)) (sym d) (at_key z key e f g d)
 
 -- ---- all lines
 
@@ -297,7 +360,7 @@ lines_alike lines n (Err d) (Ok s) h = absurd h
 lines_alike lines n (Err d) (Err e) h = h
 
 begin_stands : Stands nothing_read no_script
-begin_stands = record { stage = refl; early = refl; key = refl; at_primary = refl; at_secondary = refl; zones = (refl, refl) }
+begin_stands = record { stage = refl; key = refl; at_primary = refl; at_secondary = refl; queries = refl; zones = (refl, refl) }
 
 -- what the code reads is what the definition says
 pub script_alike : (octets : List ℕ) → GivesAlike (take_lines (Ok nothing_read) 1 (script_lines octets)) (script_of readers_so_far octets)

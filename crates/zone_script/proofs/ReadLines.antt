@@ -1,6 +1,7 @@
--- The lines that are read so far: none of a later stage, and records of the types read so far alone.
-use Rattle.std.proofs.Common.{◌≡◌, ℕ, ◌^◌, ◌==◌, Bool, true, false, ◌&&◌, nat_le, if◌then◌else◌, List, [], ◌∷◌, refl, Option, Some, None, codes, bytes_eq}
+-- The lines that are read so far: no edits, and records of the types read so far alone.
+use Rattle.std.proofs.Common.{◌≡◌, ℕ, ◌^◌, ◌==◌, Bool, true, false, ◌&&◌, nat_le, if◌then◌else◌, List, [], ◌∷◌, refl, sym, ap, subst, Option, Some, None, codes, bytes_eq}
 use Rattle.std.specs.Prelude.{option_and_then, option_map}
+use Rattle.std.proofs.lemmas.Slice.Eq.{bytes_eq-Decides}
 use Rattle.std.specs.List.{slice_split}
 use Rattle.dns_name.specs.Names.{Name}
 use Rattle.dns_rdata.specs.Records.{Record}
@@ -16,7 +17,7 @@ IsReadLine (AtLine p s) = Unit {0}
 IsReadLine (PrimaryLine r) = is_read_type r.rtype ≡ true
 IsReadLine (SecondaryLine r) = is_read_type r.rtype ≡ true
 IsReadLine (ChangeLine c) = ⊥
-IsReadLine (QueryLine name rtype) = ⊥
+IsReadLine (QueryLine name rtype) = Unit {0}
 
 abbrev pub IsReadIf : Option (Line TsigKey) → Type 0
 IsReadIf None = Unit {0}
@@ -202,20 +203,27 @@ commit_none : (fields : List (List ℕ)) → staged (no_fields (ChangeLine Commi
 commit_none [] = refl
 commit_none (x ∷ more) = refl
 
-query_none : (fields : List (List ℕ)) → staged (two_fields (query_line readers_so_far) fields) ≡ None
-query_none [] = refl
-query_none (x ∷ []) = refl
-query_none (x ∷ y ∷ []) = by (name_field readers_so_far x) (number_below (2 ^ 16) y)
-  where
-    by : (a : Option Name) (b : Option ℕ) → staged (both QueryLine a b) ≡ None
-    by None b = refl
-    by (Some n) None = refl
-    by (Some n) (Some c) = refl
-query_none (x ∷ y ∷ z ∷ more) = refl
-
-pub late_none : (word : List ℕ) (fields : List (List ℕ)) → staged (late_word word fields) ≡ None
-late_none word fields =
+pub late_none : (word : List ℕ) (fields : List (List ℕ)) → bytes_eq word (codes "query") ≡ false → staged (late_word word fields) ≡ None
+late_none word fields h =
     none_either (bytes_eq word (codes "-")) _ _ (change_none Minus fields)
     (none_either (bytes_eq word (codes "+")) _ _ (change_none Plus fields)
     (none_either (bytes_eq word (codes "commit")) _ _ (commit_none fields)
-    (none_either (bytes_eq word (codes "query")) _ _ (query_none fields) refl)))
+    (ap (λ b. staged (if b then two_fields (query_line readers_so_far) fields else None)) h)))
+
+-- questions are
+query_passes : (fields : List (List ℕ)) → staged (two_fields (query_line readers_so_far) fields) ≡ two_fields (query_line readers_so_far) fields
+query_passes [] = refl
+query_passes (x ∷ []) = refl
+query_passes (x ∷ y ∷ []) = by (name_field readers_so_far x) (number_below (2 ^ 16) y)
+  where
+    by : (a : Option Name) (b : Option ℕ) → staged (both QueryLine a b) ≡ both QueryLine a b
+    by None b = refl
+    by (Some n) None = refl
+    by (Some n) (Some c) = refl
+query_passes (x ∷ y ∷ z ∷ more) = refl
+
+pub late_query : (word : List ℕ) (fields : List (List ℕ)) → bytes_eq word (codes "query") ≡ true → staged (late_word word fields) ≡ two_fields (query_line readers_so_far) fields
+late_query word fields h = subst (λ w. staged (late_word w fields) ≡ two_fields (query_line readers_so_far) fields) (sym (bytes_eq_word word h)) (query_passes fields)
+  where
+    bytes_eq_word : (w : List ℕ) → bytes_eq w (codes "query") ≡ true → w ≡ codes "query"
+    bytes_eq_word w e = (bytes_eq-Decides w (codes "query")).0 e

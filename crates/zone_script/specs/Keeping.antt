@@ -1,5 +1,6 @@
 -- What the code keeps of a script as it reads it, and what it makes of each line.
-use Rattle.std.specs.Prelude.{◌≡◌, ℕ, ◌+◌, Bool, false, ◌&&◌, ◌||◌, not, ◌==◌, nat_le, if◌then◌else◌, List, [], ◌∷◌, Option, Some, None, is_some, Result, Ok, Err}
+use Rattle.std.specs.Prelude.{◌≡◌, ℕ, ◌+◌, Bool, false, ◌&&◌, ◌||◌, not, ◌==◌, nat_le, nat_lt, if◌then◌else◌, List, [], ◌∷◌, ◌++◌, Option, Some, None, is_some, Result, Ok, Err}
+use Rattle.std.specs.Option.{option_or}
 use Rattle.dns_name.specs.Names.{Name, under}
 use Rattle.dns_rdata.specs.Records.{Record}
 use Rattle.tsig_port.specs.Tsig.{TsigKey}
@@ -37,9 +38,13 @@ take_record z n r = if is_taken z.builder r then Ok (with_record z n r) else Err
 abbrev pub refusal : OpeningZone → Option ℕ
 refusal z = if z.has_outside then Some z.last_line else None
 
+abbrev pub zones_refusal : Option Zones → Option ℕ
+zones_refusal None = None
+zones_refusal (Some z) = option_or (refusal z.primary) (refusal z.secondary)
+
 -- nothing was read
 abbrev pub nothing_read : Reading
-nothing_read = record { stage = 0; zones = None; key = None; at_primary = 0; at_secondary = 0 }
+nothing_read = record { stage = 0; zones = None; key = None; at_primary = 0; at_secondary = 0; queries = [] }
 
 abbrev pub may_come : Reading → ℕ → Bool
 may_come k stage = nat_le k.stage stage && not (is_once stage && (k.stage == stage)) && ((stage == 1) || nat_le 1 k.stage) && (nat_le stage 2 || is_some k.key)
@@ -67,10 +72,22 @@ put_line k n (scripts.AtLine p s) = Ok (record k { stage = 3; at_primary = p; at
 put_line k n (scripts.PrimaryLine r) = with_zones k 4 (into_primary k.zones n r)
 put_line k n (scripts.SecondaryLine r) = with_zones k 5 (into_secondary k.zones n r)
 put_line k n (scripts.ChangeLine c) = Err n
-put_line k n (scripts.QueryLine name rtype) = Err n
+put_line k n (scripts.QueryLine name rtype) = Ok (record k { stage = 7; queries = k.queries ++ (name, rtype) ∷ [] })
+
+-- the line that refuses an opening zone, which is asked before the first line behind the two zones, and at the end
+abbrev pub refused_before : Reading → ℕ → Option ℕ
+refused_before k stage = if nat_le 6 stage && nat_lt k.stage 6 then zones_refusal k.zones else None
+
+abbrev pub unless : {A : Type 0} → Option ℕ → Result A ℕ → Result A ℕ
+unless None r = r
+unless (Some n) r = Err n
+
+-- the line that refuses one of a stage: its own where it may not come, else that of an opening zone
+unfoldable pub refused_at : Reading → ℕ → ℕ → Option ℕ
+refused_at k n stage = if may_come k stage then refused_before k stage else Some n
 
 abbrev pub take_line : Reading → ℕ → scripts.Line TsigKey → Result Reading ℕ
-take_line k n line = if may_come k (stage_of line) then put_line k n line else Err n
+take_line k n line = unless (refused_at k n (stage_of line)) (put_line k n line)
 
 abbrev pub take_read : Reading → ℕ → Option (scripts.Line TsigKey) → Result Reading ℕ
 take_read k n None = Err n
@@ -83,11 +100,11 @@ take_text k n text = if is_skipped text then Ok k else take_read k n (read_line 
 abbrev pub commit_of : OpeningZone → Commit
 commit_of z = record { number = 0; version = close z.builder }
 
+abbrev pub script_with : Reading → Zones → TsigKey → Script
+script_with k z key = record { key = key; at_primary = k.at_primary; at_secondary = k.at_secondary; primary = commit_of z.primary; secondary = commit_of z.secondary; queries = k.queries }
+
 abbrev pub script_from : Reading → ℕ → Option Zones → Option TsigKey → Result Script ℕ
-script_from k n (Some z) (Some key) =
-    if z.primary.has_outside then Err z.primary.last_line
-    else if z.secondary.has_outside then Err z.secondary.last_line
-    else Ok (record { key = key; at_primary = k.at_primary; at_secondary = k.at_secondary; primary = commit_of z.primary; secondary = commit_of z.secondary })
+script_from k n (Some z) (Some key) = unless (refused_before k 7) (Ok (script_with k z key))
 script_from k n _ _ = Err n
 
 abbrev pub finished : Reading → ℕ → Result Script ℕ
@@ -105,3 +122,4 @@ pub record Gives (t : scripts.Script TsigKey) (s : Script) : Type 0 where
   pub at_secondary : s.at_secondary ≡ t.at_secondary
   pub primary : s.primary ≡ record { number = 0; version = close (opened t.primary) }
   pub secondary : s.secondary ≡ record { number = 0; version = close (opened t.secondary) }
+  pub queries : s.queries ≡ t.queries

@@ -19,6 +19,7 @@ line_of (line.Key key) = scripts.KeyLine key
 line_of (line.At primary secondary) = scripts.AtLine primary secondary
 line_of (line.Primary found) = scripts.PrimaryLine found
 line_of (line.Secondary found) = scripts.SecondaryLine found
+line_of (line.Query name rtype) = scripts.QueryLine name rtype
 
 -- the fields of what is left of a line
 abbrev pub fields_in : Option (List ℕ) → List (List ℕ)

@@ -1,6 +1,8 @@
 //! The fields of a line: names, numbers, records, keys.
 ghost use Rattle.std.specs.Prelude.{◌≡◌, ◌^◌, ◌∷◌, [], ℕ, List, IfOk, IfSome, IfNone, option_map, option_and_then};
+ghost use Rattle.std.specs.Result.{result_ok};
 ghost use Rattle.dns_name.specs.Compression.{name_in};
+ghost use Rattle.tsig_port.specs.Tsig.{new_key};
 ghost use Rattle.zone_script.specs.Script as scripts;
 ghost use Rattle.zone_script.specs.ScriptReaders.{readers_so_far, record_so_far, key_of, algorithm_word, is_read_type as is_type_so_far, or_none};
 ghost use Rattle.zone_script.specs.Lines.{line_of, key_from, mac_len_field};
@@ -26,6 +28,8 @@ pub(crate) enum Line {
     Primary(StoredRecord),
     /// A record with which the secondary's zone opens.
     Secondary(StoredRecord),
+    /// A question to the secondary's zone: name and type.
+    Query(StoredName, Rtype),
 }
 
 impl Line {
@@ -39,6 +43,7 @@ impl Line {
             Line::At(_, _) => 3,
             Line::Primary(_) => 4,
             Line::Secondary(_) => 5,
+            Line::Query(_, _) => 7,
         }
     }
 }
@@ -103,7 +108,7 @@ pub(crate) fn read_line(alloc: Global, line: &[u8]) -> Result<Option<Line>, Allo
 }
 
 /// What a word says with the fields behind it.
-#[tactic(auto, using(crate::proofs::ReadLines::zone_passes, crate::proofs::ReadLines::key_passes, crate::proofs::ReadLines::at_passes, crate::proofs::ReadLines::primary_passes, crate::proofs::ReadLines::secondary_passes, crate::proofs::ReadLines::late_none))]
+#[tactic(auto, using(crate::proofs::ReadLines::zone_passes, crate::proofs::ReadLines::key_passes, crate::proofs::ReadLines::at_passes, crate::proofs::ReadLines::primary_passes, crate::proofs::ReadLines::secondary_passes, crate::proofs::ReadLines::late_query, crate::proofs::ReadLines::late_none))]
 fn read_word(
     alloc: Global,
     word: &[u8],
@@ -121,6 +126,8 @@ fn read_word(
         read_primary(alloc, fields)
     } else if word == b"s".as_slice() {
         read_secondary(alloc, fields)
+    } else if word == b"query".as_slice() {
+        read_query(alloc, fields)
     } else {
         Ok(None)
     }
@@ -185,6 +192,23 @@ fn read_secondary(alloc: Global, fields: &mut Fields<'_>) -> Result<Option<Line>
         Some(found) => Ok(Some(Line::Secondary(found))),
         None => Ok(None),
     }
+}
+
+/// `NAME TYPE`: a question, of any type.
+fn read_query(alloc: Global, fields: &mut Fields<'_>) -> Result<Option<Line>, AllocError>
+    ensures { IfOk result (λ l. option_map line_of l ≡ scripts.two_fields (scripts.query_line readers_so_far) fields.old) }
+{
+    let Some((name, rtype)) = two_fields(fields) else {
+        return Ok(None);
+    };
+    let Some(name) = name_of_hex(alloc, name)? else {
+        return Ok(None);
+    };
+    let Some(rtype) = number_below(65_536, rtype) else {
+        return Ok(None);
+    };
+    let qname = name.to_stored(alloc)?;
+    Ok(Some(Line::Query(qname, Rtype::from_int(rtype as u16))))
 }
 
 /// One record in wire form without pointers, as hexadecimal digits.
@@ -271,7 +295,7 @@ fn read_key(alloc: Global, fields: &mut Fields<'_>) -> Result<Option<Key>, Alloc
     }
 }
 
-/// The key of these parts, where both lengths lie in the bounds of the algorithm (RFC 8945, 5.2.2.1).
+/// The key of these parts, the lengths as they are written (RFC 8945, 5.2.2.1).
 #[tactic(auto, using(crate::proofs::KeyFields::signing_too_long, crate::proofs::KeyFields::least_too_long))]
 fn key_of_parts(
     algorithm: Algorithm,
@@ -284,6 +308,19 @@ fn key_of_parts(
 {
     let signing = read_mac_len(signing)?;
     let least = read_mac_len(least)?;
+    key_of_lens(algorithm, secret, name, signing, least)
+}
+
+/// The key of these parts, where both lengths lie in the bounds of the algorithm.
+fn key_of_lens(
+    algorithm: Algorithm,
+    secret: &[u8],
+    name: KeyName,
+    signing: Option<usize>,
+    least: Option<usize>,
+) -> Option<Key>
+    ensures { result ≡ result_ok (new_key algorithm secret.now name least signing) }
+{
     Key::new(algorithm, secret, name, least, signing).ok()
 }
 

@@ -1,10 +1,11 @@
-//! What the program reads: its words, and its script of lines, numbers, names, records and a key (docs/SCRIPT.md).
+//! What the program reads: its words, and its script of lines, numbers, names, records, a key and questions (docs/SCRIPT.md).
 #![tactic(auto)]
 
 mod fields;
 mod lines;
 pub mod numbers;
 mod opening;
+pub mod queries;
 mod reading;
 pub mod script;
 pub mod words;

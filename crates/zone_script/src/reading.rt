@@ -7,6 +7,7 @@ ghost use Rattle.zone_script.specs.Causes.{line_in};
 
 use crate::fields::{Line, read_line};
 use crate::opening::OpeningZone;
+use crate::queries::Queries;
 use crate::script::{Script, ScriptError};
 use dns_name::{Class, StoredName};
 use dns_rdata::StoredRecord;
@@ -31,6 +32,16 @@ impl Zones {
             secondary: OpeningZone::new(alloc, apex, class),
         })
     }
+
+    /// The line that refuses one of them, where an owner is outside; the primary's before the secondary's.
+    fn refusal(&self) -> Option<u64>
+        ensures { result ≡ keeping.zones_refusal (Some self.now) }
+    {
+        match self.primary.refusal() {
+            Some(line) => Some(line),
+            None => self.secondary.refusal(),
+        }
+    }
 }
 
 /// A script as far as it was read.
@@ -41,11 +52,12 @@ pub(crate) struct Reading {
     key: Option<Key>,
     at_primary: Time48,
     at_secondary: Time48,
+    queries: Queries,
 }
 
 impl Reading {
     /// Nothing was read.
-    pub(crate) fn new() -> Reading
+    pub(crate) fn new(alloc: Global) -> Reading
         ensures { result ≡ keeping.nothing_read }
     {
         Reading {
@@ -54,6 +66,7 @@ impl Reading {
             key: None,
             at_primary: Time48::from_u64(0),
             at_secondary: Time48::from_u64(0),
+            queries: Queries::new(alloc),
         }
     }
 
@@ -81,10 +94,30 @@ impl Reading {
         ensures ok { OnOk result (keeping.take_line self.old number (line_of line) ≡ Ok self.new) }
         ensures bad { IfErr result (λ e. IfSome (line_in e) (λ n. keeping.take_line self.old number (line_of line) ≡ Err n)) }
     {
-        let stage = line.stage();
-        if !self.may_come(stage) {
-            return Err(ScriptError::Line(number));
+        if let Some(refused) = self.refused_at(number, line.stage()) {
+            return Err(ScriptError::Line(refused));
         }
+        self.put(alloc, number, line)
+    }
+
+    /// The line that refuses one of a stage at this number: its own where it may not come, else that of an opening zone.
+    #[tactic(auto, unfolding(crate::specs::Keeping::refused_at))]
+    fn refused_at(&self, number: u64, stage: u8) -> Option<u64>
+        ensures { result ≡ keeping.refused_at self.now number stage }
+    {
+        if self.may_come(stage) {
+            self.refused_before(stage)
+        } else {
+            Some(number)
+        }
+    }
+
+    /// Puts a line to what was read.
+    fn put(&mut self, alloc: Global, number: u64, line: Line) -> Result<(), ScriptError>
+        ensures ok { OnOk result (keeping.put_line self.old number (line_of line) ≡ Ok self.new) }
+        ensures bad { IfErr result (λ e. IfSome (line_in e) (λ n. keeping.put_line self.old number (line_of line) ≡ Err n)) }
+    {
+        let stage = line.stage();
         match line {
             Line::Zone(apex, class) => self.zones = Some(Zones::new(alloc, apex, class)?),
             Line::Key(key) => self.key = Some(key),
@@ -94,6 +127,7 @@ impl Reading {
             }
             Line::Primary(found) => put_primary(&mut self.zones, found, number)?,
             Line::Secondary(found) => put_secondary(&mut self.zones, found, number)?,
+            Line::Query(qname, qtype) => self.queries.push(qname, qtype)?,
         }
         self.stage = stage;
         Ok(())
@@ -109,18 +143,29 @@ impl Reading {
             && (stage <= 2 || self.key.is_some())
     }
 
+    /// The line that refuses an opening zone, asked before a line of a stage: at the first one behind the zones, where their lines are all there.
+    fn refused_before(&self, stage: u8) -> Option<u64>
+        ensures { result ≡ keeping.refused_before self.now stage }
+    {
+        if stage < 6 || self.stage >= 6 {
+            return None;
+        }
+        match &self.zones {
+            Some(zones) => zones.refusal(),
+            None => None,
+        }
+    }
+
     /// What the script says, where it ends before the line of this number.
     pub(crate) fn finish(self, number: u64) -> Result<Script, ScriptError>
         ensures ok { IfOk result (λ s. keeping.finished self number ≡ Ok s) }
         ensures bad { IfErr result (λ e. IfSome (line_in e) (λ n. keeping.finished self number ≡ Err n)) }
     {
+        let refused = self.refused_before(7);
         let (Some(zones), Some(key)) = (self.zones, self.key) else {
             return Err(ScriptError::Line(number));
         };
-        if let Some(line) = zones.primary.refusal() {
-            return Err(ScriptError::Line(line));
-        }
-        if let Some(line) = zones.secondary.refusal() {
+        if let Some(line) = refused {
             return Err(ScriptError::Line(line));
         }
         Ok(Script {
@@ -129,6 +174,7 @@ impl Reading {
             at_secondary: self.at_secondary,
             primary: zones.primary.build()?,
             secondary: zones.secondary.build()?,
+            queries: self.queries,
         })
     }
 }

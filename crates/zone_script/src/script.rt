@@ -1,4 +1,4 @@
-//! Scripts: a primary's and a secondary's zone, and the key that both sides share.
+//! Scripts: a primary's and a secondary's zone, the key that both sides share, and questions.
 ghost use Rattle.std.specs.Prelude.{◌≡◌, ◌⊎◌, ℕ, Ok, Err, IfOk, IfErr, IfSome};
 ghost use Rattle.tsig_port.specs.Tsig.{TsigKey};
 ghost use Rattle.zone_script.specs.Script as scripts;
@@ -7,6 +7,7 @@ ghost use Rattle.zone_script.specs.Keeping.{Gives};
 ghost use Rattle.zone_script.specs.Causes.{line_in};
 
 use crate::lines::next_line;
+use crate::queries::Queries;
 use crate::reading::Reading;
 use std::alloc::{AllocError, Global};
 use thiserror::Error;
@@ -26,6 +27,8 @@ pub struct Script {
     pub primary: ZoneApex,
     /// The secondary's zone, of the same apex and class.
     pub secondary: ZoneApex,
+    /// The questions to the secondary's zone after the transfer.
+    pub queries: Queries,
 }
 
 /// Why a script isn't taken.
@@ -58,7 +61,7 @@ pub fn parse(alloc: Global, text: &[u8]) -> Result<Script, ScriptError>
     ensures bad { IfErr result (λ e. IfSome (line_in e) (λ n. scripts.script_of readers_so_far text.now ≡ Err n)) }
     ensures only_bad { (n : ℕ) → scripts.script_of readers_so_far text.now ≡ Err n → (result ≡ Err (ScriptError.Line n)) ⊎ (result ≡ Err ScriptError.Memory) }
 {
-    let mut reading = Reading::new();
+    let mut reading = Reading::new(alloc);
     let mut rest = text;
     let mut number = 1u64;
     'lines: while let Some((line, behind)) = next_line(rest) {

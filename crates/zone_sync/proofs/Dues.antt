@@ -1,6 +1,7 @@
 -- What a sink takes is due, from what the parts of a run ensure.
 use Rattle.std.specs.Prelude.{◌≡◌, ◌≢◌, ℕ, List, [], ◌++◌, take, Bool, true, false, Option, Some, None, IfSome, Ok, Err, IsTrue}
 use Rattle.std.proofs.Common.{refl, sym, ap, ◌∙◌, subst, append-nil}
+use Rattle.dns_name.specs.Names.{Name}
 use Rattle.tsig_port.specs.Tsig.{TsigKey}
 use Rattle.zone_transfer.specs.Links.{LinkLists}
 use Rattle.zone_transfer.specs.SoFar.{Asking}
@@ -14,7 +15,7 @@ use Rattle.zone_sync.specs.Streams.{with_more}
 use Rattle.xfr_server.specs.Items.{Sending}
 use Rattle.zone_model.specs.Commits.{Commit}
 use Rattle.zone_model.specs.Offer.{Provider}
-use Rattle.zone_sync.specs.Reported.{Reports, Ran, IsDue, Took, TookFirst, asking_with, provider_of, primary_version}
+use Rattle.zone_sync.specs.Reported.{Reports, Ran, IsDue, Took, TookFirst, asking_with, asking_in, provider_of, primary_version}
 use Rattle.zone_sync.specs.declared.program.Status.{Status}
 use Rattle.zone_sync.specs.declared.program.Status.TheVariants as ends
 use Rattle.zone_sync.proofs.ReportLaw.{ends_reported}
@@ -23,11 +24,11 @@ use Rattle.zone_sync.proofs.ReportLaw.{ends_reported}
 not_sink : (s : Status) → IsTrue (is_reported s) → s ≢ ends.SinkFault
 not_sink s h e = let clash : false ≡ true = ap is_reported (sym e) ∙ h in absurd cc
 
-pub report_taken : (Sends : List ℕ → Option (List Sending) → Type 0) (a : Asking) (at longest : ℕ) (old new : Option LinkLists) (f g : ℕ) (octets shown : List ℕ) (status s : Status) (taken_old taken_new : Option (List ℕ)) → Reports Sends a at longest old new f g octets status → shown ≡ octets
-    → (s ≢ ends.SinkFault → s ≡ status) → (s ≢ ends.SinkFault → taken_new ≡ with_more shown taken_old) → IsTrue (is_reported s) → Took (λ o. Reports Sends a at longest old new f g o s) taken_old taken_new
-report_taken Sends a at longest old new f g octets shown status s taken_old taken_new r same done written h = record {
+pub report_taken : (Sends : List ℕ → Option (List Sending) → Type 0) (a : Asking) (at longest : ℕ) (queries : List (Name × ℕ)) (old new : Option LinkLists) (f g : ℕ) (octets shown : List ℕ) (status s : Status) (taken_old taken_new : Option (List ℕ)) → Reports Sends a at longest queries old new f g octets status → shown ≡ octets
+    → (s ≢ ends.SinkFault → s ≡ status) → (s ≢ ends.SinkFault → taken_new ≡ with_more shown taken_old) → IsTrue (is_reported s) → Took (λ o. Reports Sends a at longest queries old new f g o s) taken_old taken_new
+report_taken Sends a at longest queries old new f g octets shown status s taken_old taken_new r same done written h = record {
   octets = octets;
-  due = subst (λ t. Reports Sends a at longest old new f g octets t) (sym (done (not_sink s h))) r;
+  due = subst (λ t. Reports Sends a at longest queries old new f g octets t) (sym (done (not_sink s h))) r;
   taken = written (not_sink s h) ∙ ap (λ o. with_more o taken_old) same;
 }
 
@@ -41,17 +42,18 @@ with_nothing (Some xs) = ap Some (sym (append-nil xs))
 
 -- the report of a transfer that was asked as the script says
 ran_so : (SendsOf : Provider → TsigKey → ℕ → List ℕ → Option (List Sending) → Type 0) (text : List ℕ) (longest : ℕ) (old new : Option LinkLists) (f g : ℕ) (octets : List ℕ) (s : Status) (k : Script) → Spelt text k
-    → Reports (SendsOf (provider_of k.primary.version k.key) k.key k.at_primary) (asking_with k.key k.at_secondary k.secondary) k.at_primary longest old new f g octets s → Ran SendsOf (Some text) longest old new f g octets s
+    → Reports (SendsOf (provider_of k.primary.version k.key) k.key k.at_primary) (asking_with k.key k.at_secondary k.secondary) k.at_primary longest k.queries old new f g octets s → Ran SendsOf (Some text) longest old new f g octets s
 ran_so SendsOf text longest old new f g octets s k (t, spells, gives) r =
-    let at = subst (λ (n : ℕ). Reports (SendsOf (provider_of k.primary.version k.key) k.key n) (asking_with k.key k.at_secondary k.secondary) n longest old new f g octets s) gives.at_primary r in
-    let zone = subst (λ (z : Commit). Reports (SendsOf (provider_of z.version k.key) k.key t.at_primary) (asking_with k.key k.at_secondary k.secondary) t.at_primary longest old new f g octets s) gives.primary at in
-    let later = subst (λ (n : ℕ). Reports (SendsOf (provider_of (primary_version t) k.key) k.key t.at_primary) (asking_with k.key n k.secondary) t.at_primary longest old new f g octets s) gives.at_secondary zone in
-    let own = subst (λ (z : Commit). Reports (SendsOf (provider_of (primary_version t) k.key) k.key t.at_primary) (asking_with k.key t.at_secondary z) t.at_primary longest old new f g octets s) gives.secondary later in
-    record { text = text; whole = refl; script = t; spells = spells; key = k.key; keyed = gives.key; reports = own }
+    let at = subst (λ (n : ℕ). Reports (SendsOf (provider_of k.primary.version k.key) k.key n) (asking_with k.key k.at_secondary k.secondary) n longest k.queries old new f g octets s) gives.at_primary r in
+    let zone = subst (λ (z : Commit). Reports (SendsOf (provider_of z.version k.key) k.key t.at_primary) (asking_with k.key k.at_secondary k.secondary) t.at_primary longest k.queries old new f g octets s) gives.primary at in
+    let later = subst (λ (n : ℕ). Reports (SendsOf (provider_of (primary_version t) k.key) k.key t.at_primary) (asking_with k.key n k.secondary) t.at_primary longest k.queries old new f g octets s) gives.at_secondary zone in
+    let own = subst (λ (z : Commit). Reports (SendsOf (provider_of (primary_version t) k.key) k.key t.at_primary) (asking_with k.key t.at_secondary z) t.at_primary longest k.queries old new f g octets s) gives.secondary later in
+    let asked = subst (λ (q : List (Name × ℕ)). Reports (SendsOf (provider_of (primary_version t) k.key) k.key t.at_primary) (asking_in t k.key) t.at_primary longest q old new f g octets s) gives.queries own in
+    record { text = text; whole = refl; script = t; spells = spells; key = k.key; keyed = gives.key; reports = asked }
 
 pub due_of_report : (SendsOf : Provider → TsigKey → ℕ → List ℕ → Option (List Sending) → Type 0) (text : List ℕ) (longest : ℕ) (old new : Option LinkLists) (f g : ℕ) (octets : List ℕ) (s : Status) (k : Script) → Spelt text k
-    → Reports (SendsOf (provider_of k.primary.version k.key) k.key k.at_primary) (asking_with k.key k.at_secondary k.secondary) k.at_primary longest old new f g octets s → IsDue SendsOf (Some text) longest old new f g octets s
-due_of_report SendsOf text longest old new f g octets s k spelt r = by s (ends_reported _ _ _ longest old new f g octets s r) (ran_so SendsOf text longest old new f g octets s k spelt r)
+    → Reports (SendsOf (provider_of k.primary.version k.key) k.key k.at_primary) (asking_with k.key k.at_secondary k.secondary) k.at_primary longest k.queries old new f g octets s → IsDue SendsOf (Some text) longest old new f g octets s
+due_of_report SendsOf text longest old new f g octets s k spelt r = by s (ends_reported _ _ _ longest _ old new f g octets s r) (ran_so SendsOf text longest old new f g octets s k spelt r)
   where
     by : (s : Status) → IsTrue (is_reported s) → Ran SendsOf (Some text) longest old new f g octets s → IsDue SendsOf (Some text) longest old new f g octets s
     by ends.Done h r = r
@@ -65,21 +67,21 @@ due_of_report SendsOf text longest old new f g octets s k spelt r = by s (ends_r
     by ends.TooLong h r = cc
 
 pub first_due_of_report : (SendsOf : Provider → TsigKey → ℕ → List ℕ → Option (List Sending) → Type 0) (text : List ℕ) (longest : ℕ) (old new : Option LinkLists) (f g : ℕ) (taken_old taken_new : Option (List ℕ)) (k : Script) → Spelt text k
-    → TookFirst (Reports (SendsOf (provider_of k.primary.version k.key) k.key k.at_primary) (asking_with k.key k.at_secondary k.secondary) k.at_primary longest old new f g) taken_old taken_new → TookFirst (IsDue SendsOf (Some text) longest old new f g) taken_old taken_new
+    → TookFirst (Reports (SendsOf (provider_of k.primary.version k.key) k.key k.at_primary) (asking_with k.key k.at_secondary k.secondary) k.at_primary longest k.queries old new f g) taken_old taken_new → TookFirst (IsDue SendsOf (Some text) longest old new f g) taken_old taken_new
 first_due_of_report SendsOf text longest old new f g taken_old taken_new k spelt t =
     record { octets = t.octets; status = t.status; count = t.count; due = due_of_report SendsOf text longest old new f g t.octets t.status k spelt t.due; taken = t.taken }
 
 pub written_of_transfer : (SendsOf : Provider → TsigKey → ℕ → List ℕ → Option (List Sending) → Type 0) (text : List ℕ) (longest : ℕ) (old new : Option LinkLists) (f g : ℕ) (taken_old taken_new : Option (List ℕ)) (s : Status) (k : Script) → Spelt text k
-    → (IsTrue (is_reported s) → Took (λ octets. Reports (SendsOf (provider_of k.primary.version k.key) k.key k.at_primary) (asking_with k.key k.at_secondary k.secondary) k.at_primary longest old new f g octets s) taken_old taken_new)
+    → (IsTrue (is_reported s) → Took (λ octets. Reports (SendsOf (provider_of k.primary.version k.key) k.key k.at_primary) (asking_with k.key k.at_secondary k.secondary) k.at_primary longest k.queries old new f g octets s) taken_old taken_new)
     → (s ≡ ends.Memory → taken_new ≡ taken_old) → (s ≢ ends.Usage) × (s ≢ ends.SourceFault) × (s ≢ ends.TooLong) × (s ≢ ends.Script) → s ≢ ends.SinkFault
     → Took (λ octets. IsDue SendsOf (Some text) longest old new f g octets s) taken_old taken_new
 written_of_transfer SendsOf text longest old new f g taken_old taken_new s k spelt reported nothing others no_sink = by s reported nothing others no_sink
   where
-    as_due : (s : Status) → Took (λ octets. Reports (SendsOf (provider_of k.primary.version k.key) k.key k.at_primary) (asking_with k.key k.at_secondary k.secondary) k.at_primary longest old new f g octets s) taken_old taken_new
+    as_due : (s : Status) → Took (λ octets. Reports (SendsOf (provider_of k.primary.version k.key) k.key k.at_primary) (asking_with k.key k.at_secondary k.secondary) k.at_primary longest k.queries old new f g octets s) taken_old taken_new
         → Took (λ octets. IsDue SendsOf (Some text) longest old new f g octets s) taken_old taken_new
     as_due s t = record { octets = t.octets; due = due_of_report SendsOf text longest old new f g t.octets s k spelt t.due; taken = t.taken }
 
-    by : (s : Status) → (IsTrue (is_reported s) → Took (λ octets. Reports (SendsOf (provider_of k.primary.version k.key) k.key k.at_primary) (asking_with k.key k.at_secondary k.secondary) k.at_primary longest old new f g octets s) taken_old taken_new)
+    by : (s : Status) → (IsTrue (is_reported s) → Took (λ octets. Reports (SendsOf (provider_of k.primary.version k.key) k.key k.at_primary) (asking_with k.key k.at_secondary k.secondary) k.at_primary longest k.queries old new f g octets s) taken_old taken_new)
         → (s ≡ ends.Memory → taken_new ≡ taken_old) → (s ≢ ends.Usage) × (s ≢ ends.SourceFault) × (s ≢ ends.TooLong) × (s ≢ ends.Script) → s ≢ ends.SinkFault
         → Took (λ octets. IsDue SendsOf (Some text) longest old new f g octets s) taken_old taken_new
     by ends.Done reported nothing others no_sink = as_due ends.Done (reported refl)

@@ -1,6 +1,7 @@
 -- The report of a transfer, from what its parts ensure.
 use Rattle.std.specs.Prelude.{◌≡◌, ◌≢◌, ◌<◌, ℕ, List, [], length, Option, Some, None, Result, Ok, Err, IsSomeAnd, IsTrue}
 use Rattle.std.proofs.Common.{refl, sym, ap, ◌∙◌, subst, arith}
+use Rattle.dns_name.specs.Names.{Name}
 use Rattle.dns_rdata.specs.Records.{record_wire}
 use Rattle.tsig_port.specs.Tsig.{TsigKey}
 use Rattle.zone_model.specs.Commits.{Commit}
@@ -22,8 +23,8 @@ use Rattle.zone_sync.specs.declared.program.Status.{Status}
 use Rattle.zone_sync.specs.declared.program.Status.TheVariants.{LinkFault}
 
 -- a status that comes with a report
-pub ends_reported : (Sends : List ℕ → Option (List Sending) → Type 0) (a : Asking) (at longest : ℕ) (old new : Option LinkLists) (f g : ℕ) (octets : List ℕ) (status : Status) → Reports Sends a at longest old new f g octets status → IsTrue (is_reported status)
-ends_reported Sends a at longest old new f g octets status r = subst (λ s. IsTrue (is_reported s)) (sym r.ended) (by r.answer r.names)
+pub ends_reported : (Sends : List ℕ → Option (List Sending) → Type 0) (a : Asking) (at longest : ℕ) (queries : List (Name × ℕ)) (old new : Option LinkLists) (f g : ℕ) (octets : List ℕ) (status : Status) → Reports Sends a at longest queries old new f g octets status → IsTrue (is_reported status)
+ends_reported Sends a at longest queries old new f g octets status r = subst (λ s. IsTrue (is_reported s)) (sym r.ended) (by r.answer r.names)
   where
     by : (answer : Result SyncOk SyncError) → outcome_of answer ≡ Some r.how → IsTrue (is_reported (status_by answer))
     by (Ok done) h = refl
@@ -63,12 +64,12 @@ module _ (Sends : List ℕ → Option (List Sending) → Type 0) (at longest : �
       (subst (λ had. Synchronizes Sends (asking_with key now opened) at longest old new f g had handles s answer) none says)
 
   -- what was made of an answer is its report
-  pub reports_so : (a : Asking) (handles : List Commit) (s : Session) (answer : Result SyncOk SyncError) (octets : List ℕ) (n : ℕ) (last : Commit) (status : Status)
-      → Synchronizes Sends a at longest old new f g [] handles s answer → n ≡ length handles → last ≡ s.current → status ≡ status_by answer
-      → IsSomeAnd (outcome_of answer) (λ how. octets ≡ report record_wire how n last.version [] []) → Reports Sends a at longest old new f g octets status
-  reports_so a handles s answer octets n last status says counted current ends named = by (outcome_of answer) refl named
+  pub reports_so : (a : Asking) (asked queries : List (Name × ℕ)) (handles : List Commit) (s : Session) (answer : Result SyncOk SyncError) (octets : List ℕ) (n : ℕ) (last : Commit) (status : Status)
+      → Synchronizes Sends a at longest old new f g [] handles s answer → n ≡ length handles → last ≡ s.current → status ≡ status_by answer → asked ≡ queries
+      → IsSomeAnd (outcome_of answer) (λ how. octets ≡ report record_wire how n last.version asked []) → Reports Sends a at longest queries old new f g octets status
+  reports_so a asked queries handles s answer octets n last status says counted current ends same named = by (outcome_of answer) refl named
     where
-      by : (o : Option Outcome) → outcome_of answer ≡ o → IsSomeAnd o (λ how. octets ≡ report record_wire how n last.version [] []) → Reports Sends a at longest old new f g octets status
+      by : (o : Option Outcome) → outcome_of answer ≡ o → IsSomeAnd o (λ how. octets ≡ report record_wire how n last.version asked []) → Reports Sends a at longest queries old new f g octets status
       by (Some how) e is = record {
         answer = answer;
         handles = handles;
@@ -77,6 +78,6 @@ module _ (Sends : List ℕ → Option (List Sending) → Type 0) (at longest : �
         ended = ends;
         how = how;
         names = e;
-        is = is ∙ ap (λ m. report record_wire how m last.version [] []) counted ∙ ap (λ z. report record_wire how (length handles) z.version [] []) current;
+        is = is ∙ ap (λ m. report record_wire how m last.version queries []) counted ∙ ap (λ z. report record_wire how (length handles) z.version [] []) current;
       }
       by None e is = absurd is

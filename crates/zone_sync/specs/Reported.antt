@@ -1,5 +1,6 @@
 -- What a run of the program writes: the report of the transfer that a script asks for, the number of a bad line, or a notice.
 use Rattle.std.specs.Prelude.{◌≡◌, ℕ, List, [], length, take, Option, Some, IfSome, Result, Ok, Err, ◌≤◌, ◌∷◌, min, false}
+use Rattle.dns_name.specs.Names.{Name}
 use Rattle.dns_rdata.specs.Records.{record_wire}
 use Rattle.tsig_port.specs.Tsig.{TsigKey}
 use Rattle.zone_model.specs.Commits.{Commit}
@@ -39,8 +40,8 @@ status_by (Err _) = ends.Refused
 abbrev pub asking_with : TsigKey → ℕ → Commit → Asking
 asking_with key at base = record { key = key; mode = Axfr; at = at; base = base }
 
--- a transfer was answered so that it ends with that status, and octets are its report: outcome, count of versions made, and the records of the last one
-pub record Reports (Sends : List ℕ → Option (List Sending) → Type 0) (a : Asking) (at longest : ℕ) (old new : Option LinkLists) (faults_old faults_new : ℕ) (octets : List ℕ) (status : Status) : Type 0 where
+-- a transfer was answered so that it ends with that status, and octets are its report: outcome, count of versions made, the records of the last one, and what it answers to the questions
+pub record Reports (Sends : List ℕ → Option (List Sending) → Type 0) (a : Asking) (at longest : ℕ) (queries : List (Name × ℕ)) (old new : Option LinkLists) (faults_old faults_new : ℕ) (octets : List ℕ) (status : Status) : Type 0 where
   pub answer : Result SyncOk SyncError
   pub handles : List Commit
   pub session : Session
@@ -48,7 +49,7 @@ pub record Reports (Sends : List ℕ → Option (List Sending) → Type 0) (a : 
   pub ended : status ≡ status_by answer
   pub how : Outcome
   pub names : outcome_of answer ≡ Some how
-  pub is : octets ≡ report record_wire how (length handles) session.current.version [] []
+  pub is : octets ≡ report record_wire how (length handles) session.current.version queries []
 
 -- the primary of a script: it keeps this version, without differences, and grants it to the key
 abbrev pub provider_of : Version → TsigKey → Provider
@@ -69,7 +70,7 @@ pub record Ran (SendsOf : Provider → TsigKey → ℕ → List ℕ → Option (
   pub spells : script_of readers_so_far text ≡ Ok script
   pub key : TsigKey
   pub keyed : script.key ≡ Some key
-  pub reports : Reports (SendsOf (provider_of (primary_version script) key) key script.at_primary) (asking_in script key) script.at_primary longest old new faults_old faults_new octets status
+  pub reports : Reports (SendsOf (provider_of (primary_version script) key) key script.at_primary) (asking_in script key) script.at_primary longest script.queries old new faults_old faults_new octets status
 
 -- a script whose zones, key and moments fit each other, and whose request fits the link
 pub record FitsLink (script : Script TsigKey) (key : TsigKey) (longest : ℕ) : Type 0 where

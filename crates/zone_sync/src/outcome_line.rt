@@ -133,7 +133,7 @@ fn append_update(out: &mut Vec<u8>, why: update::Error) -> Result<(), AllocError
 }
 
 /// A number in decimal digits at the end of `out`.
-fn append_number(alloc: Global, out: &mut Vec<u8>, number: u64) -> Result<(), AllocError>
+pub(crate) fn append_number(alloc: Global, out: &mut Vec<u8>, number: u64) -> Result<(), AllocError>
     ensures { OnOk result (out.new.items ≡ out.old.items ++ decimal number) }
 {
     let text = format!(in alloc; "{number}")?;

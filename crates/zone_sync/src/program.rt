@@ -203,10 +203,10 @@ fn run_transfer<K: Sink, L: Link>(
     ensures link_fails { L.faults link.old < L.faults link.new → (result ≡ Status.LinkFault) ⊎ ((result ≡ Status.SinkFault) ⊎ (result ≡ Status.Memory)) }
     ensures written { IsTrue (is_reported result)
         → Took (λ octets. Reports (λ m. ⟦<Primary as Service<()>>⟧.Sends ((refuser, provider_of script.primary.version script.key), script.key) (request_at m script.at_primary))
-        (asking_with script.key script.at_secondary script.secondary) script.at_primary (L.longest link.old) (L.lists link.old) (L.lists link.new) (L.faults link.old) (L.faults link.new) octets result) (K.taken out.old) (K.taken out.new) }
+        (asking_with script.key script.at_secondary script.secondary) script.at_primary (L.longest link.old) script.queries (L.lists link.old) (L.lists link.new) (L.faults link.old) (L.faults link.new) octets result) (K.taken out.old) (K.taken out.new) }
     ensures part { result ≡ Status.SinkFault
         → TookFirst (Reports (λ m. ⟦<Primary as Service<()>>⟧.Sends ((refuser, provider_of script.primary.version script.key), script.key) (request_at m script.at_primary))
-        (asking_with script.key script.at_secondary script.secondary) script.at_primary (L.longest link.old) (L.lists link.old) (L.lists link.new) (L.faults link.old) (L.faults link.new)) (K.taken out.old) (K.taken out.new) }
+        (asking_with script.key script.at_secondary script.secondary) script.at_primary (L.longest link.old) script.queries (L.lists link.old) (L.lists link.new) (L.faults link.old) (L.faults link.new)) (K.taken out.old) (K.taken out.new) }
     ensures nothing { result ≡ Status.Memory → K.taken out.new ≡ K.taken out.old }
     ensures steady { result ≢ Status.SinkFault → K.faults out.new ≡ K.faults out.old }
     ensures others { (result ≢ Status.Usage) × (result ≢ Status.SourceFault) × (result ≢ Status.TooLong) × (result ≢ Status.Script) }
@@ -237,7 +237,7 @@ fn transfer<L: Link>(
     link: &mut L,
 ) -> Result<(Vec<u8>, Status), AllocError>
     ensures report { IfOk result (λ r. Reports (λ m. ⟦<Primary as Service<()>>⟧.Sends ((refuser, provider_of script.primary.version script.key), script.key) (request_at m script.at_primary))
-        (asking_with script.key script.at_secondary script.secondary) script.at_primary (L.longest link.old) (L.lists link.old) (L.lists link.new) (L.faults link.old) (L.faults link.new) r.0.items r.1) }
+        (asking_with script.key script.at_secondary script.secondary) script.at_primary (L.longest link.old) script.queries (L.lists link.old) (L.lists link.new) (L.faults link.old) (L.faults link.new) r.0.items r.1) }
     ensures link_fault { IfOk result (λ r. r.1 ≡ Status.LinkFault → Rose (L.faults link.old) (L.faults link.new)) }
     ensures link_fails { IfOk result (λ r. L.faults link.old < L.faults link.new → r.1 ≡ Status.LinkFault) }
     ensures others { IfOk result (λ r. IsTrue (is_reported r.1)) }
@@ -264,6 +264,7 @@ fn transfer<L: Link>(
     if outcome == Err(SyncError::Memory) {
         return Err(AllocError);
     }
-    let report = report_octets(alloc, &outcome, made.len(), &zone)?;
+    let queries = script.queries.as_slice();
+    let report = report_octets(alloc, &outcome, made.len(), &zone, queries)?;
     Ok((report, status_of(&outcome)))
 }

@@ -7,26 +7,31 @@ ghost use Rattle.zone_sync.specs.Report.{stop_lines, report};
 ghost use Rattle.zone_transfer.specs.Ending.{outcome_of};
 ghost use Rattle.zone_sync.specs.Lines.{set_record, item_line};
 
+use crate::answers::append_answers;
 use crate::outcome_line::append_outcome;
 use dns_name::{Class, Labelled};
 use dns_rdata::{RecordData, StoredRecordData};
 use std::alloc::{AllocError, Global};
+use zone_script::queries::Query;
 use zone_store::{ReadZone, WalkItem};
 use zone_transfer::outcome::{SyncError, SyncOk};
 
 /// The report of a transfer: the outcome line, with the number of versions made where it ended well, and a line `rr F HEX` for
-/// each record of a version, owners in canonical order, types ascending; F is 1 at or below a zone cut.
+/// each record of a version, owners in canonical order, types ascending; F is 1 at or below a zone cut. Then what the version answers to the
+/// questions.
 pub fn report_octets(
     alloc: Global,
     outcome: &Result<SyncOk, SyncError>,
     made: usize,
     zone: &ReadZone,
+    queries: &[Query],
 ) -> Result<Vec<u8>, AllocError>
-    ensures { IfOk result (λ v. IsSomeAnd (outcome_of outcome.now) (λ how. v.items ≡ report record_wire how made zone.now.version [] [])) }
+    ensures { IfOk result (λ v. IsSomeAnd (outcome_of outcome.now) (λ how. v.items ≡ report record_wire how made zone.now.version queries.now [])) }
 {
     let mut out = Vec::new(alloc);
     append_outcome(alloc, &mut out, outcome, made)?;
     append_walk(alloc, &mut out, zone)?;
+    append_answers(alloc, &mut out, zone, queries)?;
     Ok(out)
 }
 

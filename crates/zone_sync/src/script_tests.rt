@@ -10,7 +10,7 @@ use zone_transfer::loop_link::LoopLink;
 const ZONE: &str = "zone 076578616d706c6500 1\n";
 
 /// The zone line and the key line.
-const HEAD: &str = "zone 076578616d706c6500 1\nkey 036b657900 hmac-sha256 000102 - -\n";
+pub(crate) const HEAD: &str = "zone 076578616d706c6500 1\nkey 036b657900 hmac-sha256 000102 - -\n";
 
 // Scripts that are refused, with `|` between them. Each has the line at which it is refused; then `zone` where the zone line comes first, or `both`
 // where that and the key line do; then the script, or what comes behind these lines.
@@ -30,7 +30,6 @@ const WORDS: &str = "\
 2;zone; \n|\
 2;zone; # a comment\n|\
 3;both;commit\n|\
-3;both;query 076578616d706c6500 1\n|\
 3;both;p\n|\
 3;both;p \n|\
 3;both;s\n|\
@@ -231,7 +230,7 @@ rr 0 012a017a076578616d706c65000001000100000e100004c0000208\n\
 rr 0 01c8017a076578616d706c65000001000100000e100004c0000209\n";
 
 /// Asserts what a script of two parts is answered.
-fn answers<R: Abort>(
+pub(crate) fn answers<R: Abort>(
     rt: &R,
     alloc: Global,
     first: &str,
@@ -249,7 +248,7 @@ fn answers<R: Abort>(
 }
 
 /// Asserts that the rows of a group are refused.
-fn refused<R: Abort>(rt: &R, alloc: Global, group: &str) {
+pub(crate) fn refused<R: Abort>(rt: &R, alloc: Global, group: &str) {
     for row in group.split('|') {
         let (line, row) = row.split_once(';').expect(rt, "a line");
         let (lines, more) = row.split_once(';').expect(rt, "what comes before");

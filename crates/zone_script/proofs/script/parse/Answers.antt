@@ -2,7 +2,7 @@ use Rattle.std.proofs.lemmas.Result.{err_from_is_err_and}
 use Rattle.zone_script.proofs.Parsing.{Tells, said, reads, names, only_names, tells_at_end, tells_at_line}
 use Rattle.zone_script.proofs.script.parse.Goals as goal
 
-at_line : (c : goal.Joined-reading) → Tells c.from_residual.result (said c.args.text.now)
+at_line : (c : goal.After-drop-reading-in_err-read-4) → Tells c.from_residual.result (said c.args.text.now)
 at_line c =
     let p = err_from_is_err_and c.from_residual.result c.from_residual.ensures.1 in
     rw (p.1, p.2) (tells_at_line c.in_err-read.field-0.0 c.lines.reading c.lines.number c.in-Some.line.now c.lines.rest.now c.in-Some.behind.now c.args.text.now c.in_err-read.ensures.bad c.in-Some.ensures.found c.lines.invariant.0)
