@@ -78,6 +78,6 @@ module _ (Sends : List ℕ → Option (List Sending) → Type 0) (at longest : �
         ended = ends;
         how = how;
         names = e;
-        is = is ∙ ap (λ m. report record_wire how m last.version queries []) counted ∙ ap (λ z. report record_wire how (length handles) z.version [] []) current;
+        is = is ∙ ap (λ m. report record_wire how m last.version asked []) counted ∙ ap (λ z. report record_wire how (length handles) z.version asked []) current ∙ ap (λ q. report record_wire how (length handles) s.current.version q []) same;
       }
       by None e is = absurd is
