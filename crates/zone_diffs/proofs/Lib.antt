@@ -1,0 +1,3 @@
+mod Data
+mod Entries
+mod Finding

@@ -1,0 +1,18 @@
+//! Differences between versions of a zone (RFC 1995): built of the sets that come and go, kept in order, and lent by index.
+#![tactic(auto)]
+
+mod builder;
+mod diff;
+mod errors;
+mod examples;
+mod rrsets;
+mod sets;
+#[cfg(test)]
+mod tests;
+mod traits;
+
+pub use builder::InMemoryZoneDiffBuilder;
+pub use diff::{EmptyZoneDiff, InMemoryZoneDiff};
+pub use errors::ZoneDiffError;
+pub use sets::DiffSets;
+pub use traits::{ZoneDiff, ZoneDiffItem};

@@ -1,0 +1,92 @@
+// What is left of two record sets, and both as one.
+ghost use Rattle.std.specs.Prelude.{◌≡◌, ◌++◌, ◌∷◌, [], Some, IfOk, OnOk, not, filter, if◌then◌else◌};
+ghost use Rattle.std.specs.List.{list_any};
+ghost use Rattle.dns_rdata.specs.Records.{same_data};
+ghost use Rattle.dns_rdata.specs.ZoneData.{data_fields, rtype_of};
+ghost use Rattle.zone_model.specs.Difference.{merged_set};
+ghost use Rattle.zone_model.specs.Edits.{distinct_set};
+ghost use Rattle.zone_types.specs.TypedSets.{set_of};
+ghost use Rattle.zone_diffs.specs.Building.{typed, lacked};
+
+use dns_rdata::StoredRecordData;
+use std::alloc::{AllocError, Global};
+use zone_types::Rrset;
+
+/// The records of a set that another lacks. Records of another TTL are others.
+pub(crate) fn lacked(alloc: Global, set: &Rrset, other: &Rrset) -> Result<Rrset, AllocError>
+    ensures { IfOk result (λ r. r ≡ typed set.now.rtype (lacked set.now.contents other.now.contents)) }
+{
+    if set.ttl() != other.ttl() {
+        return set.clone();
+    }
+    let mut left = Rrset::new(alloc, set.rtype(), set.ttl());
+    push_lacked(&mut left, set, other)?;
+    Ok(left)
+}
+
+/// The set with the first of equal data (RFC 2181, 5).
+pub(crate) fn distinct(alloc: Global, set: &Rrset) -> Result<Rrset, AllocError>
+    ensures { IfOk result (λ r. r ≡ typed set.now.rtype (distinct_set set.now.contents)) }
+{
+    let mut first = Rrset::new(alloc, set.rtype(), set.ttl());
+    for item in set.data() {
+        push_new(&mut first, item)?;
+    }
+    Ok(first)
+}
+
+/// The set with the data of another of its type that it lacks behind its own. The TTL stays.
+pub(crate) fn merged(held: &Rrset, set: &Rrset) -> Result<Rrset, AllocError>
+    requires { set.now.rtype ≡ held.now.rtype }
+    ensures { IfOk result (λ r. r ≡ typed held.now.rtype (merged_set (Some held.now.contents) set.now.contents)) }
+{
+    let mut both = held.clone()?;
+    push_lacked(&mut both, set, held)?;
+    Ok(both)
+}
+
+/// Puts the data of a set that another lacks last.
+fn push_lacked(into: &mut Rrset, set: &Rrset, other: &Rrset) -> Result<(), AllocError>
+    requires { set.now.rtype ≡ into.old.rtype }
+    ensures { OnOk result (into.new ≡ set_of into.old.rtype into.old.contents.ttl (into.old.contents.items ++ filter (λ d. not (list_any (same_data d) other.now.contents.items)) set.now.contents.items)) }
+{
+    for item in set.data() {
+        if !has_data(other, item) {
+            into.push_data(item.clone()?)?;
+        }
+    }
+    Ok(())
+}
+
+/// Puts data last, unless equal data are in the set.
+fn push_new(into: &mut Rrset, item: &StoredRecordData) -> Result<(), AllocError>
+    requires { rtype_of item.now ≡ into.old.rtype }
+    ensures { OnOk result (into.new ≡ set_of into.old.rtype into.old.contents.ttl (if list_any (same_data (data_fields item.now)) into.old.contents.items then into.old.contents.items else into.old.contents.items ++ data_fields item.now ∷ [])) }
+{
+    if has_data(into, item) {
+        return Ok(());
+    }
+    into.push_data(item.clone()?)
+}
+
+/// Whether equal data are in a set.
+#[tactic(auto, using(zone_sets::proofs::Equality::list_any_map))]
+fn has_data(set: &Rrset, item: &StoredRecordData) -> bool
+    ensures { result ≡ list_any (same_data (data_fields item.now)) set.now.contents.items }
+{
+    is_among(set.data(), item)
+}
+
+/// Whether some of the data are equal to the others.
+fn is_among(items: &[StoredRecordData], item: &StoredRecordData) -> bool
+    ensures { result ≡ list_any (λ kept. same_data (data_fields item.now) (data_fields kept)) items.now }
+{
+    items.iter().any(|kept| is_same(item, kept))
+}
+
+/// Whether two data are equal.
+fn is_same(item: &StoredRecordData, kept: &StoredRecordData) -> bool
+    ensures { result ≡ same_data (data_fields item.now) (data_fields kept.now) }
+{
+    item.fields_eq(kept)
+}
