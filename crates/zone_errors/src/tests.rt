@@ -31,8 +31,8 @@ fn text<R: Abort, T: fmt::Display>(rt: &R, alloc: Global, value: &T) -> String {
 }
 
 /// Checks a refusal's text, and whether it is about `a.example`.
-fn check<R: Abort>(rt: &R, alloc: Global, refusal: &RecordError, wanted: &str, owned: bool) {
-    assert_eq!(rt; text(rt, alloc, refusal).as_str(), wanted);
+fn check<R: Abort>(rt: &R, alloc: Global, refusal: RecordError, wanted: &str, owned: bool) {
+    assert_eq!(rt; text(rt, alloc, &refusal).as_str(), wanted);
     assert_eq!(rt; refusal.owner().is_some(), owned);
 }
 
@@ -42,49 +42,49 @@ fn texts_of_refused_records(rt: HostRuntime) {
     check(
         &rt,
         alloc,
-        &RecordError::ClassMismatch(address(&rt, alloc), Class::IN),
+        RecordError::ClassMismatch(address(&rt, alloc), Class::IN),
         "The class of the record does not match the class IN of the zone",
         true,
     );
     check(
         &rt,
         alloc,
-        &RecordError::IllegalZoneCut(address(&rt, alloc), Rtype::TXT),
+        RecordError::IllegalZoneCut(address(&rt, alloc), Rtype::TXT),
         "Attempted to add zone cut records where non-zone cut records (TXT) already exist",
         true,
     );
     check(
         &rt,
         alloc,
-        &RecordError::IllegalRecord(address(&rt, alloc), Rtype::DS),
+        RecordError::IllegalRecord(address(&rt, alloc), Rtype::DS),
         "Attempted to add a normal record where a DS record already exists",
         true,
     );
     check(
         &rt,
         alloc,
-        &RecordError::IllegalCname(address(&rt, alloc), Rtype::A),
+        RecordError::IllegalCname(address(&rt, alloc), Rtype::A),
         "Attempted to add a CNAME record where a A record already exists",
         true,
     );
     check(
         &rt,
         alloc,
-        &RecordError::MultipleCnames(address(&rt, alloc)),
+        RecordError::MultipleCnames(address(&rt, alloc)),
         "Attempted to add a CNAME record a CNAME record already exists",
         true,
     );
     check(
         &rt,
         alloc,
-        &RecordError::MissingSoa(Some(address(&rt, alloc))),
+        RecordError::MissingSoa(Some(address(&rt, alloc))),
         "The SOA record was not found, found this record instead",
         true,
     );
     check(
         &rt,
         alloc,
-        &RecordError::MissingSoa(None),
+        RecordError::MissingSoa(None),
         "The SOA record was not found.",
         false,
     );
@@ -97,7 +97,7 @@ fn texts_of_refused_zones(rt: HostRuntime) {
     check(
         &rt,
         alloc,
-        &RecordError::InvalidRecord(cname),
+        RecordError::InvalidRecord(cname),
         "The record is parseable but not valid: Invalid CNAME: CNAME at apex",
         false,
     );

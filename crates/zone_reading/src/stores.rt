@@ -30,9 +30,9 @@ pub trait ReadableZone {
         ensures { result ≡ next_stop (version_of self.now) (N.labels owner.now) rtype };
 
     /// Hands each set to `visit`, once, in the same order.
-    fn walk<F: FnMut(WalkItem<'_>)>(&self, visit: F)
-        requires { F.IsAlwaysCallable visit }
-        ensures { (last : F) × FoldsTo (λ p x q. F.step p x tt q) visit (walk_of (version_of self.now)) last };
+    fn walk<F: FnMut(WalkItem<'_>)>(&self, visit: &mut F)
+        requires { F.IsAlwaysCallable visit.old }
+        ensures { FoldsTo (λ p x q. F.step p x tt q) visit.old (walk_of (version_of self.now)) visit.new };
 }
 
 impl ReadableZone for ReadZone {
@@ -50,7 +50,7 @@ impl ReadableZone for ReadZone {
         ReadZone::next_rrset(self, owner, rtype)
     }
 
-    fn walk<F: FnMut(WalkItem<'_>)>(&self, visit: F) {
+    fn walk<F: FnMut(WalkItem<'_>)>(&self, visit: &mut F) {
         walk(self, visit);
     }
 }

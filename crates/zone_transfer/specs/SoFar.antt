@@ -1,4 +1,4 @@
--- A transfer as far as it is built: a client takes no unsigned answer behind the first (RFC 8945, 5.3.1), and reads records of the types A, NS and SOA alone.
+-- A transfer as far as it is built: a client takes no unsigned answer behind the first (RFC 8945, 5.3.1).
 use Rattle.std.specs.Prelude.{ℕ, ◌<◌, length, ◌%◌, ◌^◌, Bool, false, not, List, [], ◌∷◌, map, Option, unwrap_or}
 use Rattle.dns_wire.specs.Wire.{header_in, header_of, Question, same_question, Message, message_wire}
 use Rattle.tsig_port.specs.Tsig.{TsigKey, request_tsig, signed_request, is_signed}
