@@ -4,8 +4,12 @@
 
 mod comparing;
 mod stores;
+#[cfg(test)]
+mod tests;
 mod walking;
+mod zones;
 
 pub use comparing::is_same;
 pub use stores::ReadableZone;
 pub use walking::walk;
+pub use zones::{Zone, ZoneStore};

@@ -41,6 +41,27 @@ impl ZoneApex {
         ZoneApex { current }
     }
 
+    /// The class of the zone.
+    pub fn class(&self) -> Class
+        ensures { result ≡ self.now.version.class }
+    {
+        self.current.class()
+    }
+
+    /// The name of the zone's apex, as it was given.
+    pub fn name(&self) -> &StoredName
+        ensures { result.now ≡ self.now.version.apex }
+    {
+        self.current.apex_name()
+    }
+
+    /// The number of the current version: 0 for the one that the zone opened with, and one more for each commit.
+    pub fn versions(&self) -> u64
+        ensures { result ≡ self.now.number }
+    {
+        self.current.version()
+    }
+
     /// A read handle of the current version.
     pub fn read(&self) -> Result<ReadZone, AllocError>
         ensures { IfOk result (λ z. z ≡ self.now) }
