@@ -193,7 +193,7 @@ STEPS = [
     ("walk, to write", r"\bzone_store::.*\bxfr_server::"),
     ("walk, to report", r"\bzone_store::walk.*\bzone_sync::program"),
     ("reading the script", r"\bzone_script::"),
-    ("writing the message", r"\bxfr_server::"),
+    ("writing the message", r"\bxfr_(server|services)::"),
     ("reading the message", r"\bzone_transfer::client|\bzone_transfer::sync::take_replies|\btsig_port::"),
     ("report and link", r"\bzone_sync::program"),
     ("reading the script", r"\bzonesync::main"),

@@ -15,18 +15,19 @@ use Rattle.xfr_server.specs.Texts.{transfer_header, transfer_message, can_hold}
 use Rattle.xfr_server.specs.Transfers.{chosen, transfer_replies, reply_limit, transaction, asked_serial, asks_for_apex}
 use Rattle.xfr_server.specs.Transfers.Choice.{Whole}
 use Rattle.xfr_server.specs.Signing.{Signer, can_be_signed, signed_reply, signed_items}
-use Rattle.xfr_server.specs.Serving.{SendsIn, SendsTransfer, SendsBy, SendsSigned, accepted_request, signer_for, SendsChecked}
+use Rattle.xfr_server.specs.Serving.{SendsIn, SendsTransfer}
+use Rattle.xfr_server.specs.SignedServing.{SendsBy, SendsSigned, accepted_request, signer_for, SendsChecked}
 use Rattle.xfr_server.specs.FullTransfer.{SendsWhole}
-use Rattle.xfr_server.specs.declared.providers.XfrDataProviderError.{XfrDataProviderError}
-use Rattle.xfr_server.specs.declared.requests.Request.{Request}
-use Rattle.xfr_server.specs.declared.services.CallResult.{CallResult}
-use Rattle.xfr_server.specs.declared.requests.TransportSpecificContext.{TransportSpecificContext}
-use Rattle.xfr_server.specs.declared.requests.TransportSpecificContext.TheVariants.{NonUdp}
-use Rattle.xfr_server.specs.declared.signing.Signing.TheVariants.{First}
+use Rattle.xfr_providers.specs.declared.providers.XfrDataProviderError.{XfrDataProviderError}
+use Rattle.xfr_services.specs.declared.requests.Request.{Request}
+use Rattle.xfr_services.specs.declared.services.CallResult.{CallResult}
+use Rattle.xfr_services.specs.declared.requests.TransportSpecificContext.{TransportSpecificContext}
+use Rattle.xfr_services.specs.declared.requests.TransportSpecificContext.TheVariants.{NonUdp}
+use Rattle.xfr_services.specs.declared.signing.Signing.TheVariants.{First}
 use Rattle.xfr_server.specs.declared.transfer.XfrMode.{XfrMode}
 use Rattle.xfr_server.specs.declared.transfer.XfrMode.TheVariants.{Axfr}
 use Rattle.xfr_server.proofs.Answers.{wire_length}
-use Rattle.xfr_server.proofs.Puts.{has_both}
+use Rattle.xfr_services.proofs.Puts.{has_both}
 use Rattle.xfr_server.proofs.Room.{signed_length}
 
 -- the key that was found is the one that is known

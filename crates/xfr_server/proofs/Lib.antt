@@ -1,4 +1,4 @@
-pub mod Granted
+pub use Rattle.xfr_providers.proofs.Granted
 pub mod Headers
 pub mod Answers
 pub mod Adding
@@ -6,7 +6,5 @@ pub mod Loops
 pub mod Choice
 pub mod Middle
 pub mod Room
-pub mod Puts
-pub mod Sends
 pub mod FullTransfer
 pub mod Accepted

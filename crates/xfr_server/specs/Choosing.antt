@@ -3,8 +3,8 @@ use Rattle.std.specs.Prelude.{◌≡◌, ℕ, Bool, false, Option, Some, None, R
 use Rattle.dns_name.specs.Serial.{serial_upto}
 use Rattle.xfr_server.specs.Transfers.{Choice}
 use Rattle.xfr_server.specs.Transfers.Choice.{Refuse, SoaAlone as TheSoa, Whole as TheText}
-use Rattle.xfr_server.specs.declared.services.ServiceError.{ServiceError}
-use Rattle.xfr_server.specs.declared.services.ServiceError.TheVariants.{InternalError, Memory}
+use Rattle.xfr_services.specs.declared.services.ServiceError.{ServiceError}
+use Rattle.xfr_services.specs.declared.services.ServiceError.TheVariants.{InternalError, Memory}
 use Rattle.xfr_server.specs.declared.transfer.Reply.{Reply}
 use Rattle.xfr_server.specs.declared.transfer.Reply.TheVariants.{Error, SoaAlone, Whole}
 

@@ -1,7 +1,7 @@
 -- An honest full transfer, as a primary sends it (RFC 5936, 2.2; RFC 8945, 5.3).
-use Rattle.std.specs.Prelude.{◌≡◌, ℕ, ◌+◌, ◌^◌, ◌≤◌, ◌<◌, ◌&&◌, ◌==◌, true, false, List, [], ◌∷◌, length, Option, Some, None, IsTrue, Result, Ok, unwrap_or}
+use Rattle.std.specs.Prelude.{◌≡◌, ℕ, ◌+◌, ◌^◌, ◌≤◌, ◌<◌, true, false, List, [], ◌∷◌, length, Option, Some, None, IsTrue, Result, Ok}
 use Rattle.std.specs.List.{AllByRecursion}
-use Rattle.dns_name.specs.Names.{Name, fold, same_name}
+use Rattle.dns_name.specs.Names.{fold}
 use Rattle.dns_rdata.specs.Records.{Record}
 use Rattle.dns_wire.specs.Wire.{Message, Question, message_wire, id_in}
 use Rattle.dns_wire.specs.Parse.{parsed, sole_question_in}
@@ -12,15 +12,14 @@ use Rattle.tsig_port.specs.ServerCheck.{Keys, verdict}
 use Rattle.tsig_port.specs.ServerCheck.Verdict.{Accepted}
 use Rattle.zone_model.specs.Version.{Version, has_one_apex_soa}
 use Rattle.zone_model.specs.Messages.{read_of}
-use Rattle.zone_model.specs.Offer.{Offer, Provider, is_granted, offer_of, whole_text}
+use Rattle.zone_model.specs.Offer.{Offer, whole_text}
 use Rattle.zone_model.specs.Read.{request_fault}
 use Rattle.xfr_server.specs.Items.{Sending, sent_by}
-use Rattle.xfr_server.specs.Offers.{answer_to}
 use Rattle.xfr_server.specs.Texts.{transfer_message}
 use Rattle.xfr_server.specs.Transfers.{transfer_mode, asked_serial, asks_for_apex}
-use Rattle.xfr_server.specs.declared.providers.XfrDataProviderError.{XfrDataProviderError}
-use Rattle.xfr_server.specs.declared.requests.Request.{Request}
-use Rattle.xfr_server.specs.declared.requests.TransportSpecificContext.TheVariants.{NonUdp}
+use Rattle.xfr_providers.specs.declared.providers.XfrDataProviderError.{XfrDataProviderError}
+use Rattle.xfr_services.specs.declared.requests.Request.{Request}
+use Rattle.xfr_services.specs.declared.requests.TransportSpecificContext.TheVariants.{NonUdp}
 use Rattle.xfr_server.specs.declared.transfer.XfrMode.TheVariants.{Axfr}
 
 -- the message that answers a request with the whole text of a version
@@ -60,8 +59,3 @@ WholeIsTaken = (message : List ℕ) (q : Question) (v : Version) → transfer_mo
 abbrev pub TransferIsMessage : Type 0
 TransferIsMessage = (message : List ℕ) (asked : Message) (rs : List Record) → 12 ≤ length message → IsMessage asked → parsed message ≡ Some (parsed_of asked)
     → AllByRecursion IsRecord rs → length rs < 2 ^ 16 → IsMessage (transfer_message message rs)
-
--- the law of grants: a provider with a history offers what it keeps to one whose key it grants (RFC 1995, 2)
-abbrev pub HistoryGrants : Type 0
-HistoryGrants = (p : Provider) (q : Question) (key : Name × ℕ) (asked : Option ℕ) → (same_name q.qname p.kept.apex && (q.qclass == p.kept.class)) ≡ true
-    → is_granted p.grants (Some key) ≡ true → answer_to p (Some q) (Some key) asked ≡ Ok (offer_of p.kept p.differences p.compatibility (unwrap_or asked 0))

@@ -1,10 +1,13 @@
-pub mod Offers
-pub mod Items
-pub mod Replying
+pub use Rattle.xfr_services.specs.Requests
+pub use Rattle.xfr_services.specs.Items
+pub use Rattle.xfr_services.specs.Replying
+pub use Rattle.xfr_services.specs.Signing
+pub use Rattle.xfr_services.specs.SignedStreams
+pub use Rattle.xfr_services.specs.SignedServing
+pub use Rattle.xfr_providers.specs.Offers
 pub mod Texts
 pub mod Transfers
 pub mod Choosing
-pub mod Signing
 pub mod Streams
 pub mod Serving
 pub mod FullTransfer

@@ -12,14 +12,15 @@ use Rattle.zone_model.specs.Answer.{apex_soa_record}
 use Rattle.zone_model.specs.Difference.{zone_serial}
 use Rattle.zone_model.specs.Offer.{Offer, whole_text}
 use Rattle.xfr_server.specs.Items.{one_reply, reply_item, feedback_item}
+pub use Rattle.xfr_server.specs.Requests.{is_udp}
 use Rattle.xfr_server.specs.Replying.{notimp, refused, error_reply, error_replies}
 use Rattle.xfr_server.specs.Texts.{transfer_message, can_hold}
-use Rattle.xfr_server.specs.declared.requests.TransportSpecificContext.{TransportSpecificContext}
-use Rattle.xfr_server.specs.declared.requests.TransportSpecificContext.TheVariants.{Udp, NonUdp}
-use Rattle.xfr_server.specs.declared.providers.XfrDataProviderError.{XfrDataProviderError}
-use Rattle.xfr_server.specs.declared.providers.XfrDataProviderError.TheVariants.{ParseError, UnknownZone, Refused, TemporarilyUnavailable, Memory}
-use Rattle.xfr_server.specs.declared.services.CallResult.{CallResult}
-use Rattle.xfr_server.specs.declared.services.ServiceFeedback.TheVariants.{BeginTransaction, EndTransaction}
+use Rattle.xfr_services.specs.declared.requests.TransportSpecificContext.{TransportSpecificContext}
+use Rattle.xfr_services.specs.declared.requests.TransportSpecificContext.TheVariants.{Udp, NonUdp}
+use Rattle.xfr_providers.specs.declared.providers.XfrDataProviderError.{XfrDataProviderError}
+use Rattle.xfr_providers.specs.declared.providers.XfrDataProviderError.TheVariants.{ParseError, UnknownZone, Refused, TemporarilyUnavailable, Memory}
+use Rattle.xfr_services.specs.declared.services.CallResult.{CallResult}
+use Rattle.xfr_services.specs.declared.services.ServiceFeedback.TheVariants.{BeginTransaction, EndTransaction}
 use Rattle.xfr_server.specs.declared.transfer.XfrMode.{XfrMode}
 use Rattle.xfr_server.specs.declared.transfer.XfrMode.TheVariants.{Axfr, Ixfr}
 
@@ -62,10 +63,6 @@ asks_for_apex (Some q) v = same_name v.apex q.qname
 abbrev pub is_caught_up : Version → Option ℕ → Bool
 is_caught_up v None = false
 is_caught_up v (Some n) = serial_upto (zone_serial v) n
-
-abbrev pub is_udp : TransportSpecificContext → Bool
-is_udp (Udp hint) = true
-is_udp NonUdp = false
 
 -- how many octets a reply may have before it is signed: 65,535 by a stream, by UDP the hint or 512 (RFC 1035, 2.3.4 and 4.2.2)
 abbrev pub most_octets : TransportSpecificContext → ℕ

@@ -4,12 +4,9 @@ ghost use Rattle.dns_name.specs.Codes.{type_axfr, type_ixfr, type_soa};
 ghost use Rattle.zone_model.specs.ZoneRows as rows;
 ghost use Rattle.xfr_server.specs.Transfers as transfers;
 ghost use Rattle.xfr_server.specs.Transfers.Choice.{Refuse, SoaAlone, Whole};
-ghost use Rattle.xfr_server.specs.Signing as signed;
 ghost use Rattle.xfr_server.specs.declared.transfer.XfrMode.TheVariants.{Axfr, Ixfr};
-ghost use Rattle.xfr_server.specs.declared.requests.TransportSpecificContext.TheVariants.{Udp, NonUdp};
-ghost use Rattle.xfr_server.specs.declared.providers.XfrDataProviderError.TheVariants.{ParseError, UnknownZone, Refused, TemporarilyUnavailable};
-ghost use Rattle.xfr_server.specs.declared.services.ServiceFeedback.TheVariants.{BeginTransaction, EndTransaction};
-ghost use Rattle.xfr_server.specs.declared.signing.Signing.TheVariants.{First, All, Done};
+ghost use Rattle.xfr_services.specs.declared.requests.TransportSpecificContext.TheVariants.{Udp, NonUdp};
+ghost use Rattle.xfr_providers.specs.declared.providers.XfrDataProviderError.TheVariants.{ParseError, UnknownZone, Refused, TemporarilyUnavailable};
 
 /// The parts of a choice: types that ask for a transfer, rcodes of refusals, octets that a reply may have, and versions that are no news.
 pub fn part_row()
@@ -28,13 +25,4 @@ pub fn choice_row()
     ensures caught_up { transfers.choice_of Ixfr true (Some (rows.asked type_ixfr)) (Some 1) rows.history_1 ≡ SoaAlone rows.history_1 }
     ensures behind { transfers.choice_of Ixfr true (Some (rows.asked type_ixfr)) (Some 1) rows.history_2 ≡ Whole rows.history_2 }
     ensures whole { transfers.choice_of Axfr false (Some (rows.asked type_axfr)) (Some 1) rows.history_1 ≡ Whole rows.history_1 }
-{}
-
-/// Which replies are signed: the first alone, and from the begin of a transaction on all, also behind its end.
-pub fn signing_row()
-    ensures begun { map (λ f. signed.begun First f) (None ∷ Some BeginTransaction ∷ Some EndTransaction ∷ []) ≡ First ∷ All ∷ First ∷ [] }
-    ensures late { map (λ s. signed.begun s (Some BeginTransaction)) (Done ∷ All ∷ []) ≡ Done ∷ All ∷ [] }
-    ensures ended { signed.begun All (Some EndTransaction) ≡ All }
-    ensures behind { map signed.behind (First ∷ All ∷ Done ∷ []) ≡ Done ∷ All ∷ Done ∷ [] }
-    ensures due { map signed.is_due (First ∷ All ∷ Done ∷ []) ≡ true ∷ true ∷ false ∷ [] }
 {}

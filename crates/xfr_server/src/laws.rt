@@ -3,12 +3,10 @@ ghost use Rattle.std.specs.Prelude.{List, Option};
 ghost use Rattle.tsig_port.specs.Tsig.{TsigKey};
 ghost use Rattle.zone_model.specs.Offer.{Offer};
 ghost use Rattle.xfr_server.specs.Items.{Sending};
-ghost use Rattle.xfr_server.specs.FullTransfer.{SendsWhole, WholeIsTaken, TransferIsMessage, HistoryGrants};
-ghost use Rattle.xfr_server.specs.declared.requests.Request.{Request as RequestOf};
+ghost use Rattle.xfr_server.specs.FullTransfer.{SendsWhole, WholeIsTaken, TransferIsMessage};
+ghost use Rattle.xfr_services.specs.declared.requests.Request.{Request as RequestOf};
 
-use crate::PrimaryStack;
-use crate::providers::XfrDataProvider;
-use crate::services::Service;
+use crate::{PrimaryStack, Service, XfrDataProvider};
 use tsig_port::KeyStore;
 
 /// A signed request for a full transfer that a primary accepts and its provider grants is answered with the whole text in one
@@ -26,9 +24,4 @@ pub fn full_transfers_are_sent<
 pub fn full_transfers_are_taken()
     ensures taken { WholeIsTaken }
     ensures wire { TransferIsMessage }
-{}
-
-/// A provider with a history offers what it keeps to one who signed with a key that it grants.
-pub fn granted_keys_are_offered()
-    ensures { HistoryGrants }
 {}

@@ -1,67 +1,12 @@
-// Replies, as they are built.
-ghost use Rattle.std.specs.Prelude.{ℕ, []};
+// The answer that a transfer begins with.
+ghost use Rattle.std.specs.Prelude.{[]};
 ghost use Rattle.dns_wire.specs.Wire.{message_wire};
 ghost use Rattle.dns_wire.specs.Builds.{Builds};
-ghost use Rattle.tsig_port.specs.ServerCheck.{Verdict, reply_to};
-ghost use Rattle.tsig_port.specs.States.{RefusalOf};
-ghost use Rattle.xfr_server.specs.Items.{Makes};
-ghost use Rattle.xfr_server.specs.Replying.{built, error_reply, error_replies, truncated_reply};
 ghost use Rattle.xfr_server.specs.Texts.{transfer_message};
 
-use crate::services::{Replies, ServiceError};
 use dns_name::Rcode;
-use dns_wire::{AdditionalBuilder, AnswerBuilder, MessageBuf, MessageBuilder, PushError};
+use dns_wire::{AnswerBuilder, MessageBuf, MessageBuilder, PushError};
 use std::alloc::Global;
-use tsig_port::{KeyRef, ServerError};
-
-/// A reply without records: the request's id, opcode, RD and questions, and an rcode (RFC 1035, 4.1.1).
-pub fn error_reply(
-    alloc: Global,
-    request: &MessageBuf,
-    rcode: Rcode,
-) -> Result<AdditionalBuilder, ServiceError>
-    ensures { Makes (error_reply request.now rcode) result }
-{
-    let builder = MessageBuilder::new(alloc)?;
-    let answer = builder.start_answer(&request.as_message(), rcode)?;
-    Ok(answer.additional())
-}
-
-/// One such reply and nothing else.
-pub fn refuse(alloc: Global, request: &MessageBuf, rcode: Rcode) -> Result<Replies, ServiceError>
-    ensures { Makes (error_replies request.now rcode) result }
-{
-    let reply = error_reply(alloc, request, rcode)?;
-    Ok(Replies::single(alloc, reply)?)
-}
-
-/// The reply to a request that was refused for this (RFC 8945, 5.2).
-pub fn refusal_reply<K: KeyRef>(
-    alloc: Global,
-    refusal: ServerError<K>,
-    request: &MessageBuf,
-) -> Result<AdditionalBuilder, ServiceError>
-    ensures { (found : Verdict) (now : ℕ) → RefusalOf K.the_key found request.now now refusal → Makes (built (reply_to found request.now request.now now)) result }
-{
-    let builder = MessageBuilder::new(alloc)?;
-    Ok(refusal.build_message(&request.as_message(), builder)?)
-}
-
-/// A reply without records with NOERROR and TC, which says that the reply was cut (RFC 8945, 5.3).
-#[tactic(auto, using(crate::proofs::Headers::as_truncated))]
-pub fn truncated_reply(
-    alloc: Global,
-    request: &MessageBuf,
-) -> Result<AdditionalBuilder, ServiceError>
-    ensures { Makes (truncated_reply request.now) result }
-{
-    let builder = MessageBuilder::new(alloc)?;
-    let mut answer = builder.start_answer(&request.as_message(), Rcode::NOERROR)?;
-    let mut header = request.header().answer(Rcode::NOERROR);
-    header.tc = true;
-    answer.set_header(header);
-    Ok(answer.additional())
-}
 
 /// An authoritative answer without records yet, of up to so many octets (RFC 5936, 2.2).
 #[tactic(auto, using(crate::proofs::Headers::as_transfer))]

@@ -10,10 +10,7 @@ ghost use Rattle.xfr_server.specs.Transfers as transfers;
 ghost use Rattle.xfr_server.specs.Choosing.{Chooses, choice_shown, is_no_news};
 ghost use Rattle.xfr_server.specs.Streams.{items_left, TransferLeft};
 
-use crate::providers::{XfrDataProvider, XfrDataProviderError};
-use crate::requests::{Request, TransportSpecificContext};
-use crate::services::{CallResult, Replies, ReplyStream, Service, ServiceError, ServiceFeedback};
-use crate::{replies, texts};
+use crate::texts;
 use dns_name::{Opcode, Rcode, Rtype, Serial, ToName};
 use dns_rdata::{ParsedRecord, ZoneRecordData};
 use dns_wire::{AdditionalBuilder, Message, MessageBuf, PushError, RecordSection};
@@ -21,6 +18,11 @@ use std::alloc::{AllocError, Global};
 use std::cmp::Ordering;
 use std::fmt;
 use std::marker::Model;
+use xfr_providers::{XfrDataProvider, XfrDataProviderError};
+use xfr_services::{
+    CallResult, Replies, ReplyStream, Request, Service, ServiceError, ServiceFeedback,
+    TransportSpecificContext, replies,
+};
 use zone_store::ReadZone;
 
 /// The most octets of a message by UDP, where the requestor says nothing else (RFC 1035, 2.3.4).

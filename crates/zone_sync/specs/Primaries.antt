@@ -1,5 +1,5 @@
 -- What the program's primary is made of.
-use Rattle.xfr_server.specs.declared.services.RefuseSvc.{RefuseSvc}
+use Rattle.xfr_services.specs.declared.services.RefuseSvc.{RefuseSvc}
 
 -- the service behind the transfers, which refuses all that comes to it
 abbrev pub refuser : RefuseSvc

@@ -11,7 +11,7 @@ use Rattle.xfr_client.specs.declared.protocol.IterationError.TheVariants as item
 use Rattle.xfr_client.specs.declared.update.Error.TheVariants as update
 use Rattle.xfr_server.specs.Items.{Sending, Sent, sent_by}
 use Rattle.xfr_server.specs.FullTransfer.{IsSentWhole}
-use Rattle.xfr_server.specs.declared.services.ServiceError.{ServiceError}
+use Rattle.xfr_services.specs.declared.services.ServiceError.{ServiceError}
 use Rattle.xfr_course.specs.Outcome.{Outcome, Updated, UpToDate, Ended, Course, outcome, made}
 use Rattle.xfr_course.specs.Courses.{has_header}
 use Rattle.xfr_course.specs.Success.{Succeeds}

@@ -2,12 +2,12 @@
 use Rattle.std.proofs.Common.{◌≡◌, ℕ, true, false, List, [], ◌∷◌, ◌++◌, append_assoc, append-nil, refl, sym, ap, ◌∙◌, subst, ◌⊎◌, inl, inr, Option, Some, None, Result, Ok, Err}
 use Rattle.xfr_server.specs.Items.{Sending, Sent, message_in, sent_by, NextOf, Gives, Calls}
 use Rattle.xfr_server.specs.Items.Sending.{Given, Failed}
-use Rattle.xfr_server.specs.declared.services.CallResult.{CallResult}
-use Rattle.xfr_server.specs.declared.requests.Request.{Request}
-use Rattle.xfr_server.specs.declared.requests.TransportSpecificContext.{TransportSpecificContext}
-use Rattle.xfr_server.specs.declared.requests.TransportSpecificContext.TheVariants.{NonUdp}
-use Rattle.xfr_server.specs.declared.services.ServiceError.{ServiceError}
-use Rattle.xfr_server.specs.declared.services.ServiceError.TheVariants as service
+use Rattle.xfr_services.specs.declared.services.CallResult.{CallResult}
+use Rattle.xfr_services.specs.declared.requests.Request.{Request}
+use Rattle.xfr_services.specs.declared.requests.TransportSpecificContext.{TransportSpecificContext}
+use Rattle.xfr_services.specs.declared.requests.TransportSpecificContext.TheVariants.{NonUdp}
+use Rattle.xfr_services.specs.declared.services.ServiceError.{ServiceError}
+use Rattle.xfr_services.specs.declared.services.ServiceError.TheVariants as service
 use Rattle.dns_wire.specs.Wire.{Building}
 use Rattle.zone_transfer.specs.Refusals.{of_link, of_service}
 use Rattle.zone_transfer.specs.Links.{LinkLists, with_taken, on_replies}

@@ -3,8 +3,8 @@ use Rattle.zone_transfer.specs.declared.outcome.SyncError.{SyncError}
 use Rattle.zone_transfer.specs.declared.outcome.SyncError.TheVariants as why
 use Rattle.zone_transfer.specs.declared.links.LinkError.{LinkError}
 use Rattle.zone_transfer.specs.declared.links.LinkError.TheVariants as link
-use Rattle.xfr_server.specs.declared.services.ServiceError.{ServiceError}
-use Rattle.xfr_server.specs.declared.services.ServiceError.TheVariants as service
+use Rattle.xfr_services.specs.declared.services.ServiceError.{ServiceError}
+use Rattle.xfr_services.specs.declared.services.ServiceError.TheVariants as service
 use Rattle.dns_wire.specs.declared.builder.PushError.{PushError}
 use Rattle.dns_wire.specs.declared.builder.PushError.TheVariants as push
 use Rattle.xfr_client.specs.declared.update.Error.{Error}

@@ -1,8 +1,8 @@
 -- What a primary sends to the request that a link handed it (RFC 5936, 2.2).
 use Rattle.std.specs.Prelude.{◌≡◌, ℕ, ◌⊎◌, true, false, List, [], ◌∷◌, ◌++◌, Option, Some, None, Result, Ok, Err}
 use Rattle.xfr_server.specs.Items.{Sending, sent_by}
-use Rattle.xfr_server.specs.declared.requests.Request.{Request}
-use Rattle.xfr_server.specs.declared.requests.TransportSpecificContext.TheVariants.{NonUdp}
+use Rattle.xfr_services.specs.declared.requests.Request.{Request}
+use Rattle.xfr_services.specs.declared.requests.TransportSpecificContext.TheVariants.{NonUdp}
 use Rattle.zone_transfer.specs.declared.outcome.SyncOk.{SyncOk}
 use Rattle.zone_transfer.specs.declared.outcome.SyncError.{SyncError}
 use Rattle.zone_transfer.specs.declared.outcome.SyncError.TheVariants as why

@@ -5,7 +5,7 @@ ghost use Rattle.zone_model.specs.Offer.{Offer, Provider, is_granted};
 ghost use Rattle.xfr_server.specs.Items.{Sending};
 ghost use Rattle.xfr_server.specs.FullTransfer.{IsSentWhole};
 ghost use Rattle.xfr_server.specs.Offers.{key_id};
-ghost use Rattle.xfr_server.specs.declared.services.RefuseSvc.{RefuseSvc as RefuseSvcOf};
+ghost use Rattle.xfr_services.specs.declared.services.RefuseSvc.{RefuseSvc as RefuseSvcOf};
 ghost use Rattle.zone_transfer.specs.SoFar.{Asking, asked_octets};
 ghost use Rattle.zone_transfer.specs.Serving.{request_at};
 ghost use Rattle.zone_transfer.specs.Fitting.{Fits, RequestHasHeader, SendsOne, WholeSucceeds};

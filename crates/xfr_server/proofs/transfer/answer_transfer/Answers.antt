@@ -2,7 +2,7 @@ use Rattle.std.proofs.Common.{◌≡◌, List, Option, refl, subst}
 use Rattle.xfr_server.specs.Choosing.{choice_shown}
 use Rattle.xfr_server.specs.Items.{Makes}
 use Rattle.xfr_server.specs.Transfers.{replies_of, transfer_replies}
-use Rattle.xfr_server.specs.declared.services.CallResult.{CallResult}
+use Rattle.xfr_services.specs.declared.services.CallResult.{CallResult}
 use Rattle.xfr_server.proofs.transfer.answer_transfer.Goals as goal
 
 pub returns : goal.returns

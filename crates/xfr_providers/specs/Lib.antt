@@ -1,0 +1,2 @@
+pub use Rattle.xfr_services.specs.Requests
+pub mod Offers

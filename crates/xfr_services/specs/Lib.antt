@@ -1,0 +1,6 @@
+pub mod Requests
+pub mod Items
+pub mod Replying
+pub mod Signing
+pub mod SignedStreams
+pub mod SignedServing
