@@ -18,7 +18,7 @@ use Rattle.zone_model.proofs.JoinedSets.{except, found-without}
 use Rattle.zone_model.proofs.JoinedSides.{good-without}
 use Rattle.zone_diffs.specs.Building.{put_at}
 use Rattle.zone_changes.specs.Touched.{is_touched, Covers}
-use Rattle.zone_changes.specs.Changes.{folded, left_of, with_lacked, lacked_at}
+use Rattle.zone_changes.specs.Changes.{folded, lacked_of, with_lacked, lacked_at}
 
 -- a set lacks none of its own records
 or_right : (a b : Bool) → b ≡ true → (a || b) ≡ true
@@ -94,11 +94,11 @@ module _ (a b : Sets) (good : Good a) where
           neither false = sym gone
       nothing q false d e none = refl
 
-      put : (s : RecordSet) (q : Key) (t d : Bool) → is_eq (key_cmp q place) ≡ t → set_in a place ≡ Some s → cond t (unless_empty (left_of b place s)) (cond d (lacked q) None) ≡ cond (t || d) (lacked q) None
+      put : (s : RecordSet) (q : Key) (t d : Bool) → is_eq (key_cmp q place) ≡ t → set_in a place ≡ Some s → cond t (unless_empty (lacked_of (set_in b place) s)) (cond d (lacked q) None) ≡ cond (t || d) (lacked q) None
       put s q true d e some = sym (ap (λ o. except o (set_in b place)) some) ∙ lacked_alike q place e
       put s q false d e some = refl
 
-      by : (o : Option RecordSet) → set_in a place ≡ o → Made rest (option_map_or (λ (s : RecordSet). put_at sets place (left_of b place s)) o sets)
+      by : (o : Option RecordSet) → set_in a place ≡ o → Made rest (option_map_or (λ (s : RecordSet). put_at sets place (lacked_of (set_in b place) s)) o sets)
       by None e = record {
         ordered = m.ordered;
         done = now_done;
@@ -106,9 +106,9 @@ module _ (a b : Sets) (good : Good a) where
         left = now_left;
       }
       by (Some s) e = record {
-        ordered = good-put sets place (left_of b place s) (fold-fold k.0) m.ordered;
+        ordered = good-put sets place (lacked_of (set_in b place) s) (fold-fold k.0) m.ordered;
         done = now_done;
-        found = λ q. found-put sets place (left_of b place s) q m.ordered ∙ ap (cond (is_eq (key_cmp q place)) (unless_empty (left_of b place s))) (m.found q) ∙ put s q (is_eq (key_cmp q place)) (m.done q) refl e;
+        found = λ q. found-put sets place (lacked_of (set_in b place) s) q m.ordered ∙ ap (cond (is_eq (key_cmp q place)) (unless_empty (lacked_of (set_in b place) s))) (m.found q) ∙ put s q (is_eq (key_cmp q place)) (m.done q) refl e;
         left = now_left;
       }
 

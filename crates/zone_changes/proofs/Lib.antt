@@ -1,3 +1,4 @@
 pub mod Noting
 pub mod Covering
+pub mod SoundSets
 mod Changing

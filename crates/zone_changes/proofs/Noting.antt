@@ -1,5 +1,5 @@
 -- Keys that are noted, and whether a key is among them.
-use Rattle.std.proofs.Common.{◌≡◌, Bool, true, false, cond, ◌&&◌, ◌||◌, not, List, [], ◌∷◌, refl, sym, ap, ◌∙◌, true≢false, Ordering, Less, Equal, Greater, is_eq}
+use Rattle.std.proofs.Common.{◌≡◌, Bool, true, false, cond, if◌then◌else◌, ◌use Rattle.std.proofs.Common.{◌≡◌, Bool, true, false, cond, ◌&&◌, ◌||◌, not, Listuse Rattle.std.proofs.Common.{◌≡◌, Bool, true, false, cond, ◌&&◌, ◌||◌, not, List◌, ◌||◌, not, subst, List, [], ◌∷◌, refl, sym, ap, ◌∙◌, true≢false, Ordering, Less, Equal, Greater, is_eq}
 use Rattle.std.specs.Ordering.{match_ordering}
 use Rattle.std.specs.Cmp.{alike_right, Equal-is, tied_itself}
 use Rattle.std.specs.List.{list_any, filter, AllByRecursion}
@@ -93,3 +93,18 @@ passing p (k ∷ ks) all f = (λ h. f k (here h), passing p ks all (λ q t. f q 
 -- .. and so among all that are noted
 pub passing_noted : (p : Key → Bool) (keys ks : List Key) → AllByRecursion (λ k. p k ≡ true → is_touched (noted_all keys (filter p ks)) k ≡ true) ks
 passing_noted p keys ks = passing p ks (noted_all keys (filter p ks)) (λ q t. touched-noted_all keys (filter p ks) q ∙ or_right (is_touched keys q) (is_touched (filter p ks) q) t)
+
+-- one step of a loop that notes what passes a test
+pub note_step : (p : Key → Bool) (keys now rest : List Key) (k : Key) → now ≡ (if p k then noted keys k else keys) → noted_all now (filter p rest) ≡ noted_all keys (filter p (k ∷ rest))
+note_step p keys now rest k e = ap (λ l. noted_all l (filter p rest)) e ∙ by (p k)
+  where
+    by : (b : Bool) → noted_all (if b then noted keys k else keys) (filter p rest) ≡ noted_all keys (cond b (k ∷ filter p rest) (filter p rest))
+    by true = refl
+    by false = refl
+
+pub keeps_step : (b : Bool) (old keys now : List Key) (k : Key) → now ≡ (if b then noted keys k else keys) → Keeps old keys → Keeps old now
+keeps_step b old keys now k e h = subst (λ l. Keeps old l) (sym e) (by b)
+  where
+    by : (c : Bool) → Keeps old (if c then noted keys k else keys)
+    by true = keeps_noted old keys k h
+    by false = h

@@ -1,13 +1,11 @@
-// A library with one function.
+//! The keys that edits of a version touched, and what two versions differ in, looked for at these keys alone (RFC 1995, 4).
 #![tactic(auto)]
 
-ghost use Rattle.std.specs.Prelude.{◌≡◌};
-ghost use Rattle.zone_changes.specs.Echo.{echo_of};
+mod changes;
+mod examples;
+#[cfg(test)]
+mod tests;
+mod touched;
 
-// The `ensures` clause is the contract: what `echo` returns is `echo_of` of its argument, a definition
-// in `specs/Echo.antt`, which a caller's clause can cite too.
-pub fn echo(x: usize) -> usize
-    ensures { result ≡ echo_of x }
-{
-    x
-}
+pub use changes::difference;
+pub use touched::TouchedKeys;

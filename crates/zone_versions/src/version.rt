@@ -10,6 +10,7 @@ ghost use Rattle.zone_versions.specs.Stops.{stop_of, first_stop, first_from};
 ghost use Rattle.zone_model.specs.Edits.{add, delete, with_sets};
 ghost use Rattle.zone_model.specs.Edits as edits;
 ghost use Rattle.zone_versions.specs.Causes.{refusal_of};
+ghost use Rattle.zone_versions.specs.Sound.{IsSound};
 ghost use Rattle.zone_versions.specs.Strays.{is_stray_at};
 ghost use Rattle.zone_versions.specs.Puts.{adds_alias, appended, without, with_soa, items_at, put_with, last_set, opening_set, thinned, taken_out};
 ghost use Rattle.std.specs.BTreeMap.{insert_entry};
@@ -25,7 +26,7 @@ use dns_name::{Class, KeyName, Labelled, NameRef, Rtype, StoredName, ToName, Ttl
 use dns_rdata::{RecordData, StoredRecord, StoredRecordData};
 use std::alloc::{AllocError, Global};
 use std::collections::BTreeMap;
-use std::collections::btree_map::Iter;
+use std::collections::btree_map::{Iter, Keys};
 use std::marker::Model;
 use std::ops::Bound;
 use zone_sets::{RecordSet, SetKey};
@@ -154,6 +155,14 @@ impl ZoneVersion {
         ensures { result ≡ self.now.sets }
     {
         self.sets.iter()
+    }
+
+    /// The keys of the sets, in order.
+    pub fn keys(&self) -> Keys<'_, SetKey, RecordSet>
+        ensures is { result ≡ keys_of self.now.sets }
+        ensures sound { IsSound self.now }
+    {
+        self.sets.keys()
     }
 
     /// An entry as a walk shows it.
@@ -341,8 +350,8 @@ impl ZoneVersion {
         Ok(())
     }
 
-    /// Whether a set is a DS set below the apex without NS beside it (RFC 4035, 2.4).
-    fn is_stray(&self, key: &SetKey) -> bool
+    /// Whether a DS set at a key would be without NS beside it, below the apex (RFC 4035, 2.4).
+    pub fn is_stray(&self, key: &SetKey) -> bool
         ensures { result ≡ is_stray_at self.now key.now }
     {
         if !self.is_below_apex(key.owner()) {
