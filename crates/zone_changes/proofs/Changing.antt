@@ -1,7 +1,6 @@
 -- What one version has and another lacks, made of the keys alone that cover both.
-use Rattle.std.proofs.Common.{◌≡◌, ℕ, ◌==◌, Bool, true, false, cond, ◌&&◌, ◌||◌, not, List, [], ◌∷◌, filter, refl, sym, ap, ◌∙◌, subst, Equal, is_eq, Option, Some, None, eq-eqb}
+use Rattle.std.proofs.Common.{◌≡◌, ◌==◌, Bool, true, false, cond, ◌&&◌, ◌||◌, not, List, [], ◌∷◌, filter, refl, sym, ap, ◌∙◌, Equal, is_eq, Option, Some, None, eq-eqb}
 use Rattle.std.specs.Option.{option_map_or}
-use Rattle.std.specs.List.{AllByRecursion}
 use Rattle.std.specs.Cmp.{Equal-is}
 use Rattle.std.specs.Cmp.Derive.{both_true}
 use Rattle.std.specs.Ordering.{ordering_then, nat_cmp}
@@ -9,7 +8,7 @@ use Rattle.dns_name.specs.Names.{fold, spelling_cmp}
 use Rattle.dns_rdata.specs.Records.{Field}
 use Rattle.zone_model.specs.Version.{RecordSet, Key, Sets, key_cmp, set_in}
 use Rattle.zone_model.specs.Difference.{without}
-use Rattle.zone_model.proofs.Folded.{IsFolded, key_total, fold-fold}
+use Rattle.zone_model.proofs.Folded.{key_total, fold-fold}
 use Rattle.zone_model.proofs.Ordered.{find_alike, sorted_none}
 use Rattle.zone_model.proofs.Steps.{Good, unless_empty, found-put, good-put}
 use Rattle.zone_model.proofs.SameVersions.{any, any_here}

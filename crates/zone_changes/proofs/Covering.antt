@@ -1,5 +1,5 @@
 -- Edits of a version at keys that were noted: the keys cover what they covered.
-use Rattle.std.proofs.Common.{◌≡◌, ℕ, ◌==◌, Bool, true, false, cond, ◌&&◌, ◌||◌, not, if◌then◌else◌, List, [], ◌∷◌, length, refl, sym, ap, ◌∙◌, subst, true≢false, Equal, is_eq, Option, Some, None}
+use Rattle.std.proofs.Common.{◌≡◌, ℕ, ◌==◌, Bool, true, false, cond, not, if◌then◌else◌, List, [], ◌∷◌, length, refl, sym, ap, ◌∙◌, true≢false, Equal, is_eq, Some}
 use Rattle.std.specs.List.{filter, AllByRecursion}
 use Rattle.std.specs.Cmp.{Equal-is, alike_right}
 use Rattle.std.specs.BTreeMap.{insert_entry}

@@ -1,9 +1,9 @@
 -- Keys that are noted, and whether a key is among them.
-use Rattle.std.proofs.Common.{◌≡◌, Bool, true, false, cond, if◌then◌else◌, ◌use Rattle.std.proofs.Common.{◌≡◌, Bool, true, false, cond, ◌&&◌, ◌||◌, not, Listuse Rattle.std.proofs.Common.{◌≡◌, Bool, true, false, cond, ◌&&◌, ◌||◌, not, List◌, ◌||◌, not, subst, List, [], ◌∷◌, refl, sym, ap, ◌∙◌, true≢false, Ordering, Less, Equal, Greater, is_eq}
+use Rattle.std.proofs.Common.{◌≡◌, Bool, true, false, cond, if◌then◌else◌, ◌||◌, subst, List, [], ◌∷◌, refl, sym, ap, ◌∙◌, true≢false, Ordering, Less, Equal, Greater, is_eq}
 use Rattle.std.specs.Ordering.{match_ordering}
 use Rattle.std.specs.Cmp.{alike_right, Equal-is, tied_itself}
-use Rattle.std.specs.List.{list_any, filter, AllByRecursion}
-use Rattle.zone_model.specs.Version.{Key, key_cmp, has_key}
+use Rattle.std.specs.List.{filter, AllByRecursion}
+use Rattle.zone_model.specs.Version.{Key, key_cmp}
 use Rattle.zone_model.proofs.Folded.{key_total}
 use Rattle.zone_changes.specs.Touched.{is_touched, noted, noted_all, Keeps}
 

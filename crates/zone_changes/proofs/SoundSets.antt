@@ -1,13 +1,12 @@
 -- The sets of a version that is sound.
-use Rattle.std.proofs.Common.{◌≡◌, Bool, true, false, cond, ◌&&◌, ◌||◌, ◌==◌, not, nat_le, List, [], ◌∷◌, length, filter, refl, sym, ap, ◌∙◌, subst, bytes_eq}
+use Rattle.std.proofs.Common.{◌≡◌, Bool, true, cond, ◌&&◌, ◌||◌, ◌==◌, not, nat_le, List, [], ◌∷◌, length, filter, refl, sym, ap, ◌∙◌, subst}
 use Rattle.std.specs.List.{AllByRecursion, list_all}
 use Rattle.std.specs.Cmp.{first_so, second_so}
-use Rattle.std.specs.Cmp.Lexicographic.{pointwise, pointwise_decides, bytes_decides}
+use Rattle.std.specs.Cmp.Lexicographic.{pointwise_decides, bytes_decides}
 use Rattle.std.specs.Map.{keys_of}
 use Rattle.dns_name.specs.Names.{fold, under}
 use Rattle.dns_name.specs.Codes.{type_cname}
 use Rattle.zone_model.specs.Version.{RecordSet, Key, Sets, Version, in_zone, below_apex, all_differ}
-use Rattle.zone_model.specs.Edits.{clear}
 use Rattle.zone_model.proofs.Folded.{IsFolded}
 use Rattle.zone_model.proofs.Steps.{Good}
 use Rattle.zone_versions.specs.Sound.{IsSound, is_sound_at}

@@ -1,5 +1,4 @@
 use Rattle.std.proofs.Common.{◌≡◌, filter}
-use Rattle.std.specs.Map.{keys_of}
 use Rattle.dns_name.specs.Names.{under}
 use Rattle.zone_model.specs.Version.{Key}
 use Rattle.zone_changes.specs.Touched.{noted_all, keys_below, Keeps}
