@@ -2,3 +2,4 @@ pub mod Noting
 pub mod Covering
 pub mod SoundSets
 mod Changing
+mod Lacking
