@@ -2,7 +2,10 @@
 #![tactic(auto)]
 
 mod changes;
+mod examples;
 mod laws;
+#[cfg(test)]
+mod tests;
 mod touched;
 
 pub use changes::difference;
