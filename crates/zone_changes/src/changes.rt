@@ -5,7 +5,7 @@ ghost use Rattle.dns_rdata.specs.Soa.{serial_of};
 ghost use Rattle.dns_rdata.specs.ZoneData.{data_fields, rtype_of};
 ghost use Rattle.zone_model.specs.Version.{apex_soa};
 ghost use Rattle.zone_model.specs.Difference.{difference, diffable, without};
-ghost use Rattle.zone_diffs.specs.Building.{typed};
+ghost use Rattle.zone_sets.specs.TypedEntries.{typed, untyped};
 ghost use Rattle.zone_types.specs.TypedSets.{set_of};
 ghost use Rattle.zone_changes.specs.Touched.{Covers};
 ghost use Rattle.zone_changes.specs.Changes.{folded, with_lacked, has_record, lacked_of};
@@ -92,20 +92,15 @@ fn put_lacked(
     let Some(set) = version.set_at(owner, rtype) else {
         return Ok(());
     };
-    let left = lacked(alloc, rtype, set, other.set_at(owner, rtype))?;
+    let left = lacked(alloc, set, other.set_at(owner, rtype))?;
     sets.put(SetKey::new(owner, rtype), left.into_shared(alloc)?)
 }
 
 /// The records of a set that another one of its type lacks, or all where there is no other. Records of another TTL are others (RFC 2181, 5.2).
-fn lacked(
-    alloc: Global,
-    rtype: Rtype,
-    set: &RecordSet,
-    other: Option<&RecordSet>,
-) -> Result<Rrset, AllocError>
-    ensures { IfOk result (λ r. r ≡ typed rtype (lacked_of (option_copied other.entry) set.now)) }
+fn lacked(alloc: Global, set: &RecordSet, other: Option<&RecordSet>) -> Result<Rrset, AllocError>
+    ensures { IfOk result (λ r. r ≡ typed set.now.rtype (lacked_of (untyped (option_copied other.entry)) set.now.contents)) }
 {
-    let mut left = Rrset::new(alloc, rtype, set.ttl());
+    let mut left = Rrset::new(alloc, set.rtype(), set.ttl());
     for item in set.items() {
         push_unless(&mut left, item, has_record(other, set.ttl(), item))?;
     }
@@ -125,7 +120,7 @@ fn push_unless(left: &mut Rrset, item: &StoredRecordData, had: bool) -> Result<(
 
 /// Whether a set, if there is one, has this TTL and equal data.
 fn has_record(set: Option<&RecordSet>, ttl: Ttl, item: &StoredRecordData) -> bool
-    ensures { result ≡ has_record (option_copied set.entry) ttl (data_fields item.now) }
+    ensures { result ≡ has_record (untyped (option_copied set.entry)) ttl (data_fields item.now) }
 {
     match set {
         Some(set) => set.ttl() == ttl && set.contains(item),

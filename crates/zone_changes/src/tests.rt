@@ -75,12 +75,11 @@ fn set_serial<R: Abort>(
 )
     ensures { (base : Sets) → Covers touched.old base version.old.sets → Covers touched.new base version.new.sets }
 {
-    let item = ZoneRecordData::Soa(soa(rt, alloc, serial));
     touched
         .note(SetKey::new(version.apex(), Rtype::SOA))
         .expect(rt, "memory");
     version
-        .set_soa(alloc, Ttl::from_int(3600), item)
+        .set_soa(alloc, Ttl::from_int(3600), soa(rt, alloc, serial))
         .expect(rt, "memory");
 }
 
