@@ -110,7 +110,7 @@ impl InMemoryZoneDiffBuilder {
 }
 
 /// Whether a serial is the other, or before it (RFC 1982, 3.2).
-fn is_upto(serial: Serial, other: Serial) -> bool
+pub fn is_upto(serial: Serial, other: Serial) -> bool
     ensures { result ≡ serial_upto serial other }
 {
     match serial.partial_cmp(&other) {

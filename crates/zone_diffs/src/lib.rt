@@ -11,8 +11,8 @@ mod sets;
 mod tests;
 mod traits;
 
-pub use builder::InMemoryZoneDiffBuilder;
+pub use builder::{InMemoryZoneDiffBuilder, is_upto};
 pub use diff::{EmptyZoneDiff, InMemoryZoneDiff};
 pub use errors::ZoneDiffError;
-pub use sets::DiffSets;
+pub use sets::{DiffSets, serial_of};
 pub use traits::{ZoneDiff, ZoneDiffItem};

@@ -127,7 +127,7 @@ fn serial_in(set: &Rrset) -> Serial
 }
 
 /// The serial of SOA data, 0 of others (RFC 1035, 3.3.13).
-fn serial_of(item: &StoredRecordData) -> Serial
+pub fn serial_of(item: &StoredRecordData) -> Serial
     ensures { result ≡ serial_of (data_fields item.now) }
 {
     match item {

@@ -17,7 +17,7 @@ use dns_name::Ttl;
 use dns_rdata::StoredRecordData;
 use std::alloc::{AllocError, Global};
 use std::collections::BTreeMap;
-use std::collections::btree_map::Iter;
+use std::collections::btree_map::{Iter, Keys};
 use std::marker::Model;
 use std::ops::Bound;
 
@@ -62,6 +62,13 @@ impl KeyedSets {
         ensures { result ≡ map item_of self.now }
     {
         self.entries.iter()
+    }
+
+    /// The keys of the sets, in order.
+    pub fn keys(&self) -> Keys<'_, SetKey, RecordSet>
+        ensures { result ≡ keys_of self.now }
+    {
+        self.entries.keys()
     }
 
     /// The first set behind a key, with its own key.

@@ -10,6 +10,7 @@ ghost use Rattle.zone_versions.specs.Stops.{stop_of, first_stop, first_from};
 ghost use Rattle.zone_model.specs.Edits.{add, delete, with_sets};
 ghost use Rattle.zone_model.specs.Edits as edits;
 ghost use Rattle.zone_versions.specs.Causes.{refusal_of};
+ghost use Rattle.zone_versions.specs.Sound.{IsSound};
 ghost use Rattle.zone_versions.specs.Strays.{is_stray_at};
 ghost use Rattle.zone_versions.specs.Puts.{adds_alias, appended, without, with_soa};
 ghost use Rattle.zone_sets.specs.TypedEntries.{item_of, entry_of, typed, typed_set_in};
@@ -23,7 +24,7 @@ use crate::walk::WalkItem;
 use dns_name::{Class, KeyName, Labelled, NameRef, Rtype, StoredName, ToName, Ttl};
 use dns_rdata::{RecordData, Soa, StoredRecord, ZoneRecordData};
 use std::alloc::{AllocError, Global};
-use std::collections::btree_map::Iter;
+use std::collections::btree_map::{Iter, Keys};
 use std::marker::Model;
 use zone_sets::{KeyedSets, RecordSet, SetKey};
 
@@ -152,6 +153,14 @@ impl ZoneVersion {
         ensures { result ≡ map item_of self.now.sets }
     {
         self.sets.iter()
+    }
+
+    /// The keys of the sets, in order.
+    pub fn keys(&self) -> Keys<'_, SetKey, RecordSet>
+        ensures is { result ≡ keys_of self.now.sets }
+        ensures sound { IsSound self.now }
+    {
+        self.sets.keys()
     }
 
     /// An entry as a walk shows it.
@@ -323,8 +332,8 @@ impl ZoneVersion {
         Ok(())
     }
 
-    /// Whether a set is a DS set below the apex without NS beside it (RFC 4035, 2.4).
-    fn is_stray(&self, key: &SetKey) -> bool
+    /// Whether a DS set at a key would be without NS beside it, below the apex (RFC 4035, 2.4).
+    pub fn is_stray(&self, key: &SetKey) -> bool
         ensures { result ≡ is_stray_at self.now key.now }
     {
         if !self.is_below_apex(key.owner()) {

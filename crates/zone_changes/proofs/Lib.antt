@@ -1,0 +1,5 @@
+pub mod Noting
+pub mod Covering
+pub mod SoundSets
+mod Changing
+mod Lacking

@@ -1,0 +1,3 @@
+pub mod Touched
+pub mod Changes
+pub mod ChangeRows

@@ -1,0 +1,36 @@
+-- The keys that edits touched, and what that says of two versions.
+use Rattle.std.specs.Prelude.{◌≡◌, Bool, true, false, List, filter, fold as fold_list}
+use Rattle.std.specs.List.{list_any}
+use Rattle.std.specs.BTreeSet.{insert_key}
+use Rattle.std.specs.Map.{keys_of}
+use Rattle.dns_name.specs.Names.{Name, under}
+use Rattle.zone_model.specs.Version.{Key, Sets, Version, key_cmp, has_key, set_in}
+use Rattle.zone_versions.specs.Strays.{is_stray_at}
+
+-- whether a key is among these
+abbrev pub is_touched : List Key → Key → Bool
+is_touched keys k = list_any (has_key k) keys
+
+-- the keys with one more, at its place in the order
+abbrev pub noted : List Key → Key → List Key
+noted keys k = insert_key key_cmp keys k
+
+-- .. with each of a list
+abbrev pub noted_all : List Key → List Key → List Key
+noted_all keys more = fold_list noted keys more
+
+-- two maps have the same set, or both none, at each key that isn't among these
+pub record Covers (keys : List Key) (a : Sets) (b : Sets) : Type 0 where
+  pub same : (k : Key) → is_touched keys k ≡ false → set_in a k ≡ set_in b k
+
+-- what was among the old keys is among the new ones
+pub record Keeps (old : List Key) (new : List Key) : Type 0 where
+  pub still : (k : Key) → is_touched old k ≡ true → is_touched new k ≡ true
+
+-- the keys of a version's sets at a name and below it
+abbrev pub keys_below : Version → Name → List Key
+keys_below v n = filter (λ (k : Key). under k.0 n) (keys_of v.sets)
+
+-- the keys of the sets that a commit leaves out (RFC 4035, 2.4)
+abbrev pub stray_keys : Version → List Key
+stray_keys v = filter (is_stray_at v) (keys_of v.sets)

@@ -1,0 +1,12 @@
+//! The keys that edits of a version touched, and what two versions differ in, looked for at these keys alone (RFC 1995, 4).
+#![tactic(auto)]
+
+mod changes;
+mod examples;
+mod laws;
+#[cfg(test)]
+mod tests;
+mod touched;
+
+pub use changes::difference;
+pub use touched::TouchedKeys;
