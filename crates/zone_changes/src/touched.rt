@@ -122,3 +122,13 @@ impl TouchedKeys {
         self.keys.clear();
     }
 }
+
+impl Clone for TouchedKeys {
+    ghost is_clone = { λ t copy. copy ≡ t };
+
+    fn clone(&self) -> Result<TouchedKeys, AllocError> {
+        Ok(TouchedKeys {
+            keys: self.keys.clone()?,
+        })
+    }
+}

@@ -3,6 +3,7 @@
 
 mod apex;
 mod builder;
+mod draft;
 mod errors;
 mod read;
 #[cfg(test)]
