@@ -65,7 +65,7 @@ impl<'z> WriteZone<'z> {
     }
 
     /// What is pending, lent.
-    fn shown(&self) -> &ZoneVersion
+    pub(crate) fn shown(&self) -> &ZoneVersion
         ensures { result.now ≡ self.now.pending }
     {
         match &self.pending {
@@ -82,7 +82,7 @@ impl<'z> WriteZone<'z> {
     }
 
     /// Takes what is pending out to be edited.
-    fn take_pending(&mut self) -> Result<Arc<ZoneVersion>, AllocError>
+    pub(crate) fn take_pending(&mut self) -> Result<Arc<ZoneVersion>, AllocError>
         ensures ok { IfOk result (λ v. arc_value v ≡ self.old.pending) }
         ensures rest { OnOk result (self.new ≡ with_pending self.old self.old.current.version) }
         ensures err { OnErr result (self.new ≡ self.old) }
@@ -91,6 +91,19 @@ impl<'z> WriteZone<'z> {
             Some(version) => Ok(version),
             None => self.zone.current().share(),
         }
+    }
+
+    /// Makes a version what is pending.
+    pub(crate) fn keep(&mut self, pending: Arc<ZoneVersion>)
+        ensures { self.new ≡ with_pending self.old (arc_value pending) }
+    {
+        self.pending = Some(pending);
+    }
+
+    /// Where memory comes from.
+    pub(crate) fn memory(&self) -> Global
+    {
+        self.alloc
     }
 
     /// Adds a record: its data come last, and its TTL becomes the set's. The class isn't looked at. Refused are, tested in this order, an
@@ -183,7 +196,7 @@ impl<'z> WriteZone<'z> {
     }
 
     /// One more owner of what is pending.
-    fn share(&self) -> Result<Arc<ZoneVersion>, AllocError>
+    pub(crate) fn share(&self) -> Result<Arc<ZoneVersion>, AllocError>
         ensures { IfOk result (λ v. arc_value v ≡ self.now.pending) }
     {
         match &self.pending {
