@@ -4,6 +4,7 @@ ghost use Rattle.std.specs.List.{list_all};
 ghost use Rattle.dns_name.specs.Names.{under};
 ghost use Rattle.dns_name.specs.Codes.{type_a, type_aaaa, type_soa};
 ghost use Rattle.dns_rdata.specs.Records.{same_data};
+ghost use Rattle.dns_rdata.specs.DataFields.{soa_fields};
 ghost use Rattle.dns_rdata.specs.Soa.{serial_of, with_serial};
 ghost use Rattle.dns_rdata.specs.ZoneData.{rtype_of, data_fields};
 ghost use Rattle.zone_model.specs.Version.{all_differ, set_at};
@@ -14,7 +15,7 @@ ghost use Rattle.zone_versions.specs.Puts.{with_soa};
 ghost use Rattle.zone_versions.specs.Nodes.{put_at, is_address_in, with_glue};
 
 use crate::version::ZoneVersion;
-use dns_name::{KeyName, Rtype, ToName, Ttl};
+use dns_name::{KeyName, Rtype, StoredName, ToName, Ttl};
 use dns_rdata::{RecordData, Soa, StoredRecord, StoredRecordData, ZoneRecordData};
 use std::alloc::{AllocError, Global};
 use zone_sets::{KeyedSets, RecordSet, SetKey};
@@ -230,18 +231,27 @@ fn is_news(set: &RecordSet, ttl: Ttl, old: &StoredRecordData) -> bool
     }
 }
 
-/// SOA data with the next serial (RFC 1982, 3.1).
+/// SOA data with the next serial (RFC 1982, 3.1). Data that aren't read as SOA stay.
 fn next_soa(old: &StoredRecordData) -> Result<StoredRecordData, AllocError>
     ensures rtype { IfOk result (λ d. rtype_of d ≡ rtype_of old.now) }
     ensures fields { IfOk result (λ d. data_fields d ≡ with_serial ((serial_of (data_fields old.now) + 1) % 2 ^ 32) (data_fields old.now)) }
 {
     match old {
-        ZoneRecordData::Soa(soa) => {
-            let next = soa.serial().add(1);
-            let mut copy = soa.clone()?;
-            copy.serial = next;
-            Ok(ZoneRecordData::Soa(copy))
-        }
+        ZoneRecordData::Soa(soa) => Ok(ZoneRecordData::Soa(with_next(soa)?)),
         _ => old.clone(),
     }
+}
+
+/// The same of data that are SOA.
+fn with_next(soa: &Soa<StoredName>) -> Result<Soa<StoredName>, AllocError>
+    ensures { IfOk result (λ next. soa_fields (λ n. n) next ≡ with_serial ((serial_of (soa_fields (λ n. n) soa.now) + 1) % 2 ^ 32) (soa_fields (λ n. n) soa.now)) }
+{
+    let mname = soa.mname().clone()?;
+    let rname = soa.rname().clone()?;
+    let serial = soa.serial().add(1);
+    let (refresh, retry) = (soa.refresh(), soa.retry());
+    let (expire, minimum) = (soa.expire(), soa.minimum());
+    Ok(Soa::new(
+        mname, rname, serial, refresh, retry, expire, minimum,
+    ))
 }

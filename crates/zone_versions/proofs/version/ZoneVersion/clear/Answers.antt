@@ -1,8 +1,8 @@
-use Rattle.std.proofs.Common.{◌≡◌, ap, sym, subst, ◌∙◌}
+use Rattle.std.proofs.Common.{◌≡◌, ap, sym, subst}
 use Rattle.zone_model.specs.Version.{Version}
 use Rattle.zone_model.specs.Edits.{with_sets, clear}
 use Rattle.zone_versions.specs.Sound.{IsSound}
-use Rattle.zone_versions.proofs.Nodes.{clear_sound}
+use Rattle.zone_versions.proofs.NodeEdits.{clear_sound}
 use Rattle.zone_versions.proofs.version.ZoneVersion.clear.Goals as goal
 
 -- What is left is sound.

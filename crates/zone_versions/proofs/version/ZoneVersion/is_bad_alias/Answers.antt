@@ -1,4 +1,4 @@
-use Rattle.std.proofs.Common.{◌≡◌, ◌==◌, true, false, not, length, List, sym, ap, ◌∙◌}
+use Rattle.std.proofs.Common.{◌≡◌, ◌==◌, true, not, length, List, sym, ap, ◌∙◌}
 use Rattle.dns_rdata.specs.Records.{Field}
 use Rattle.dns_name.specs.Codes.{type_cname}
 use Rattle.zone_model.specs.Version.{below_apex}

@@ -5,7 +5,7 @@ use Rattle.zone_model.specs.Edits.{with_sets, has_data}
 use Rattle.zone_sets.specs.SetEdits.{put_with, opening_set}
 use Rattle.zone_versions.specs.Nodes.{is_address_in, with_glue}
 use Rattle.zone_versions.specs.Sound.{IsSound}
-use Rattle.zone_versions.proofs.Nodes.{glue_is, with_glue_sound}
+use Rattle.zone_versions.proofs.NodeEdits.{glue_is, with_glue_sound}
 use Rattle.zone_versions.proofs.version.ZoneVersion.put_glue.Goals as goal
 
 -- An address is no alias, so the version stays sound.

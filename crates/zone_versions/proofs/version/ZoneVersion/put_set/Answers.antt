@@ -1,10 +1,10 @@
 use Rattle.std.proofs.Common.{◌≡◌, true, false, ap, sym, subst, ◌∙◌}
 use Rattle.dns_name.specs.Names.{fold, under}
-use Rattle.zone_model.specs.Version.{Version, RecordSet}
+use Rattle.zone_model.specs.Version.{Version}
 use Rattle.zone_model.specs.Edits.{with_sets, put_set, is_bad_alias}
 use Rattle.zone_versions.specs.Nodes.{put_at}
 use Rattle.zone_versions.specs.Sound.{IsSound}
-use Rattle.zone_versions.proofs.Nodes.{put_sound, put_at_is}
+use Rattle.zone_versions.proofs.NodeEdits.{put_sound, put_at_is}
 use Rattle.zone_versions.proofs.version.ZoneVersion.put_set.Goals as goal
 
 -- A set that is no bad alias keeps the version sound.

@@ -3,7 +3,7 @@ use Rattle.std.specs.Map.{remove_entry}
 use Rattle.zone_model.specs.Version.{Version, has_key}
 use Rattle.zone_model.specs.Edits.{with_sets, remove_set}
 use Rattle.zone_versions.specs.Sound.{IsSound}
-use Rattle.zone_versions.proofs.Nodes.{remove_sound}
+use Rattle.zone_versions.proofs.NodeEdits.{remove_sound}
 use Rattle.zone_versions.proofs.version.ZoneVersion.remove_set.Goals as goal
 
 -- What is left is sound.
