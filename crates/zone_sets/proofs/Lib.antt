@@ -5,3 +5,4 @@ pub mod FirstEntries
 pub mod SetWrites
 pub mod Thinning
 mod Retained
+pub mod FirstData

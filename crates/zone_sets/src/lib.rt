@@ -7,6 +7,7 @@
 mod data_index;
 mod data_key;
 mod keyed;
+mod of_rrset;
 mod sets;
 
 pub use keyed::KeyedSets;

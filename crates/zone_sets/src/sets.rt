@@ -55,6 +55,18 @@ impl RecordSet {
         })
     }
 
+    /// A set of this type and TTL, in seconds, without data.
+    pub(crate) fn empty(alloc: Global, rtype: Rtype, ttl: Ttl) -> RecordSet
+        ensures { result ≡ set_of rtype ttl [] }
+    {
+        RecordSet {
+            rtype,
+            ttl,
+            items: Vec::new(alloc),
+            seen: None,
+        }
+    }
+
     /// The type of the records.
     pub fn rtype(&self) -> Rtype
         ensures { result ≡ self.now.rtype }

@@ -1,1 +1,2 @@
 pub use Rattle.zone_versions.proofs.Conditions
+pub mod ChildNames

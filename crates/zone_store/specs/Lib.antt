@@ -2,3 +2,4 @@ pub use Rattle.zone_versions.specs.Causes
 pub use Rattle.zone_versions.specs.Puts
 pub mod Pending
 pub mod Drafts
+pub mod Nodes

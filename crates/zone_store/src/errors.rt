@@ -47,3 +47,32 @@ impl From<AllocError> for CommitError {
         CommitError::Memory
     }
 }
+
+/// Why a node isn't reached.
+#[derive(Clone, Copy, Debug, PartialEq, Eq, Drop, Error)]
+pub enum UpdateError {
+    /// The name would have more than 255 octets (RFC 1035, 2.3.4).
+    #[error("the name has more than 255 octets")]
+    LongName,
+}
+
+/// Why a node is made no alias and no zone cut. The session is then as before.
+#[derive(Clone, Copy, Debug, PartialEq, Eq, Drop, Error)]
+pub enum NodeError {
+    /// The node is the apex.
+    #[error("operation not allowed")]
+    NotAllowed,
+    #[error("out of memory")]
+    Memory,
+}
+
+impl From<AllocError> for NodeError {
+    ghost use Rattle.std.specs.Prelude.{◌≡◌};
+    ghost use Rattle.zone_store.specs.declared.errors.NodeError.{NodeError};
+
+    ghost from_gives = { λ e f. f ≡ NodeError.Memory };
+
+    fn from(_error: AllocError) -> NodeError {
+        NodeError::Memory
+    }
+}

@@ -4,7 +4,10 @@
 mod apex;
 mod builder;
 mod draft;
+mod child;
+mod edits;
 mod errors;
+mod node;
 mod read;
 #[cfg(test)]
 mod tests;
@@ -12,7 +15,8 @@ mod write;
 
 pub use apex::ZoneApex;
 pub use builder::ZoneBuilder;
-pub use errors::{CommitError, InsertError};
+pub use errors::{CommitError, InsertError, NodeError, UpdateError};
+pub use node::WriteNode;
 pub use read::ReadZone;
 pub use write::WriteZone;
 pub use zone_versions::{EditError, RecordSet, RrsetIter, WalkItem};

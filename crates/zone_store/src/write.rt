@@ -7,14 +7,13 @@ ghost use Rattle.zone_model.specs.Session.{opened_session, with_pending, committ
 ghost use Rattle.zone_versions.specs.Causes.{refusal_of};
 ghost use Rattle.zone_versions.specs.Puts.{appended, without, with_soa};
 ghost use Rattle.dns_rdata.specs.DataFields.{soa_fields};
-ghost use Rattle.dns_rdata.specs.ZoneData.{data_fields};
 ghost use Rattle.std.specs.Arc.{arc_value};
 
 use crate::apex::ZoneApex;
 use crate::errors::CommitError;
 use crate::read::ReadZone;
 use dns_name::{StoredName, Ttl};
-use dns_rdata::{Soa, StoredRecord, StoredRecordData, ZoneRecordData};
+use dns_rdata::{Soa, StoredRecord};
 use std::alloc::{AllocError, Global};
 use std::marker::Model;
 use std::sync::Arc;
@@ -65,7 +64,7 @@ impl<'z> WriteZone<'z> {
     }
 
     /// What is pending, lent.
-    fn shown(&self) -> &ZoneVersion
+    pub(crate) fn shown(&self) -> &ZoneVersion
         ensures { result.now ≡ self.now.pending }
     {
         match &self.pending {
@@ -82,7 +81,7 @@ impl<'z> WriteZone<'z> {
     }
 
     /// Takes what is pending out to be edited.
-    fn take_pending(&mut self) -> Result<Arc<ZoneVersion>, AllocError>
+    pub(crate) fn take_pending(&mut self) -> Result<Arc<ZoneVersion>, AllocError>
         ensures ok { IfOk result (λ v. arc_value v ≡ self.old.pending) }
         ensures rest { OnOk result (self.new ≡ with_pending self.old self.old.current.version) }
         ensures err { OnErr result (self.new ≡ self.old) }
@@ -91,6 +90,19 @@ impl<'z> WriteZone<'z> {
             Some(version) => Ok(version),
             None => self.zone.current().share(),
         }
+    }
+
+    /// Makes a version what is pending.
+    pub(crate) fn keep(&mut self, pending: Arc<ZoneVersion>)
+        ensures { self.new ≡ with_pending self.old (arc_value pending) }
+    {
+        self.pending = Some(pending);
+    }
+
+    /// Where memory comes from.
+    pub(crate) fn memory(&self) -> Global
+    {
+        self.alloc
     }
 
     /// Adds a record: its data come last, and its TTL becomes the set's. The class isn't looked at. Refused are, tested in this order, an
@@ -137,7 +149,7 @@ impl<'z> WriteZone<'z> {
     {
         let alloc = self.alloc;
         let mut pending = self.take_pending()?;
-        let put = set_soa(&mut pending, alloc, ttl, ZoneRecordData::Soa(soa));
+        let put = set_soa(&mut pending, alloc, ttl, soa);
         self.pending = Some(pending);
         put
     }
@@ -183,7 +195,7 @@ impl<'z> WriteZone<'z> {
     }
 
     /// One more owner of what is pending.
-    fn share(&self) -> Result<Arc<ZoneVersion>, AllocError>
+    pub(crate) fn share(&self) -> Result<Arc<ZoneVersion>, AllocError>
         ensures { IfOk result (λ v. arc_value v ≡ self.now.pending) }
     {
         match &self.pending {
@@ -243,11 +255,11 @@ fn set_soa(
     pending: &mut Arc<ZoneVersion>,
     alloc: Global,
     ttl: Ttl,
-    item: StoredRecordData,
+    soa: Soa<StoredName>,
 ) -> Result<(), AllocError>
-    ensures ok { OnOk result (arc_value pending.new ≡ with_soa (arc_value pending.old) ttl (data_fields item)) }
+    ensures ok { OnOk result (arc_value pending.new ≡ with_soa (arc_value pending.old) ttl (soa_fields (λ n. n) soa)) }
     ensures err { OnErr result (arc_value pending.new ≡ arc_value pending.old) }
 {
     let version = Arc::make_mut(pending)?;
-    version.set_soa(alloc, ttl, item)
+    version.set_soa(alloc, ttl, soa)
 }

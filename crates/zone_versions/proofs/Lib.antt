@@ -7,3 +7,5 @@ mod Stops
 pub mod TypedStops
 mod Distinct
 mod Sound
+pub mod NodeEdits
+pub mod NextSerial

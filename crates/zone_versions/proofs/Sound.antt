@@ -132,11 +132,11 @@ sound_put v owner rtype s h zone differ alias = by (length s.items == 0) refl
 items_in : Option RecordSet → List (List Field)
 items_in o = option_map_or (λ (s : RecordSet). s.items) o []
 
-record Stands (v : Version) (owner : Name) (rtype : ℕ) (items : List (List Field)) : Type 0 where
-  differ : all_differ items ≡ true
-  alias : (below_apex v owner && (rtype == type_cname)) ≡ true → length items ≤ 1
+pub record Stands (v : Version) (owner : Name) (rtype : ℕ) (items : List (List Field)) : Type 0 where
+  pub differ : all_differ items ≡ true
+  pub alias : (below_apex v owner && (rtype == type_cname)) ≡ true → length items ≤ 1
 
-data_stand : (v : Version) (owner : Name) (rtype : ℕ) → IsSound v → Stands v owner rtype (data_at v owner rtype)
+pub data_stand : (v : Version) (owner : Name) (rtype : ℕ) → IsSound v → Stands v owner rtype (data_at v owner rtype)
 data_stand v owner rtype h = by (set_at v owner rtype) refl
   where
     by : (o : Option RecordSet) → set_at v owner rtype ≡ o → Stands v owner rtype (option_map_or (λ (s : RecordSet). s.items) o [])

@@ -3,3 +3,4 @@ pub mod Puts
 pub mod Stops
 pub mod Strays
 pub mod Sound
+pub mod Nodes

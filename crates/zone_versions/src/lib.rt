@@ -5,6 +5,7 @@
 #![tactic(auto)]
 
 mod errors;
+mod nodes;
 mod version;
 mod walk;
 

@@ -31,9 +31,9 @@ use zone_sets::{KeyedSets, RecordSet, SetKey};
 /// One version of a zone (RFC 1034, 4.2): the apex as it was given, the class, and the record sets.
 #[derive(Drop)]
 pub struct ZoneVersion {
-    apex: StoredName,
+    pub(crate) apex: StoredName,
     class: Class,
-    sets: KeyedSets,
+    pub(crate) sets: KeyedSets,
 }
 
 impl Model for ZoneVersion {
