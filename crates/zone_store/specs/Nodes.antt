@@ -1,8 +1,6 @@
 -- A node of a session: a name of the zone that it edits (RFC 1034, 3.1).
-use Rattle.std.specs.Prelude.{ℕ, List, fold as fold_list}
 use Rattle.dns_name.specs.Names.{Name}
 use Rattle.zone_model.specs.Version.{Version}
-use Rattle.zone_model.specs.Edits.{remove_set}
 use Rattle.zone_model.specs.Session.{Session, with_pending}
 
 pub record Node : Type 0 where
@@ -12,7 +10,3 @@ pub record Node : Type 0 where
 -- the node with another version pending
 abbrev pub with_edit : Node → Version → Node
 with_edit n v = record n { session = with_pending n.session v }
-
--- the version without the sets of an owner and some types
-abbrev pub remove_sets : Version → Name → List ℕ → Version
-remove_sets v owner rtypes = fold_list (λ (w : Version) (t : ℕ). remove_set w owner t) v rtypes

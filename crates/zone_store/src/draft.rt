@@ -1,22 +1,25 @@
 // A version that is edited.
-ghost use Rattle.std.specs.Prelude.{◌≡◌, [], Ok, IfOk, OnOk, OnErr, if◌then◌else◌};
-ghost use Rattle.dns_rdata.specs.ZoneData.{data_fields};
+ghost use Rattle.std.specs.Prelude.{◌≡◌, [], Ok, Some, None, IfOk, OnOk, OnErr, true, false, if◌then◌else◌};
+ghost use Rattle.std.specs.Arc.{arc_value};
+ghost use Rattle.dns_name.specs.Names.{under};
+ghost use Rattle.dns_rdata.specs.DataFields.{soa_fields};
 ghost use Rattle.zone_model.specs.Version.{IsValid, all_differ};
 ghost use Rattle.zone_model.specs.Difference.{difference, diffable};
 ghost use Rattle.zone_model.specs.Edits as edits;
 ghost use Rattle.zone_model.specs.Edits.{add, delete, with_sets};
 ghost use Rattle.zone_versions.specs.Puts.{appended, without, with_soa};
-ghost use Rattle.zone_store.specs.Drafts.{draft, with_version};
+ghost use Rattle.zone_store.specs.Drafts.{draft, with_version, without_special};
 
 use crate::read::ReadZone;
-use dns_name::{Labelled, Rtype, Ttl};
-use dns_rdata::{RecordData, StoredRecord, StoredRecordData};
+use dns_name::{KeyName, Rtype, StoredName, Ttl};
+use dns_rdata::{Soa, StoredRecord};
 use std::alloc::{AllocError, Global};
 use std::marker::Model;
 use std::sync::Arc;
 use zone_changes::{TouchedKeys, difference};
 use zone_diffs::InMemoryZoneDiff;
-use zone_versions::{SetKey, ZoneVersion};
+use zone_sets::SetKey;
+use zone_versions::{RecordSet, ZoneVersion};
 
 /// A version that is edited, and the one that it began as. They agree but at the keys that were touched.
 #[derive(Drop)]
@@ -71,8 +74,7 @@ impl Draft {
     {
         self.touched
             .note(SetKey::new(added.owner(), added.rtype()))?;
-        let version = Arc::make_mut(&mut self.version)?;
-        version.append(alloc, added)
+        append(&mut self.version, alloc, added)
     }
 
     /// Takes the data of a record that isn't refused out of its set.
@@ -83,9 +85,7 @@ impl Draft {
     {
         self.touched
             .note(SetKey::new(deleted.owner(), deleted.rtype()))?;
-        let version = Arc::make_mut(&mut self.version)?;
-        version.remove(deleted);
-        Ok(())
+        remove(&mut self.version, deleted)
     }
 
     /// Makes the apex SOA set one record.
@@ -93,15 +93,68 @@ impl Draft {
         &mut self,
         alloc: Global,
         ttl: Ttl,
-        item: StoredRecordData,
+        soa: Soa<StoredName>,
     ) -> Result<(), AllocError>
-        ensures ok { OnOk result (self.new ≡ with_version self.old (with_soa self.old.version ttl (data_fields item))) }
+        ensures ok { OnOk result (self.new ≡ with_version self.old (with_soa self.old.version ttl (soa_fields (λ n. n) soa))) }
         ensures err { OnErr result (self.new ≡ self.old) }
     {
         self.touched
             .note(SetKey::new(self.version.apex(), Rtype::SOA))?;
-        let version = Arc::make_mut(&mut self.version)?;
-        version.set_soa(alloc, ttl, item)
+        set_soa(&mut self.version, alloc, ttl, soa)
+    }
+
+    /// Puts a set in place of the one of its owner and type; an empty one removes that.
+    pub(crate) fn put_set(&mut self, owner: &KeyName, set: RecordSet) -> Result<(), AllocError>
+        requires zone { under owner.now self.old.version.apex ≡ true }
+        requires differ { all_differ set.contents.items ≡ true }
+        requires alias { edits.is_bad_alias self.old.version owner.now set.rtype set.contents ≡ false }
+        ensures ok { OnOk result (self.new ≡ with_version self.old (edits.put_set self.old.version owner.now set.rtype set.contents)) }
+        ensures err { OnErr result (self.new ≡ self.old) }
+    {
+        self.touched.note(SetKey::new(owner, set.rtype()))?;
+        put_set(&mut self.version, owner, set)
+    }
+
+    /// Removes the set of an owner and type.
+    pub(crate) fn remove_set(&mut self, owner: &KeyName, rtype: Rtype) -> Result<(), AllocError>
+        ensures ok { OnOk result (self.new ≡ with_version self.old (edits.remove_set self.old.version owner.now rtype)) }
+        ensures err { OnErr result (self.new ≡ self.old) }
+    {
+        self.touched.note(SetKey::new(owner, rtype))?;
+        remove_set(&mut self.version, owner, rtype)
+    }
+
+    /// Removes the NS, DS and CNAME sets of an owner below the apex.
+    pub(crate) fn make_plain(&mut self, owner: &KeyName) -> Result<(), AllocError>
+        ensures ok { OnOk result (self.new ≡ with_version self.old (edits.make_plain self.old.version owner.now)) }
+        ensures err { OnErr result (self.new ≡ self.old) }
+    {
+        if !self.version.is_below_apex(owner) {
+            return Ok(());
+        }
+        self.touched.note(SetKey::new(owner, Rtype::NS))?;
+        self.touched.note(SetKey::new(owner, Rtype::DS))?;
+        self.touched.note(SetKey::new(owner, Rtype::CNAME))?;
+        remove_special(&mut self.version, owner)
+    }
+
+    /// Puts an address in the zone last in its set, unless equal data are there; the lower TTL stays. Other records change nothing.
+    pub(crate) fn add_glue(&mut self, alloc: Global, added: StoredRecord) -> Result<(), AllocError>
+        ensures ok { OnOk result (self.new ≡ with_version self.old (edits.add_glue self.old.version added)) }
+        ensures err { OnErr result (self.new ≡ self.old) }
+    {
+        self.touched
+            .note(SetKey::new(added.owner(), added.rtype()))?;
+        add_glue(&mut self.version, alloc, added)
+    }
+
+    /// Removes the sets of a name and of all names below it.
+    pub(crate) fn clear(&mut self, name: &KeyName) -> Result<(), AllocError>
+        ensures ok { OnOk result (self.new ≡ with_version self.old (edits.clear self.old.version name.now)) }
+        ensures err { OnErr result (self.new ≡ self.old) }
+    {
+        self.touched.note_below(&self.version, name)?;
+        clear(&mut self.version, name)
     }
 
     /// Removes every set.
@@ -113,6 +166,16 @@ impl Draft {
         self.touched.note_below(&self.version, self.version.apex())?;
         self.version = cleared;
         Ok(())
+    }
+
+    /// Counts the serial on from the one that it was, where the SOA is absent or as it was (RFC 1982, 3.1).
+    pub(crate) fn bump(&mut self, alloc: Global) -> Result<(), AllocError>
+        ensures ok { OnOk result (self.new ≡ with_version self.old (edits.bump self.old.base self.old.version)) }
+        ensures err { OnErr result (self.new ≡ self.old) }
+    {
+        self.touched
+            .note(SetKey::new(self.version.apex(), Rtype::SOA))?;
+        bump(&mut self.version, alloc, &self.base)
     }
 
     /// Leaves out what a commit leaves out: DS sets below the apex that lack NS (RFC 4035, 2.4).
@@ -148,4 +211,121 @@ impl Clone for Draft {
             touched: self.touched.clone()?,
         })
     }
+}
+
+/// Puts a record's data last in its set.
+fn append(
+    pending: &mut Arc<ZoneVersion>,
+    alloc: Global,
+    added: StoredRecord,
+) -> Result<(), AllocError>
+    requires { add (arc_value pending.old) added ≡ Ok (appended (arc_value pending.old) added) }
+    ensures ok { OnOk result (arc_value pending.new ≡ appended (arc_value pending.old) added) }
+    ensures err { OnErr result (arc_value pending.new ≡ arc_value pending.old) }
+{
+    let version = Arc::make_mut(pending)?;
+    version.append(alloc, added)
+}
+
+/// Takes a record's data out of its set.
+fn remove(pending: &mut Arc<ZoneVersion>, deleted: &StoredRecord) -> Result<(), AllocError>
+    requires { delete (arc_value pending.old) deleted.now ≡ Ok (without (arc_value pending.old) deleted.now) }
+    ensures ok { OnOk result (arc_value pending.new ≡ without (arc_value pending.old) deleted.now) }
+    ensures err { OnErr result (arc_value pending.new ≡ arc_value pending.old) }
+{
+    let version = Arc::make_mut(pending)?;
+    version.remove(deleted);
+    Ok(())
+}
+
+/// Makes the apex SOA set one record.
+fn set_soa(
+    pending: &mut Arc<ZoneVersion>,
+    alloc: Global,
+    ttl: Ttl,
+    soa: Soa<StoredName>,
+) -> Result<(), AllocError>
+    ensures ok { OnOk result (arc_value pending.new ≡ with_soa (arc_value pending.old) ttl (soa_fields (λ n. n) soa)) }
+    ensures err { OnErr result (arc_value pending.new ≡ arc_value pending.old) }
+{
+    let version = Arc::make_mut(pending)?;
+    version.set_soa(alloc, ttl, soa)
+}
+
+/// Puts a set in place of the one of its owner and type.
+fn put_set(
+    pending: &mut Arc<ZoneVersion>,
+    owner: &KeyName,
+    set: RecordSet,
+) -> Result<(), AllocError>
+    requires zone { under owner.now (arc_value pending.old).apex ≡ true }
+    requires differ { all_differ set.contents.items ≡ true }
+    requires alias { edits.is_bad_alias (arc_value pending.old) owner.now set.rtype set.contents ≡ false }
+    ensures ok { OnOk result (arc_value pending.new ≡ edits.put_set (arc_value pending.old) owner.now set.rtype set.contents) }
+    ensures err { OnErr result (arc_value pending.new ≡ arc_value pending.old) }
+{
+    let version = Arc::make_mut(pending)?;
+    version.put_set(owner, set)
+}
+
+/// Removes the set of an owner and type.
+fn remove_set(
+    pending: &mut Arc<ZoneVersion>,
+    owner: &KeyName,
+    rtype: Rtype,
+) -> Result<(), AllocError>
+    ensures ok { OnOk result (arc_value pending.new ≡ edits.remove_set (arc_value pending.old) owner.now rtype) }
+    ensures err { OnErr result (arc_value pending.new ≡ arc_value pending.old) }
+{
+    let version = Arc::make_mut(pending)?;
+    version.remove_set(owner, rtype);
+    Ok(())
+}
+
+/// Removes the NS, DS and CNAME sets of an owner.
+fn remove_special(pending: &mut Arc<ZoneVersion>, owner: &KeyName) -> Result<(), AllocError>
+    ensures ok { OnOk result (arc_value pending.new ≡ without_special (arc_value pending.old) owner.now) }
+    ensures err { OnErr result (arc_value pending.new ≡ arc_value pending.old) }
+{
+    let version = Arc::make_mut(pending)?;
+    version.remove_set(owner, Rtype::NS);
+    version.remove_set(owner, Rtype::DS);
+    version.remove_set(owner, Rtype::CNAME);
+    Ok(())
+}
+
+/// Removes the sets of a name and of all names below it.
+fn clear(pending: &mut Arc<ZoneVersion>, name: &KeyName) -> Result<(), AllocError>
+    ensures ok { OnOk result (arc_value pending.new ≡ edits.clear (arc_value pending.old) name.now) }
+    ensures err { OnErr result (arc_value pending.new ≡ arc_value pending.old) }
+{
+    let version = Arc::make_mut(pending)?;
+    version.clear(name);
+    Ok(())
+}
+
+/// Puts an address in the zone last in its set.
+fn add_glue(
+    pending: &mut Arc<ZoneVersion>,
+    alloc: Global,
+    added: StoredRecord,
+) -> Result<(), AllocError>
+    ensures ok { OnOk result (arc_value pending.new ≡ edits.add_glue (arc_value pending.old) added) }
+    ensures err { OnErr result (arc_value pending.new ≡ arc_value pending.old) }
+{
+    let version = Arc::make_mut(pending)?;
+    version.add_glue(alloc, added)
+}
+
+/// Counts the serial on from the published one.
+fn bump(
+    pending: &mut Arc<ZoneVersion>,
+    alloc: Global,
+    published: &ZoneVersion,
+) -> Result<(), AllocError>
+    ensures ok { OnOk result (arc_value pending.new ≡ edits.bump published.now (arc_value pending.old)) }
+    ensures err { OnErr result (arc_value pending.new ≡ arc_value pending.old) }
+{
+    let version = Arc::make_mut(pending)?;
+    version.bump(alloc, published)
 }

@@ -1,6 +1,5 @@
 // Edits of a session: each kind has one place.
 ghost use Rattle.std.specs.Prelude.{◌≡◌, ◌∷◌, [], true, false, OnOk, OnErr, IfOk, IfSome, option_copied, option_map, unwrap_or, fold as fold_list};
-ghost use Rattle.std.specs.Arc.{arc_value};
 ghost use Rattle.dns_name.specs.Names.{under};
 ghost use Rattle.dns_name.specs.Codes.{type_cname, type_ns, type_ds};
 ghost use Rattle.zone_model.specs.Version.{all_differ, set_at};
@@ -9,15 +8,13 @@ ghost use Rattle.zone_model.specs.Edits.{distinct_set};
 ghost use Rattle.zone_model.specs.Session.{with_pending};
 ghost use Rattle.zone_types.specs.TypedSets.{TypedSet};
 ghost use Rattle.zone_sets.specs.TypedEntries.{typed};
-ghost use Rattle.zone_store.specs.Nodes.{remove_sets};
 
 use crate::write::WriteZone;
 use dns_name::{KeyName, Rtype};
 use dns_rdata::StoredRecord;
-use std::alloc::{AllocError, Global};
-use std::sync::Arc;
+use std::alloc::AllocError;
 use zone_types::{Rrset, SharedRr, SharedRrset, ZoneCut};
-use zone_versions::{RecordSet, ZoneVersion};
+use zone_versions::RecordSet;
 
 // One place for each kind of edit.
 impl<'z> WriteZone<'z> {
@@ -30,22 +27,29 @@ impl<'z> WriteZone<'z> {
         ensures err { OnErr result (self.new ≡ self.old) }
     {
         let mut pending = self.take_pending()?;
-        let put = put_set(&mut pending, owner, set);
+        let put = pending.put_set(owner, set);
         self.keep(pending);
         put
     }
 
-    /// Removes the sets of an owner and some types.
-    pub(crate) fn remove_sets(
-        &mut self,
-        owner: &KeyName,
-        rtypes: &[Rtype],
-    ) -> Result<(), AllocError>
-        ensures ok { OnOk result (self.new ≡ with_pending self.old (remove_sets self.old.pending owner.now rtypes.now)) }
+    /// Removes the set of an owner and type.
+    pub(crate) fn remove_set(&mut self, owner: &KeyName, rtype: Rtype) -> Result<(), AllocError>
+        ensures ok { OnOk result (self.new ≡ with_pending self.old (edits.remove_set self.old.pending owner.now rtype)) }
         ensures err { OnErr result (self.new ≡ self.old) }
     {
         let mut pending = self.take_pending()?;
-        let removed = remove_sets(&mut pending, owner, rtypes);
+        let removed = pending.remove_set(owner, rtype);
+        self.keep(pending);
+        removed
+    }
+
+    /// Removes the NS, DS and CNAME sets of an owner below the apex.
+    pub(crate) fn make_plain(&mut self, owner: &KeyName) -> Result<(), AllocError>
+        ensures ok { OnOk result (self.new ≡ with_pending self.old (edits.make_plain self.old.pending owner.now)) }
+        ensures err { OnErr result (self.new ≡ self.old) }
+    {
+        let mut pending = self.take_pending()?;
+        let removed = pending.make_plain(owner);
         self.keep(pending);
         removed
     }
@@ -56,7 +60,7 @@ impl<'z> WriteZone<'z> {
         ensures err { OnErr result (self.new ≡ self.old) }
     {
         let mut pending = self.take_pending()?;
-        let cleared = clear(&mut pending, name);
+        let cleared = pending.clear(name);
         self.keep(pending);
         cleared
     }
@@ -68,7 +72,7 @@ impl<'z> WriteZone<'z> {
     {
         let alloc = self.memory();
         let mut pending = self.take_pending()?;
-        let put = add_glue(&mut pending, alloc, added);
+        let put = pending.add_glue(alloc, added);
         self.keep(pending);
         put
     }
@@ -107,7 +111,7 @@ impl<'z> WriteZone<'z> {
         ensures ok { OnOk result (self.new ≡ with_pending self.old (edits.make_cut self.old.pending owner.now cut.ns.contents (option_map (λ (s : TypedSet). s.contents) cut.ds) cut.glue.items)) }
         ensures err { OnErr result (self.new ≡ self.old) }
     {
-        let before = self.share()?;
+        let before = self.copy()?;
         let put = self.put_cut(owner, cut);
         if put.is_err() {
             self.keep(before);
@@ -137,7 +141,7 @@ impl<'z> WriteZone<'z> {
     {
         match signer {
             Some(set) => self.replace_set(owner, set),
-            None => self.remove_sets(owner, &[Rtype::DS]),
+            None => self.remove_set(owner, Rtype::DS),
         }
     }
 
@@ -151,66 +155,4 @@ impl<'z> WriteZone<'z> {
         }
         Ok(())
     }
-}
-
-/// Puts a set in place of the one of its owner and type.
-fn put_set(
-    pending: &mut Arc<ZoneVersion>,
-    owner: &KeyName,
-    set: RecordSet,
-) -> Result<(), AllocError>
-    requires zone { under owner.now (arc_value pending.old).apex ≡ true }
-    requires differ { all_differ set.contents.items ≡ true }
-    requires alias { edits.is_bad_alias (arc_value pending.old) owner.now set.rtype set.contents ≡ false }
-    ensures ok { OnOk result (arc_value pending.new ≡ edits.put_set (arc_value pending.old) owner.now set.rtype set.contents) }
-    ensures err { OnErr result (arc_value pending.new ≡ arc_value pending.old) }
-{
-    let version = Arc::make_mut(pending)?;
-    version.put_set(owner, set)
-}
-
-/// Removes the sets of an owner and some types.
-fn remove_sets(
-    pending: &mut Arc<ZoneVersion>,
-    owner: &KeyName,
-    rtypes: &[Rtype],
-) -> Result<(), AllocError>
-    ensures ok { OnOk result (arc_value pending.new ≡ remove_sets (arc_value pending.old) owner.now rtypes.now) }
-    ensures err { OnErr result (arc_value pending.new ≡ arc_value pending.old) }
-{
-    let version = Arc::make_mut(pending)?;
-    remove_each(version, owner, rtypes);
-    Ok(())
-}
-
-/// Removes the sets of an owner and some types.
-fn remove_each(version: &mut ZoneVersion, owner: &KeyName, rtypes: &[Rtype])
-    ensures { version.new ≡ remove_sets version.old owner.now rtypes.now }
-{
-    for rtype in rtypes {
-        version.remove_set(owner, *rtype);
-    }
-}
-
-/// Removes the sets of a name and of all names below it.
-fn clear(pending: &mut Arc<ZoneVersion>, name: &KeyName) -> Result<(), AllocError>
-    ensures ok { OnOk result (arc_value pending.new ≡ edits.clear (arc_value pending.old) name.now) }
-    ensures err { OnErr result (arc_value pending.new ≡ arc_value pending.old) }
-{
-    let version = Arc::make_mut(pending)?;
-    version.clear(name);
-    Ok(())
-}
-
-/// Puts an address in the zone last in its set.
-fn add_glue(
-    pending: &mut Arc<ZoneVersion>,
-    alloc: Global,
-    added: StoredRecord,
-) -> Result<(), AllocError>
-    ensures ok { OnOk result (arc_value pending.new ≡ edits.add_glue (arc_value pending.old) added) }
-    ensures err { OnErr result (arc_value pending.new ≡ arc_value pending.old) }
-{
-    let version = Arc::make_mut(pending)?;
-    version.add_glue(alloc, added)
 }

@@ -107,7 +107,7 @@ impl<'s, 'z> WriteNode<'s, 'z> {
         ensures ok { OnOk result (self.new ≡ with_edit self.old (edits.remove_set self.old.session.pending self.old.name rtype)) }
         ensures err { OnErr result (self.new ≡ self.old) }
     {
-        self.session.remove_sets(&self.name, &[rtype])
+        self.session.remove_set(&self.name, rtype)
     }
 
     /// Makes the node a plain one: below the apex its NS, DS and CNAME sets go.
@@ -115,11 +115,7 @@ impl<'s, 'z> WriteNode<'s, 'z> {
         ensures ok { OnOk result (self.new ≡ with_edit self.old (make_plain self.old.session.pending self.old.name)) }
         ensures err { OnErr result (self.new ≡ self.old) }
     {
-        if !self.is_below_apex() {
-            return Ok(());
-        }
-        self.session
-            .remove_sets(&self.name, &[Rtype::NS, Rtype::DS, Rtype::CNAME])
+        self.session.make_plain(&self.name)
     }
 
     /// Whether the node isn't the apex.

@@ -3,20 +3,21 @@ ghost use Rattle.std.specs.Prelude.{◌≡◌, ◌↔◌, ◌-◌, ◌^◌, [], 
 ghost use Rattle.zone_model.specs.Edits.{add, delete, with_sets};
 ghost use Rattle.zone_model.specs.Edits as edits;
 ghost use Rattle.zone_model.specs.Version.{IsValid};
-ghost use Rattle.zone_model.specs.Session.{opened_session, with_pending, committed, rolled_back};
+ghost use Rattle.zone_model.specs.Session.{opened_session, with_pending, closed, committed, rolled_back, told_difference};
 ghost use Rattle.zone_versions.specs.Causes.{refusal_of};
 ghost use Rattle.zone_versions.specs.Puts.{appended, without, with_soa};
 ghost use Rattle.dns_rdata.specs.DataFields.{soa_fields};
-ghost use Rattle.std.specs.Arc.{arc_value};
+ghost use Rattle.zone_store.specs.Drafts.{draft, told_of};
 
 use crate::apex::ZoneApex;
+use crate::draft::Draft;
 use crate::errors::CommitError;
 use crate::read::ReadZone;
 use dns_name::{StoredName, Ttl};
 use dns_rdata::{Soa, StoredRecord};
 use std::alloc::{AllocError, Global};
 use std::marker::Model;
-use std::sync::Arc;
+use zone_diffs::InMemoryZoneDiff;
 use zone_versions::{EditError, ZoneVersion};
 
 /// The one session of a zone: it edits what is pending, and publishes it by `commit`. What is pending when it is dropped is gone.
@@ -24,22 +25,21 @@ use zone_versions::{EditError, ZoneVersion};
 pub struct WriteZone<'z> {
     alloc: Global,
     zone: &'z mut ZoneApex,
-    pending: Option<Arc<ZoneVersion>>,
+    pending: Option<Draft>,
     compares: bool,
     spare: Option<ReadZone>,
 }
 
 impl<'z> Model for WriteZone<'z> {
     ghost use Rattle.std.specs.Prelude.{◌≡◌, is_some, option_map, IfSome};
-    ghost use Rattle.std.specs.Arc.{arc_value};
     ghost use Rattle.zone_model.specs.Session.{Session};
-    ghost use Rattle.zone_store.specs.Pending.{pending_of};
+    ghost use Rattle.zone_store.specs.Drafts.{pending_of, version_of};
 
     ghost Value = { Session };
 
-    ghost view = { λ s. record { current = s.zone.now; pending = pending_of s.zone.now.version (option_map arc_value s.pending); compares = s.compares; has_handle = is_some s.spare } };
+    ghost view = { λ s. record { current = s.zone.now; pending = pending_of s.zone.now.version (option_map version_of s.pending); compares = s.compares; has_handle = is_some s.spare } };
 
-    ghost invariant = { λ s. IfSome s.spare (λ z. z ≡ s.zone.now) };
+    ghost invariant = { λ s. IfSome s.spare (λ z. z ≡ s.zone.now) × IfSome s.pending (λ d. d.base ≡ s.zone.now.version) };
 }
 
 impl<'z> WriteZone<'z> {
@@ -68,7 +68,7 @@ impl<'z> WriteZone<'z> {
         ensures { result.now ≡ self.now.pending }
     {
         match &self.pending {
-            Some(version) => version,
+            Some(pending) => pending.shown(),
             None => self.zone.current().contents(),
         }
     }
@@ -81,20 +81,21 @@ impl<'z> WriteZone<'z> {
     }
 
     /// Takes what is pending out to be edited.
-    pub(crate) fn take_pending(&mut self) -> Result<Arc<ZoneVersion>, AllocError>
-        ensures ok { IfOk result (λ v. arc_value v ≡ self.old.pending) }
+    pub(crate) fn take_pending(&mut self) -> Result<Draft, AllocError>
+        ensures ok { IfOk result (λ d. d ≡ draft self.old.current.version self.old.pending) }
         ensures rest { OnOk result (self.new ≡ with_pending self.old self.old.current.version) }
         ensures err { OnErr result (self.new ≡ self.old) }
     {
         match self.pending.take() {
-            Some(version) => Ok(version),
-            None => self.zone.current().share(),
+            Some(pending) => Ok(pending),
+            None => Draft::of(self.alloc, self.zone.current()),
         }
     }
 
-    /// Makes a version what is pending.
-    pub(crate) fn keep(&mut self, pending: Arc<ZoneVersion>)
-        ensures { self.new ≡ with_pending self.old (arc_value pending) }
+    /// Makes an edited version what is pending.
+    pub(crate) fn keep(&mut self, pending: Draft)
+        requires { pending.base ≡ self.old.current.version }
+        ensures { self.new ≡ with_pending self.old pending.version }
     {
         self.pending = Some(pending);
     }
@@ -119,8 +120,8 @@ impl<'z> WriteZone<'z> {
         }
         let alloc = self.alloc;
         let mut pending = self.take_pending()?;
-        let appended = append(&mut pending, alloc, added);
-        self.pending = Some(pending);
+        let appended = pending.append(alloc, added);
+        self.keep(pending);
         Ok(appended?)
     }
 
@@ -137,8 +138,8 @@ impl<'z> WriteZone<'z> {
             return Err(error);
         }
         let mut pending = self.take_pending()?;
-        let removed = remove(&mut pending, deleted);
-        self.pending = Some(pending);
+        let removed = pending.remove(deleted);
+        self.keep(pending);
         Ok(removed?)
     }
 
@@ -149,8 +150,8 @@ impl<'z> WriteZone<'z> {
     {
         let alloc = self.alloc;
         let mut pending = self.take_pending()?;
-        let put = set_soa(&mut pending, alloc, ttl, soa);
-        self.pending = Some(pending);
+        let put = pending.set_soa(alloc, ttl, soa);
+        self.keep(pending);
         put
     }
 
@@ -159,14 +160,23 @@ impl<'z> WriteZone<'z> {
         ensures ok { OnOk result (self.new ≡ with_pending self.old (with_sets self.old.pending [])) }
         ensures err { OnErr result (self.new ≡ self.old) }
     {
-        let cleared = self.shown().emptied(self.alloc)?;
-        self.pending = Some(Arc::new(self.alloc, cleared)?);
-        Ok(())
+        let alloc = self.alloc;
+        let mut pending = self.take_pending()?;
+        let cleared = pending.clear_all(alloc);
+        self.keep(pending);
+        cleared
     }
 
-    /// Publishes what is pending, without DS sets below the apex that lack NS, as the zone's current version with the next number.
-    pub fn commit(&mut self) -> Result<(), CommitError>
-        ensures ok { OnOk result (self.new ≡ committed self.old false) }
+    /// Publishes what is pending, without DS sets below the apex that lack NS (RFC 4035, 2.4), as the zone's current version with the next number.
+    /// With `bump_soa_serial` a pending SOA that is absent, or as published, becomes the published one with the next serial (RFC 1982, 3.1).
+    /// Told is the difference to the version before (RFC 1995, 4), where it was asked for since the last commit or rollback (`open`), both
+    /// versions have an SOA record at the apex, and the new serial is neither the old one nor before it.
+    pub fn commit(
+        &mut self,
+        bump_soa_serial: bool,
+    ) -> Result<Option<InMemoryZoneDiff>, CommitError>
+        ensures ok { OnOk result (self.new ≡ committed self.old bump_soa_serial) }
+        ensures difference { IfOk result (λ told. told ≡ told_difference self.old bump_soa_serial) }
         ensures exhausted { (result ≡ Err CommitError.VersionsExhausted) ↔ (self.old.current.number ≡ 2 ^ 64 - 1) }
         ensures err { OnErr result (self.new ≡ self.old) }
     {
@@ -174,33 +184,47 @@ impl<'z> WriteZone<'z> {
         if number == u64::MAX {
             return Err(CommitError::VersionsExhausted);
         }
-        let next = ReadZone::of(number + 1, self.closed()?);
+        let next = self.closed(bump_soa_serial)?;
+        let told = self.told(&next)?;
+        let next = ReadZone::of(number + 1, next.into_version());
         let spare = next.clone()?;
         self.zone.publish(next);
         self.pending = None;
         self.compares = false;
         self.spare = Some(spare);
-        Ok(())
+        Ok(told)
     }
 
     /// What a commit publishes.
-    fn closed(&self) -> Result<Arc<ZoneVersion>, AllocError>
-        ensures is { IfOk result (λ v. v.value ≡ edits.close self.now.pending) }
-        ensures valid { IfOk result (λ v. IsValid v.value) }
+    fn closed(&self, bumps: bool) -> Result<Draft, AllocError>
+        ensures is { IfOk result (λ d. d ≡ draft self.now.current.version (closed self.now bumps)) }
+        ensures valid { IfOk result (λ d. IsValid d.version) }
     {
-        if self.shown().has_stray() {
-            return Ok(Arc::new(self.alloc, self.shown().closed()?)?);
+        let mut next = self.copy()?;
+        if bumps {
+            next.bump(self.alloc)?;
         }
-        self.share()
+        next.close(self.alloc)?;
+        Ok(next)
     }
 
-    /// One more owner of what is pending.
-    pub(crate) fn share(&self) -> Result<Arc<ZoneVersion>, AllocError>
-        ensures { IfOk result (λ v. arc_value v ≡ self.now.pending) }
+    /// What a commit of it tells.
+    fn told(&self, next: &Draft) -> Result<Option<InMemoryZoneDiff>, AllocError>
+        ensures { IfOk result (λ d. d ≡ told_of self.now.compares next.now) }
+    {
+        if !self.compares {
+            return Ok(None);
+        }
+        next.difference(self.alloc)
+    }
+
+    /// A copy of what is pending.
+    pub(crate) fn copy(&self) -> Result<Draft, AllocError>
+        ensures { IfOk result (λ d. d ≡ draft self.now.current.version self.now.pending) }
     {
         match &self.pending {
-            Some(version) => version.clone(),
-            None => self.zone.current().share(),
+            Some(pending) => pending.clone(),
+            None => Draft::of(self.alloc, self.zone.current()),
         }
     }
 
@@ -223,43 +247,4 @@ impl<'z> WriteZone<'z> {
             None => self.zone.read(),
         }
     }
-}
-
-/// Puts a record's data last in its set.
-fn append(
-    pending: &mut Arc<ZoneVersion>,
-    alloc: Global,
-    added: StoredRecord,
-) -> Result<(), AllocError>
-    requires { add (arc_value pending.old) added ≡ Ok (appended (arc_value pending.old) added) }
-    ensures ok { OnOk result (arc_value pending.new ≡ appended (arc_value pending.old) added) }
-    ensures err { OnErr result (arc_value pending.new ≡ arc_value pending.old) }
-{
-    let version = Arc::make_mut(pending)?;
-    version.append(alloc, added)
-}
-
-/// Takes a record's data out of its set.
-fn remove(pending: &mut Arc<ZoneVersion>, deleted: &StoredRecord) -> Result<(), AllocError>
-    requires { delete (arc_value pending.old) deleted.now ≡ Ok (without (arc_value pending.old) deleted.now) }
-    ensures ok { OnOk result (arc_value pending.new ≡ without (arc_value pending.old) deleted.now) }
-    ensures err { OnErr result (arc_value pending.new ≡ arc_value pending.old) }
-{
-    let version = Arc::make_mut(pending)?;
-    version.remove(deleted);
-    Ok(())
-}
-
-/// Makes the apex SOA set one record.
-fn set_soa(
-    pending: &mut Arc<ZoneVersion>,
-    alloc: Global,
-    ttl: Ttl,
-    soa: Soa<StoredName>,
-) -> Result<(), AllocError>
-    ensures ok { OnOk result (arc_value pending.new ≡ with_soa (arc_value pending.old) ttl (soa_fields (λ n. n) soa)) }
-    ensures err { OnErr result (arc_value pending.new ≡ arc_value pending.old) }
-{
-    let version = Arc::make_mut(pending)?;
-    version.set_soa(alloc, ttl, soa)
 }
