@@ -3,11 +3,13 @@
 
 mod apex;
 mod builder;
-mod draft;
 mod child;
+mod draft;
 mod edits;
 mod errors;
 mod node;
+#[cfg(test)]
+mod node_tests;
 mod read;
 #[cfg(test)]
 mod tests;
