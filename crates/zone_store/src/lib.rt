@@ -7,6 +7,8 @@ mod child;
 mod edits;
 mod errors;
 mod node;
+#[cfg(test)]
+mod node_tests;
 mod read;
 #[cfg(test)]
 mod tests;

@@ -6,12 +6,12 @@ use dns_rdata::{A, Cname, Ns, Record, Soa, StoredRecord, ZoneRecordData};
 use std::alloc::Global;
 use std::process::Abort;
 
-fn name<R: Abort>(rt: &R, alloc: Global, octets: &[u8]) -> StoredName {
+pub(crate) fn name<R: Abort>(rt: &R, alloc: Global, octets: &[u8]) -> StoredName {
     let found = NameRef::from_octets(octets).expect(rt, "a name");
     found.store(alloc).expect(rt, "memory")
 }
 
-fn address<R: Abort>(rt: &R, alloc: Global, owner: &[u8], last: u8) -> StoredRecord {
+pub(crate) fn address<R: Abort>(rt: &R, alloc: Global, owner: &[u8], last: u8) -> StoredRecord {
     let octets = ZoneRecordData::A(A::new([192, 0, 2, last]));
     let owner = name(rt, alloc, owner);
     Record::new(owner, Class::IN, Ttl::from_int(60), octets)
@@ -60,7 +60,7 @@ fn fill<R: Abort>(rt: &R, alloc: Global, session: &mut WriteZone<'_>) {
     session.commit().expect(rt, "a version");
 }
 
-fn filled<R: Abort>(rt: &R, alloc: Global) -> ZoneApex {
+pub(crate) fn filled<R: Abort>(rt: &R, alloc: Global) -> ZoneApex {
     let mut zone = zone(rt, alloc);
     let mut session = zone.write(alloc);
     fill(rt, alloc, &mut session);
