@@ -246,7 +246,7 @@ fn commit(session: &mut WriteZone<'_>) -> Result<(), Error>
     ensures err { IfErr result (λ e. (session.new ≡ session.old) × (update_fault_of e ≡ None)) }
     ensures exhausted { (result ≡ Err VersionsExhausted) ↔ (session.old.current.number ≡ 2 ^ 64 - 1) }
 {
-    match session.commit() {
+    match session.commit(false) {
         Ok(()) => Ok(()),
         Err(CommitError::VersionsExhausted) => Err(Error::VersionsExhausted),
         Err(CommitError::Memory) => Err(Error::Memory),

@@ -30,7 +30,7 @@ fn commit<R: Abort>(rt: &R, alloc: Global, zone: &mut Zone<ZoneApex>, added: &[(
         let added = address(rt, alloc, owner, *last);
         session.add_record(added).expect(rt, "a new record");
     }
-    session.commit().expect(rt, "a version");
+    session.commit(false).expect(rt, "a version");
 }
 
 /// The owners that a walk visits, one behind the other.

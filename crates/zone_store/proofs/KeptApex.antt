@@ -1,5 +1,5 @@
 -- Edits keep a version's apex.
-use Rattle.std.proofs.Common.{◌≡◌, ℕ, ◌==◌, Bool, true, false, ◌||◌, not, if◌then◌else◌, List, [], ◌∷◌, length, fold, refl, ap, ◌∙◌, Option, unwrap_or}
+use Rattle.std.proofs.Common.{◌≡◌, ℕ, ◌==◌, Bool, true, false, ◌||◌, not, if◌then◌else◌, List, [], ◌∷◌, length, fold, refl, ◌∙◌, Option, unwrap_or}
 use Rattle.std.specs.BTreeMap.{insert_entry}
 use Rattle.dns_name.specs.Names.{Name}
 use Rattle.dns_name.specs.Names as names
