@@ -247,7 +247,7 @@ fn commit(session: &mut WriteZone<'_>) -> Result<(), Error>
     ensures exhausted { (result ≡ Err VersionsExhausted) ↔ (session.old.current.number ≡ 2 ^ 64 - 1) }
 {
     match session.commit(false) {
-        Ok(()) => Ok(()),
+        Ok(_) => Ok(()),
         Err(CommitError::VersionsExhausted) => Err(Error::VersionsExhausted),
         Err(CommitError::Memory) => Err(Error::Memory),
     }

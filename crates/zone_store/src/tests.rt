@@ -192,7 +192,7 @@ fn refuses_what_does_not_fit(rt: HostRuntime) {
     assert_eq!(rt; outside, Err(EditError::OutOfZone));
     let again = session.add_record(address(&rt, rt.alloc(), b"\x02NS\x07example\x00", 2));
     assert_eq!(rt; again, Err(EditError::Incompatible));
-    assert_eq!(rt; session.commit(false).map(|_| ()), Ok(()));
+    assert!(rt; session.commit(false).is_ok());
 }
 
 #[test]
@@ -239,7 +239,7 @@ fn a_session_refuses_a_second_alias(rt: HostRuntime) {
     let other = alias(&rt, alloc, b"\x01B\x07example\x00", b"\x01c\x07example\x00");
     let refused = session.add_record(other);
     assert_eq!(rt; refused, Err(EditError::InvalidData));
-    assert_eq!(rt; session.commit(false).map(|_| ()), Ok(()));
+    assert!(rt; session.commit(false).is_ok());
 }
 
 #[test]
