@@ -4,6 +4,8 @@
 mod apex;
 mod builder;
 mod child;
+#[cfg(test)]
+mod diff_tests;
 mod draft;
 mod edits;
 mod errors;

@@ -33,7 +33,7 @@ fn apex_server<R: Abort>(rt: &R, alloc: Global) -> StoredRecord {
     server(rt, alloc, b"\x07example\x00", b"\x02ns\x07example\x00")
 }
 
-fn soa<R: Abort>(rt: &R, alloc: Global, serial: u32) -> Soa<StoredName> {
+pub(crate) fn soa<R: Abort>(rt: &R, alloc: Global, serial: u32) -> Soa<StoredName> {
     let primary = name(rt, alloc, b"\x02ns\x07example\x00");
     let mailbox = name(rt, alloc, b"\x04host\x07example\x00");
     let serial = Serial::from(serial);
@@ -41,7 +41,7 @@ fn soa<R: Abort>(rt: &R, alloc: Global, serial: u32) -> Soa<StoredName> {
     Soa::new(primary, mailbox, serial, time, time, time, time)
 }
 
-fn zone<R: Abort>(rt: &R, alloc: Global) -> ZoneApex {
+pub(crate) fn zone<R: Abort>(rt: &R, alloc: Global) -> ZoneApex {
     let apex = name(rt, alloc, b"\x07Example\x00");
     ZoneApex::new(alloc, apex, Class::IN).expect(rt, "memory")
 }
