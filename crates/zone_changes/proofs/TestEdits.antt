@@ -1,5 +1,5 @@
 -- An edit of a version at a key that was noted.
-use Rattle.std.proofs.Common.{◌≡◌, ℕ, List, sym, ap, ◌∙◌, subst, Result, Ok, Err, OnOk}
+use Rattle.std.proofs.Common.{◌≡◌, ℕ, List, sym, ap, ◌∙◌, subst, Result, Ok, OnOk}
 use Rattle.dns_name.specs.Names.{Name, fold}
 use Rattle.zone_model.specs.Version.{RecordSet, Key, Sets, Version}
 use Rattle.zone_model.specs.Edits.{put_set}

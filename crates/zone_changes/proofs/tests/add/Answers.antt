@@ -1,4 +1,4 @@
-use Rattle.std.proofs.Common.{◌≡◌, ◌∙◌, ◌++◌, ◌∷◌, []}
+use Rattle.std.proofs.Common.{◌∙◌, ◌++◌, ◌∷◌, []}
 use Rattle.dns_name.specs.Names.{fold}
 use Rattle.zone_model.specs.Version.{data_at}
 use Rattle.zone_changes.proofs.TestEdits.{when_ok, covers_noted_put}

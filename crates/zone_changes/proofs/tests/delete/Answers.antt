@@ -1,4 +1,4 @@
-use Rattle.std.proofs.Common.{◌≡◌, ◌∙◌, not, filter}
+use Rattle.std.proofs.Common.{◌∙◌, not, filter}
 use Rattle.dns_name.specs.Names.{fold}
 use Rattle.dns_rdata.specs.Records.{same_data}
 use Rattle.zone_model.specs.Version.{data_at}
