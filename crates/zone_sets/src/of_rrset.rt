@@ -35,11 +35,7 @@ fn first_of_equal(alloc: Global, set: &Rrset) -> Result<RecordSet, AllocError>
 }
 
 /// Puts data of the set's type last, unless equal data are in the set.
-fn push_new(
-    into: &mut RecordSet,
-    alloc: Global,
-    item: &StoredRecordData,
-) -> Result<(), AllocError>
+fn push_new(into: &mut RecordSet, alloc: Global, item: &StoredRecordData) -> Result<(), AllocError>
     requires { rtype_of item.now ≡ into.old.rtype }
     ensures { OnOk result (into.new ≡ set_of into.old.rtype into.old.contents.ttl (if list_any (same_data (data_fields item.now)) into.old.contents.items then into.old.contents.items else into.old.contents.items ++ data_fields item.now ∷ [])) }
 {

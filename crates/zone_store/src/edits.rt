@@ -133,7 +133,11 @@ impl<'z> WriteZone<'z> {
     }
 
     /// Puts the DS set of a zone cut; without one, what was there goes.
-    fn put_signer(&mut self, owner: &KeyName, signer: &Option<SharedRrset>) -> Result<(), AllocError>
+    fn put_signer(
+        &mut self,
+        owner: &KeyName,
+        signer: &Option<SharedRrset>,
+    ) -> Result<(), AllocError>
         requires zone { under owner.now self.old.pending.apex ≡ true }
         requires ds { IfSome signer.now (λ s. s.rtype ≡ type_ds) }
         ensures ok { OnOk result (self.new ≡ with_pending self.old (edits.put_set self.old.pending owner.now type_ds (distinct_set (unwrap_or (option_map (λ (s : TypedSet). s.contents) signer.now) (record { ttl = 0; items = [] }))))) }

@@ -31,8 +31,7 @@ fn target<R: Abort>(rt: &R, alloc: Global, octets: &[u8]) -> StoredRecordData {
 
 fn aliases<R: Abort>(rt: &R, alloc: Global, first: &[u8], second: &[u8]) -> SharedRrset {
     let mut set = Rrset::new(alloc, Rtype::CNAME, Ttl::from_int(30));
-    set.push_data(target(rt, alloc, first))
-        .expect(rt, "memory");
+    set.push_data(target(rt, alloc, first)).expect(rt, "memory");
     set.push_data(target(rt, alloc, second))
         .expect(rt, "memory");
     set.into_shared(alloc).expect(rt, "memory")
@@ -85,7 +84,10 @@ fn reaches_names_below(rt: HostRuntime) {
     let mut session = zone.write(alloc);
     let node = child(&rt, session.node(), b"a");
     let mut node = child(&rt, node, b"B");
-    assert_eq!(rt; node.name().as_slice(), b"\x01B\x01a\x07Example\x00".as_slice());
+    assert_eq!(rt;
+        node.name().as_slice(),
+        b"\x01B\x01a\x07Example\x00".as_slice()
+    );
     assert!(rt; node.get_rrset(Rtype::A).is_none());
     let put = node.update_rrset(hosts(&rt, alloc, 1, 2));
     assert_eq!(rt; put, Ok(()));

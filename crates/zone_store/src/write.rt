@@ -101,8 +101,7 @@ impl<'z> WriteZone<'z> {
     }
 
     /// Where memory comes from.
-    pub(crate) fn memory(&self) -> Global
-    {
+    pub(crate) fn memory(&self) -> Global {
         self.alloc
     }
 

@@ -160,12 +160,7 @@ impl ZoneVersion {
     }
 
     /// Makes the apex SOA set this one record.
-    fn put_soa(
-        &mut self,
-        alloc: Global,
-        ttl: Ttl,
-        item: StoredRecordData,
-    ) -> Result<(), AllocError>
+    fn put_soa(&mut self, alloc: Global, ttl: Ttl, item: StoredRecordData) -> Result<(), AllocError>
         requires { rtype_of item ≡ type_soa }
         ensures ok { OnOk result (self.new ≡ with_soa self.old ttl (data_fields item)) }
         ensures err { OnErr result (self.new ≡ self.old) }
@@ -251,7 +246,5 @@ fn with_next(soa: &Soa<StoredName>) -> Result<Soa<StoredName>, AllocError>
     let serial = soa.serial().add(1);
     let (refresh, retry) = (soa.refresh(), soa.retry());
     let (expire, minimum) = (soa.expire(), soa.minimum());
-    Ok(Soa::new(
-        mname, rname, serial, refresh, retry, expire, minimum,
-    ))
+    Ok(Soa::new(mname, rname, serial, refresh, retry, expire, minimum))
 }

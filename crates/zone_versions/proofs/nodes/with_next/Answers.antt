@@ -13,12 +13,12 @@ returns c =
     ap (soa_fields (λ n. n))
     (c.new.ensures
     ∙ (λ i. record {
-        mname = (c.in_ok-mname.ensures.cases ∙ c.mname.ensures) i;
-        rname = (c.in_ok-rname.ensures.cases ∙ c.rname.ensures) i;
-        serial = next;
-        refresh = c.refresh-refresh.ensures i;
-        retry = c.retry-retry.ensures i;
-        expire = c.expire-expire.ensures i;
-        minimum = c.minimum-minimum.ensures i;
-      }))
+      mname = (c.in_ok-mname.ensures.cases ∙ c.mname.ensures) i;
+      rname = (c.in_ok-rname.ensures.cases ∙ c.rname.ensures) i;
+      serial = next;
+      refresh = c.refresh-refresh.ensures i;
+      retry = c.retry-retry.ensures i;
+      expire = c.expire-expire.ensures i;
+      minimum = c.minimum-minimum.ensures i;
+    }))
     ∙ with_serial_is old next (omega (arith, counted)) ∙ ap (λ (n : ℕ). with_serial n (soa_fields (λ m. m) old)) (counted ∙ ap (λ (n : ℕ). (n + 1) % 2 ^ 32) c.serial.ensures.of_fields)
