@@ -3,7 +3,10 @@
 
 mod answer;
 mod content;
+mod lent;
 mod parts;
+mod sections;
+mod sending;
 
 pub use answer::Answer;
 pub use content::AnswerContent;
