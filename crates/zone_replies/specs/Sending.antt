@@ -85,13 +85,16 @@ cut_replies request a q =
     ∷ reply_with request a true [] [] []
     ∷ []
 
--- the messages that say an answer, fullest first: with all records, without the additional ones that it may do without, and those that are cut
--- (RFC 2181, 9)
+-- the message with all records, and that without the additional records that the answer may do without
+abbrev pub whole_reply : List ℕ → Reply → Question → Message
+whole_reply request a q = reply_with request a false (answers_of q a) (authority_of q a) (required_of a ++ discardable_of a)
+
+abbrev pub needed_reply : List ℕ → Reply → Question → Message
+needed_reply request a q = reply_with request a false (answers_of q a) (authority_of q a) (required_of a)
+
+-- the messages that say an answer, fullest first: whole, with what it needs, and those that are cut (RFC 2181, 9)
 abbrev pub replies_to : List ℕ → Reply → Question → List Message
-replies_to request a q =
-    reply_with request a false (answers_of q a) (authority_of q a) (required_of a ++ discardable_of a)
-    ∷ reply_with request a false (answers_of q a) (authority_of q a) (required_of a)
-    ∷ cut_replies request a q
+replies_to request a q = whole_reply request a q ∷ needed_reply request a q ∷ cut_replies request a q
 
 -- the first of these that is within the limit
 abbrev pub first_within : ℕ → List Message → Option Message
