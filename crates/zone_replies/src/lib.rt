@@ -3,7 +3,13 @@
 
 mod answer;
 mod content;
+mod laws;
+mod lent;
 mod parts;
+mod sections;
+mod sending;
+#[cfg(test)]
+mod tests;
 
 pub use answer::Answer;
 pub use content::AnswerContent;

@@ -1,0 +1,77 @@
+// Records without their owner, as they are sent at a name.
+ghost use Rattle.std.specs.Prelude.{◌≡◌, ◌++◌, OnOk, length, take};
+ghost use Rattle.dns_rdata.specs.Records.{record_wire};
+ghost use Rattle.dns_rdata.specs.ZoneData.{data_fields};
+
+use dns_name::{Class, KeyName, Labelled, Rtype, Ttl};
+use dns_rdata::{ComposeRecord, RecordData, StoredRecordData};
+use std::alloc::AllocError;
+use std::marker::Model;
+
+/// A record of these parts, its owner and its data lent. Contracts see the record.
+#[derive(Drop)]
+pub(crate) struct LentRecord<'r> {
+    owner: &'r KeyName,
+    rtype: Rtype,
+    class: Class,
+    ttl: Ttl,
+    rdata: &'r StoredRecordData,
+}
+
+impl<'r> Model for LentRecord<'r> {
+    ghost use Rattle.dns_rdata.specs.Records.{Record};
+    ghost use Rattle.dns_rdata.specs.ZoneData.{data_fields};
+
+    ghost Value = { Record };
+
+    ghost view = { λ r. record { owner = r.owner.now; rtype = r.rtype; class = r.class; ttl = r.ttl; fields = data_fields r.rdata.now } };
+}
+
+impl<'r> LentRecord<'r> {
+    /// The record of these parts.
+    pub(crate) fn new(
+        owner: &'r KeyName,
+        rtype: Rtype,
+        class: Class,
+        ttl: Ttl,
+        rdata: &'r StoredRecordData,
+    ) -> LentRecord<'r>
+        ensures { result ≡ record { owner = owner.now; rtype = rtype; class = class; ttl = ttl; fields = data_fields rdata.now } }
+    {
+        LentRecord {
+            owner,
+            rtype,
+            class,
+            ttl,
+            rdata,
+        }
+    }
+
+    /// The record at the end; where memory runs out, a part of it may be there.
+    #[tactic(auto, using(rdata_octets::proofs::Writing::begins, std::proofs::lemmas::List::append_assoc))]
+    fn compose_parts(&self, out: &mut Vec<u8>) -> Result<(), AllocError>
+        ensures ok { OnOk result (out.new.items ≡ out.old.items ++ record_wire self.now) }
+        ensures begins { take (length out.old.items) out.new.items ≡ out.old.items }
+    {
+        self.owner.compose(out)?;
+        out.extend_from_slice(&self.rtype.to_int().to_be_bytes())?;
+        out.extend_from_slice(&self.class.to_int().to_be_bytes())?;
+        out.extend_from_slice(&self.ttl.to_int().to_be_bytes())?;
+        out.extend_from_slice(&self.rdata.rdlen().to_be_bytes())?;
+        self.rdata.compose_rdata(out)?;
+        Ok(())
+    }
+}
+
+impl ComposeRecord for LentRecord<'_> {
+    ghost record_of = { λ r. r };
+
+    fn compose_record(&self, out: &mut Vec<u8>) -> Result<(), AllocError> {
+        let start = out.as_slice().len();
+        let composed = self.compose_parts(out);
+        if composed.is_err() {
+            out.truncate(start);
+        }
+        composed
+    }
+}
