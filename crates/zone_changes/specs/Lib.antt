@@ -1,3 +1,4 @@
 pub mod Touched
 pub mod Changes
 pub mod ChangeRows
+pub mod Drafts

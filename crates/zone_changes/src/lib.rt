@@ -2,6 +2,7 @@
 #![tactic(auto)]
 
 mod changes;
+mod draft;
 mod examples;
 mod laws;
 #[cfg(test)]
@@ -9,4 +10,5 @@ mod tests;
 mod touched;
 
 pub use changes::difference;
+pub use draft::Draft;
 pub use touched::TouchedKeys;

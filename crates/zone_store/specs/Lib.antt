@@ -1,4 +1,4 @@
 pub use Rattle.zone_versions.specs.Causes
 pub use Rattle.zone_versions.specs.Puts
-pub mod Drafts
+pub mod Pending
 pub mod Nodes

@@ -6,7 +6,6 @@ mod builder;
 mod child;
 #[cfg(test)]
 mod diff_tests;
-mod draft;
 mod edits;
 mod errors;
 mod node;

@@ -7,16 +7,17 @@ ghost use Rattle.zone_model.specs.Session.{opened_session, with_pending, closed,
 ghost use Rattle.zone_versions.specs.Causes.{refusal_of};
 ghost use Rattle.zone_versions.specs.Puts.{appended, without, with_soa};
 ghost use Rattle.dns_rdata.specs.DataFields.{soa_fields};
-ghost use Rattle.zone_store.specs.Drafts.{draft, told_of};
+ghost use Rattle.zone_changes.specs.Drafts.{draft};
+ghost use Rattle.zone_store.specs.Pending.{told_of};
 
 use crate::apex::ZoneApex;
-use crate::draft::Draft;
 use crate::errors::CommitError;
 use crate::read::ReadZone;
 use dns_name::{StoredName, Ttl};
 use dns_rdata::{Soa, StoredRecord};
 use std::alloc::{AllocError, Global};
 use std::marker::Model;
+use zone_changes::Draft;
 use zone_diffs::InMemoryZoneDiff;
 use zone_versions::{EditError, ZoneVersion};
 
@@ -33,7 +34,8 @@ pub struct WriteZone<'z> {
 impl<'z> Model for WriteZone<'z> {
     ghost use Rattle.std.specs.Prelude.{◌≡◌, is_some, option_map, IfSome};
     ghost use Rattle.zone_model.specs.Session.{Session};
-    ghost use Rattle.zone_store.specs.Drafts.{pending_of, version_of};
+    ghost use Rattle.zone_changes.specs.Drafts.{version_of};
+    ghost use Rattle.zone_store.specs.Pending.{pending_of};
 
     ghost Value = { Session };
 
@@ -88,7 +90,7 @@ impl<'z> WriteZone<'z> {
     {
         match self.pending.take() {
             Some(pending) => Ok(pending),
-            None => Draft::of(self.alloc, self.zone.current()),
+            None => Draft::of(self.alloc, self.zone.current().share()?),
         }
     }
 
@@ -101,7 +103,8 @@ impl<'z> WriteZone<'z> {
     }
 
     /// Where memory comes from.
-    pub(crate) fn memory(&self) -> Global {
+    pub(crate) fn memory(&self) -> Global
+    {
         self.alloc
     }
 
@@ -223,7 +226,7 @@ impl<'z> WriteZone<'z> {
     {
         match &self.pending {
             Some(pending) => pending.clone(),
-            None => Draft::of(self.alloc, self.zone.current()),
+            None => Draft::of(self.alloc, self.zone.current().share()?),
         }
     }
 

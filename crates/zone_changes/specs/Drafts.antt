@@ -1,10 +1,8 @@
 -- A version that is edited, and the one that it began as.
-use Rattle.std.specs.Prelude.{Bool, Option, Some, None, if◌then◌else◌}
 use Rattle.dns_name.specs.Names.{Name}
 use Rattle.dns_name.specs.Codes.{type_ns, type_cname, type_ds}
 use Rattle.zone_model.specs.Version.{Version}
 use Rattle.zone_model.specs.Edits.{remove_set}
-use Rattle.zone_model.specs.Difference.{Difference, difference, diffable}
 
 pub record Drafted : Type 0 where
   pub base : Version
@@ -24,12 +22,3 @@ without_special v n = remove_set (remove_set (remove_set v n type_ns) n type_ds)
 -- the edited version
 abbrev pub version_of : Drafted → Version
 version_of d = d.version
-
--- the version that is pending: the published one until the first edit
-abbrev pub pending_of : Version → Option Version → Version
-pending_of published None = published
-pending_of published (Some v) = v
-
--- the difference that is told of a draft where it is wanted
-abbrev pub told_of : Bool → Drafted → Option Difference
-told_of wanted d = if wanted then (if diffable d.base d.version then Some (difference d.base d.version) else None) else None

@@ -1,4 +1,4 @@
-// A version that is edited.
+// Versions that are edited.
 ghost use Rattle.std.specs.Prelude.{◌≡◌, [], Ok, Some, None, IfOk, OnOk, OnErr, true, false, if◌then◌else◌};
 ghost use Rattle.std.specs.Arc.{arc_value};
 ghost use Rattle.dns_name.specs.Names.{under};
@@ -8,22 +8,22 @@ ghost use Rattle.zone_model.specs.Difference.{difference, diffable};
 ghost use Rattle.zone_model.specs.Edits as edits;
 ghost use Rattle.zone_model.specs.Edits.{add, delete, with_sets};
 ghost use Rattle.zone_versions.specs.Puts.{appended, without, with_soa};
-ghost use Rattle.zone_store.specs.Drafts.{draft, with_version, without_special};
+ghost use Rattle.zone_changes.specs.Drafts.{draft, with_version, without_special};
 
-use crate::read::ReadZone;
+use crate::changes::difference;
+use crate::touched::TouchedKeys;
 use dns_name::{KeyName, Rtype, StoredName, Ttl};
 use dns_rdata::{Soa, StoredRecord};
 use std::alloc::{AllocError, Global};
 use std::marker::Model;
 use std::sync::Arc;
-use zone_changes::{TouchedKeys, difference};
 use zone_diffs::InMemoryZoneDiff;
 use zone_sets::SetKey;
 use zone_versions::{RecordSet, ZoneVersion};
 
 /// A version that is edited, and the one that it began as. They agree but at the keys that were touched.
 #[derive(Drop)]
-pub(crate) struct Draft {
+pub struct Draft {
     base: Arc<ZoneVersion>,
     version: Arc<ZoneVersion>,
     touched: TouchedKeys,
@@ -31,7 +31,7 @@ pub(crate) struct Draft {
 
 impl Model for Draft {
     ghost use Rattle.zone_changes.specs.Touched.{Covers};
-    ghost use Rattle.zone_store.specs.Drafts.{Drafted, draft};
+    ghost use Rattle.zone_changes.specs.Drafts.{Drafted, draft};
 
     ghost Value = { Drafted };
 
@@ -42,32 +42,32 @@ impl Model for Draft {
 
 impl Draft {
     /// A version before any edit.
-    pub(crate) fn of(alloc: Global, zone: &ReadZone) -> Result<Draft, AllocError>
-        ensures { IfOk result (λ d. d ≡ draft zone.now.version zone.now.version) }
+    pub fn of(alloc: Global, base: Arc<ZoneVersion>) -> Result<Draft, AllocError>
+        ensures { IfOk result (λ d. d ≡ draft base.value base.value) }
     {
         Ok(Draft {
-            base: zone.share()?,
-            version: zone.share()?,
+            version: base.clone()?,
+            base,
             touched: TouchedKeys::new(alloc),
         })
     }
 
     /// The version as it is edited so far, lent.
-    pub(crate) fn shown(&self) -> &ZoneVersion
+    pub fn shown(&self) -> &ZoneVersion
         ensures { result.now ≡ self.now.version }
     {
         &self.version
     }
 
     /// The edited version.
-    pub(crate) fn into_version(self) -> Arc<ZoneVersion>
+    pub fn into_version(self) -> Arc<ZoneVersion>
         ensures { result.value ≡ self.version }
     {
         self.version
     }
 
     /// Puts the data of a record that isn't refused last in its set.
-    pub(crate) fn append(&mut self, alloc: Global, added: StoredRecord) -> Result<(), AllocError>
+    pub fn append(&mut self, alloc: Global, added: StoredRecord) -> Result<(), AllocError>
         requires { add self.old.version added ≡ Ok (appended self.old.version added) }
         ensures ok { OnOk result (self.new ≡ with_version self.old (appended self.old.version added)) }
         ensures err { OnErr result (self.new ≡ self.old) }
@@ -78,7 +78,7 @@ impl Draft {
     }
 
     /// Takes the data of a record that isn't refused out of its set.
-    pub(crate) fn remove(&mut self, deleted: &StoredRecord) -> Result<(), AllocError>
+    pub fn remove(&mut self, deleted: &StoredRecord) -> Result<(), AllocError>
         requires { delete self.old.version deleted.now ≡ Ok (without self.old.version deleted.now) }
         ensures ok { OnOk result (self.new ≡ with_version self.old (without self.old.version deleted.now)) }
         ensures err { OnErr result (self.new ≡ self.old) }
@@ -89,7 +89,7 @@ impl Draft {
     }
 
     /// Makes the apex SOA set one record.
-    pub(crate) fn set_soa(
+    pub fn set_soa(
         &mut self,
         alloc: Global,
         ttl: Ttl,
@@ -104,7 +104,7 @@ impl Draft {
     }
 
     /// Puts a set in place of the one of its owner and type; an empty one removes that.
-    pub(crate) fn put_set(&mut self, owner: &KeyName, set: RecordSet) -> Result<(), AllocError>
+    pub fn put_set(&mut self, owner: &KeyName, set: RecordSet) -> Result<(), AllocError>
         requires zone { under owner.now self.old.version.apex ≡ true }
         requires differ { all_differ set.contents.items ≡ true }
         requires alias { edits.is_bad_alias self.old.version owner.now set.rtype set.contents ≡ false }
@@ -116,7 +116,7 @@ impl Draft {
     }
 
     /// Removes the set of an owner and type.
-    pub(crate) fn remove_set(&mut self, owner: &KeyName, rtype: Rtype) -> Result<(), AllocError>
+    pub fn remove_set(&mut self, owner: &KeyName, rtype: Rtype) -> Result<(), AllocError>
         ensures ok { OnOk result (self.new ≡ with_version self.old (edits.remove_set self.old.version owner.now rtype)) }
         ensures err { OnErr result (self.new ≡ self.old) }
     {
@@ -125,7 +125,7 @@ impl Draft {
     }
 
     /// Removes the NS, DS and CNAME sets of an owner below the apex.
-    pub(crate) fn make_plain(&mut self, owner: &KeyName) -> Result<(), AllocError>
+    pub fn make_plain(&mut self, owner: &KeyName) -> Result<(), AllocError>
         ensures ok { OnOk result (self.new ≡ with_version self.old (edits.make_plain self.old.version owner.now)) }
         ensures err { OnErr result (self.new ≡ self.old) }
     {
@@ -139,7 +139,7 @@ impl Draft {
     }
 
     /// Puts an address in the zone last in its set, unless equal data are there; the lower TTL stays. Other records change nothing.
-    pub(crate) fn add_glue(&mut self, alloc: Global, added: StoredRecord) -> Result<(), AllocError>
+    pub fn add_glue(&mut self, alloc: Global, added: StoredRecord) -> Result<(), AllocError>
         ensures ok { OnOk result (self.new ≡ with_version self.old (edits.add_glue self.old.version added)) }
         ensures err { OnErr result (self.new ≡ self.old) }
     {
@@ -149,7 +149,7 @@ impl Draft {
     }
 
     /// Removes the sets of a name and of all names below it.
-    pub(crate) fn clear(&mut self, name: &KeyName) -> Result<(), AllocError>
+    pub fn clear(&mut self, name: &KeyName) -> Result<(), AllocError>
         ensures ok { OnOk result (self.new ≡ with_version self.old (edits.clear self.old.version name.now)) }
         ensures err { OnErr result (self.new ≡ self.old) }
     {
@@ -158,7 +158,7 @@ impl Draft {
     }
 
     /// Removes every set.
-    pub(crate) fn clear_all(&mut self, alloc: Global) -> Result<(), AllocError>
+    pub fn clear_all(&mut self, alloc: Global) -> Result<(), AllocError>
         ensures ok { OnOk result (self.new ≡ with_version self.old (with_sets self.old.version [])) }
         ensures err { OnErr result (self.new ≡ self.old) }
     {
@@ -169,7 +169,7 @@ impl Draft {
     }
 
     /// Counts the serial on from the one that it was, where the SOA is absent or as it was (RFC 1982, 3.1).
-    pub(crate) fn bump(&mut self, alloc: Global) -> Result<(), AllocError>
+    pub fn bump(&mut self, alloc: Global) -> Result<(), AllocError>
         ensures ok { OnOk result (self.new ≡ with_version self.old (edits.bump self.old.base self.old.version)) }
         ensures err { OnErr result (self.new ≡ self.old) }
     {
@@ -179,7 +179,7 @@ impl Draft {
     }
 
     /// Leaves out what a commit leaves out: DS sets below the apex that lack NS (RFC 4035, 2.4).
-    pub(crate) fn close(&mut self, alloc: Global) -> Result<(), AllocError>
+    pub fn close(&mut self, alloc: Global) -> Result<(), AllocError>
         ensures ok { OnOk result (self.new ≡ with_version self.old (edits.close self.old.version)) }
         ensures valid { OnOk result (IsValid self.new.version) }
         ensures err { OnErr result (self.new ≡ self.old) }
@@ -194,7 +194,7 @@ impl Draft {
     }
 
     /// What the edited version and the one that it began as differ in, where that may be told.
-    pub(crate) fn difference(&self, alloc: Global) -> Result<Option<InMemoryZoneDiff>, AllocError>
+    pub fn difference(&self, alloc: Global) -> Result<Option<InMemoryZoneDiff>, AllocError>
         ensures { IfOk result (λ d. d ≡ (if diffable self.now.base self.now.version then Some (difference self.now.base self.now.version) else None)) }
     {
         difference(alloc, &self.base, &self.version, &self.touched)
