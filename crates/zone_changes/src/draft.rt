@@ -162,6 +162,8 @@ impl Draft {
         ensures ok { OnOk result (self.new ≡ with_version self.old (with_sets self.old.version [])) }
         ensures err { OnErr result (self.new ≡ self.old) }
     {
+        // For the proof: the sets are sound.
+        let _ = self.version.keys();
         let cleared = Arc::new(alloc, self.version.emptied(alloc)?)?;
         self.touched.note_below(&self.version, self.version.apex())?;
         self.version = cleared;
