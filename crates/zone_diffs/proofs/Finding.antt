@@ -3,8 +3,9 @@ use Rattle.std.proofs.Common.{◌≡◌, ℕ, ◌==◌, Bool, true, false, cond,
 use Rattle.dns_name.specs.Codes.{type_soa}
 use Rattle.zone_model.specs.Version.{RecordSet, Key, Sets}
 use Rattle.zone_types.specs.TypedSets.{TypedSet}
-use Rattle.zone_diffs.specs.Building.{item_of, first_serial, set_serial}
-use Rattle.zone_diffs.proofs.Entries.{TypedEntries}
+use Rattle.zone_sets.specs.TypedEntries.{item_of}
+use Rattle.zone_sets.proofs.KeptTypes.{TypedEntries}
+use Rattle.zone_diffs.specs.Building.{first_serial, set_serial}
 
 -- the serial of the first SOA set, of sets with their type
 abbrev pub first_typed : TypedEntries → Option ℕ

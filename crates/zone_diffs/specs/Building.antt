@@ -11,7 +11,6 @@ use Rattle.dns_name.specs.Serial.{serial_upto}
 use Rattle.zone_model.specs.Version.{RecordSet, Key, Sets, key_cmp, has_key, set_in, first_or_none}
 use Rattle.zone_model.specs.Edits.{distinct_set}
 use Rattle.zone_model.specs.Difference.{Difference, merged_set}
-use Rattle.zone_types.specs.TypedSets.{TypedSet}
 use Rattle.zone_diffs.specs.declared.errors.ZoneDiffError.{ZoneDiffError}
 use Rattle.zone_diffs.specs.declared.errors.ZoneDiffError.TheVariants.{MissingStartSoa, MissingEndSoa, InvalidSerialRange}
 
@@ -71,17 +70,6 @@ from_to b (Some p) q = up_to b p q
 -- Build: what refuses, in this order, else the difference
 abbrev pub built : Sides → Result Difference ZoneDiffError
 built b = from_to b (first_serial b.removed) (first_serial b.added)
-
--- a set with its type, as an item tells it
-abbrev pub typed : ℕ → RecordSet → TypedSet
-typed rtype s = record { rtype = rtype; contents = s }
-
-abbrev pub item_of : Key × RecordSet → Key × TypedSet
-item_of e = (e.0, typed e.0.1 e.1)
-
--- the set of an owner and type with its type
-abbrev pub typed_set_in : Sets → Key → Option TypedSet
-typed_set_in sets k = option_map (typed k.1) (set_in sets k)
 
 -- no difference
 abbrev pub no_difference : Difference

@@ -7,7 +7,8 @@ ghost use Rattle.std.specs.Map.Iter.{deref_pair};
 ghost use Rattle.dns_rdata.specs.Soa.{serial_of};
 ghost use Rattle.dns_rdata.specs.ZoneData.{data_fields};
 ghost use Rattle.zone_model.specs.Version.{key_cmp, set_in};
-ghost use Rattle.zone_diffs.specs.Building.{put_at, item_of, typed_set_in, first_serial, set_serial};
+ghost use Rattle.zone_sets.specs.TypedEntries.{item_of, typed_set_in};
+ghost use Rattle.zone_diffs.specs.Building.{put_at, first_serial, set_serial};
 ghost use Rattle.zone_diffs.specs.Kept.{holds_data};
 
 use dns_name::{Rtype, Serial};
@@ -29,7 +30,8 @@ impl Model for DiffSets {
     ghost use Rattle.std.specs.Prelude.{map, IsTrue};
     ghost use Rattle.std.specs.List.{list_all};
     ghost use Rattle.zone_model.specs.Version.{Sets};
-    ghost use Rattle.zone_diffs.specs.Kept.{entry_of, is_kept};
+    ghost use Rattle.zone_sets.specs.TypedEntries.{entry_of};
+    ghost use Rattle.zone_diffs.specs.Kept.{is_kept};
 
     ghost Value = { Sets };
 

@@ -1,1 +1,3 @@
 pub mod DataIndex
+pub mod TypedEntries
+pub mod SetEdits

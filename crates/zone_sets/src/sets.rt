@@ -1,67 +1,78 @@
 // A record set, and where it stands in a version.
-ghost use Rattle.std.specs.Prelude.{◌≡◌, ◌++◌, ◌∷◌, [], ◌==◌, ◌&&◌, OnOk, OnErr, IfOk, IfSome, map, min, not, filter, if◌then◌else◌};
+ghost use Rattle.std.specs.Prelude.{◌≡◌, ◌++◌, ◌∷◌, [], ◌==◌, ◌&&◌, OnOk, OnErr, IfOk, IfSome, map, min, not, filter, if◌then◌else◌, All};
 ghost use Rattle.std.specs.List.{list_any};
 ghost use Rattle.dns_name.specs.Names.{fold};
 ghost use Rattle.dns_rdata.specs.Records.{same_data};
-ghost use Rattle.dns_rdata.specs.ZoneData.{data_fields};
+ghost use Rattle.dns_rdata.specs.ZoneData.{rtype_of, data_fields};
 ghost use Rattle.zone_model.specs.Version.{key_cmp};
+ghost use Rattle.zone_types.specs.TypedSets.{set_of};
 ghost use Rattle.zone_sets.specs.DataIndex.{IsIndexed};
 
 use crate::data_index::{FEW, forget, is_noted, note_last};
 use crate::data_key::DataKey;
 use dns_name::{KeyName, Labelled, Rtype, Ttl, compare_spelling};
-use dns_rdata::StoredRecordData;
+use dns_rdata::{RecordData, StoredRecordData};
 use std::alloc::{AllocError, Global};
 use std::cmp::Ordering;
 use std::collections::BTreeSet;
 use std::marker::Model;
 
-/// What records of one owner and type share and hold: their TTL and their data, in order (RFC 2181, 5.2).
+/// What records of one owner and type share and hold: their type, their TTL and their data, in order (RFC 2181, 5.2).
 #[derive(Drop)]
 pub struct RecordSet {
+    rtype: Rtype,
     ttl: Ttl,
     items: Vec<StoredRecordData>,
     seen: Option<BTreeSet<DataKey>>,
 }
 
 impl Model for RecordSet {
-    ghost use Rattle.zone_model.specs.Version.{RecordSet as SetOfRecords};
-
-    ghost Value = { SetOfRecords };
-
-    ghost use Rattle.std.specs.Prelude.{map};
-    ghost use Rattle.dns_rdata.specs.ZoneData.{data_fields};
+    ghost use Rattle.std.specs.Prelude.{◌≡◌, map, All};
+    ghost use Rattle.dns_rdata.specs.ZoneData.{rtype_of, data_fields};
+    ghost use Rattle.zone_types.specs.TypedSets.{TypedSet, set_of};
     ghost use Rattle.zone_sets.specs.DataIndex.{IsIndexed};
 
-    ghost view = { λ s. record { ttl = s.ttl; items = map data_fields s.items.items } };
+    ghost Value = { TypedSet };
 
-    ghost invariant = { λ s. IsIndexed (map data_fields s.items.items) s.seen };
+    ghost view = { λ s. set_of s.rtype s.ttl (map data_fields s.items.items) };
+
+    ghost invariant = { λ s. IsIndexed (map data_fields s.items.items) s.seen × All (λ d. rtype_of d ≡ s.rtype) s.items.items };
 }
 
 impl RecordSet {
-    /// A set of one record's data.
+    /// A set of one record's data, and of their type. The TTL is in seconds.
     pub fn of_one(alloc: Global, ttl: Ttl, item: StoredRecordData) -> Result<RecordSet, AllocError>
-        ensures { IfOk result (λ s. s ≡ record { ttl = ttl; items = data_fields item ∷ [] }) }
+        ensures { IfOk result (λ s. s ≡ set_of (rtype_of item) ttl (data_fields item ∷ [])) }
     {
+        let rtype = item.rtype();
         let mut items = Vec::new(alloc);
         items.push(item)?;
         Ok(RecordSet {
+            rtype,
             ttl,
             items,
             seen: None,
         })
     }
 
+    /// The type of the records.
+    pub fn rtype(&self) -> Rtype
+        ensures { result ≡ self.now.rtype }
+    {
+        self.rtype
+    }
+
     /// The TTL, in seconds.
     pub fn ttl(&self) -> Ttl
-        ensures { result ≡ self.now.ttl }
+        ensures { result ≡ self.now.contents.ttl }
     {
         self.ttl
     }
 
     /// The data of the records, in order.
     pub fn items(&self) -> &[StoredRecordData]
-        ensures { map data_fields result.now ≡ self.now.items }
+        ensures fields { map data_fields result.now ≡ self.now.contents.items }
+        ensures types { All (λ d. rtype_of d ≡ self.now.rtype) result.now }
     {
         &self.items
     }
@@ -69,7 +80,7 @@ impl RecordSet {
     /// Whether equal data stand in the set (RFC 2181, 5).
     #[tactic(auto, using(crate::proofs::Equality::list_any_map))]
     pub fn contains(&self, item: &StoredRecordData) -> bool
-        ensures { result ≡ list_any (same_data (data_fields item.now)) self.now.items }
+        ensures { result ≡ list_any (same_data (data_fields item.now)) self.now.contents.items }
     {
         match &self.seen {
             Some(keys) => match is_noted(keys, item) {
@@ -83,19 +94,20 @@ impl RecordSet {
     /// Whether data other than these stand in the set.
     #[tactic(auto, using(crate::proofs::Equality::list_any_map))]
     pub fn has_others(&self, item: &StoredRecordData) -> bool
-        ensures { result ≡ list_any (λ d. not (same_data (data_fields item.now) d)) self.now.items }
+        ensures { result ≡ list_any (λ d. not (same_data (data_fields item.now) d)) self.now.contents.items }
     {
         has_others(&self.items, item)
     }
 
-    /// Puts the data last, and this TTL in place of the set's.
+    /// Puts data of the set's type last, and this TTL in place of the set's.
     pub fn append(
         &mut self,
         alloc: Global,
         ttl: Ttl,
         item: StoredRecordData,
     ) -> Result<(), AllocError>
-        ensures ok { OnOk result (self.new ≡ record { ttl = ttl; items = self.old.items ++ data_fields item ∷ [] }) }
+        requires { rtype_of item ≡ self.old.rtype }
+        ensures ok { OnOk result (self.new ≡ set_of self.old.rtype ttl (self.old.contents.items ++ data_fields item ∷ [])) }
         ensures err { OnErr result (self.new ≡ self.old) }
     {
         push_noted(&mut self.items, &mut self.seen, alloc, item)?;
@@ -106,14 +118,14 @@ impl RecordSet {
     /// Takes the data equal to these out, and puts this TTL in place of the set's.
     #[tactic(auto, using(crate::proofs::Equality::filter_map))]
     pub fn remove(&mut self, ttl: Ttl, item: &StoredRecordData)
-        ensures { self.new ≡ record { ttl = ttl; items = filter (λ d. not (same_data (data_fields item.now) d)) self.old.items } }
+        ensures { self.new ≡ set_of self.old.rtype ttl (filter (λ d. not (same_data (data_fields item.now) d)) self.old.contents.items) }
     {
         drop_equal(&mut self.items, item);
         forget(&mut self.seen, item);
         self.ttl = ttl;
     }
 
-    /// Puts the lower of this TTL and the set's, and the data last, unless the set had equal data.
+    /// Puts the lower of this TTL and the set's, and data of the set's type last, unless the set had equal data.
     pub fn open_with(
         &mut self,
         alloc: Global,
@@ -121,7 +133,8 @@ impl RecordSet {
         item: StoredRecordData,
         had: bool,
     ) -> Result<(), AllocError>
-        ensures ok { OnOk result (self.new ≡ record { ttl = min self.old.ttl ttl; items = if had then self.old.items else self.old.items ++ data_fields item ∷ [] }) }
+        requires { rtype_of item ≡ self.old.rtype }
+        ensures ok { OnOk result (self.new ≡ set_of self.old.rtype (min self.old.contents.ttl ttl) (if had then self.old.contents.items else self.old.contents.items ++ data_fields item ∷ [])) }
         ensures err { OnErr result (self.new ≡ self.old) }
     {
         if !had {
@@ -192,6 +205,7 @@ impl Clone for RecordSet {
 
     fn clone(&self) -> Result<RecordSet, AllocError> {
         Ok(RecordSet {
+            rtype: self.rtype,
             ttl: self.ttl,
             items: self.items.clone()?,
             seen: self.seen.clone()?,

@@ -60,7 +60,7 @@ impl ZoneBuilder {
     pub fn has_set<N: Labelled>(&self, owner: &N, rtype: Rtype) -> bool
         ensures { result ≡ is_some (set_at self.now (N.labels owner.now) rtype) }
     {
-        self.version.set_at(owner, rtype).is_some()
+        self.version.has_set(owner, rtype)
     }
 
     /// Whether a name is below the apex.

@@ -1,7 +1,8 @@
 // Reading one version of a zone.
-ghost use Rattle.std.specs.Prelude.{◌≡◌, IfOk, option_copied};
+ghost use Rattle.std.specs.Prelude.{◌≡◌, IfOk, option_copied, option_map};
 ghost use Rattle.zone_model.specs.Version.{IsValid, set_at};
 ghost use Rattle.zone_model.specs.Walk.{next_stop, walk};
+ghost use Rattle.zone_sets.specs.TypedEntries.{typed};
 ghost use Rattle.zone_versions.specs.Stops.{first_stop};
 
 use dns_name::{Class, Labelled, Rtype, StoredName};
@@ -100,7 +101,7 @@ impl ReadZone {
 
     /// The set of an owner and type.
     pub fn rrset_at<N: Labelled>(&self, owner: &N, rtype: Rtype) -> Option<&RecordSet>
-        ensures { option_copied result ≡ set_at self.now.version (N.labels owner.now) rtype }
+        ensures { option_copied result ≡ option_map (typed rtype) (set_at self.now.version (N.labels owner.now) rtype) }
     {
         self.version.set_at(owner, rtype)
     }

@@ -7,14 +7,13 @@ ghost use Rattle.zone_model.specs.Session.{opened_session, with_pending, committ
 ghost use Rattle.zone_versions.specs.Causes.{refusal_of};
 ghost use Rattle.zone_versions.specs.Puts.{appended, without, with_soa};
 ghost use Rattle.dns_rdata.specs.DataFields.{soa_fields};
-ghost use Rattle.dns_rdata.specs.ZoneData.{data_fields};
 ghost use Rattle.std.specs.Arc.{arc_value};
 
 use crate::apex::ZoneApex;
 use crate::errors::CommitError;
 use crate::read::ReadZone;
 use dns_name::{StoredName, Ttl};
-use dns_rdata::{Soa, StoredRecord, StoredRecordData, ZoneRecordData};
+use dns_rdata::{Soa, StoredRecord};
 use std::alloc::{AllocError, Global};
 use std::marker::Model;
 use std::sync::Arc;
@@ -137,7 +136,7 @@ impl<'z> WriteZone<'z> {
     {
         let alloc = self.alloc;
         let mut pending = self.take_pending()?;
-        let put = set_soa(&mut pending, alloc, ttl, ZoneRecordData::Soa(soa));
+        let put = set_soa(&mut pending, alloc, ttl, soa);
         self.pending = Some(pending);
         put
     }
@@ -243,11 +242,11 @@ fn set_soa(
     pending: &mut Arc<ZoneVersion>,
     alloc: Global,
     ttl: Ttl,
-    item: StoredRecordData,
+    soa: Soa<StoredName>,
 ) -> Result<(), AllocError>
-    ensures ok { OnOk result (arc_value pending.new ≡ with_soa (arc_value pending.old) ttl (data_fields item)) }
+    ensures ok { OnOk result (arc_value pending.new ≡ with_soa (arc_value pending.old) ttl (soa_fields (λ n. n) soa)) }
     ensures err { OnErr result (arc_value pending.new ≡ arc_value pending.old) }
 {
     let version = Arc::make_mut(pending)?;
-    version.set_soa(alloc, ttl, item)
+    version.set_soa(alloc, ttl, soa)
 }

@@ -4,5 +4,6 @@ pub mod Putting
 mod Removing
 pub mod Closing
 mod Stops
+pub mod TypedStops
 mod Distinct
 mod Sound

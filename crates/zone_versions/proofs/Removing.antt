@@ -1,41 +1,13 @@
--- Data taken out of a set.
-use Rattle.std.proofs.Common.{◌≡◌, ℕ, ◌==◌, Bool, true, false, cond, ◌||◌, not, if◌then◌else◌, List, [], ◌∷◌, length, refl, sym, ap, ◌∙◌, true≢false, Option, Some, None, IsSome}
-use Rattle.std.specs.Option.{option_map_or}
-use Rattle.std.specs.List.{list_any, filter}
+-- Data taken out of a set of a version.
+use Rattle.std.proofs.Common.{◌≡◌, ◌==◌, Bool, true, false, if◌then◌else◌, length, refl}
 use Rattle.std.specs.BTreeMap.{insert_entry}
 use Rattle.std.specs.Map.{remove_entry}
 use Rattle.dns_name.specs.Names.{fold}
-use Rattle.dns_rdata.specs.Records.{Field, Record, same_data}
-use Rattle.zone_model.specs.Version.{RecordSet, Key, Sets, Version, key_cmp, has_key, set_in}
+use Rattle.dns_rdata.specs.Records.{Record}
+use Rattle.zone_model.specs.Version.{RecordSet, Version, key_cmp, has_key}
 use Rattle.zone_model.specs.Edits.{with_sets, remove_set}
-use Rattle.zone_versions.specs.Puts.{without, items_at, thinned, taken_out}
-use Rattle.zone_versions.proofs.Putting.{suc_not}
-
--- what a test leaves is empty where it finds nothing
-filter_empty : {X : Type 0} (p : X → Bool) (xs : List X) → (length (filter p xs) == 0) ≡ not (list_any p xs)
-filter_empty p [] = refl
-filter_empty p (x ∷ xs) = by (p x) (filter_empty p xs)
-  where
-    by : (b : Bool) → (length (filter p xs) == 0) ≡ not (list_any p xs) → (length (cond b (x ∷ filter p xs) (filter p xs)) == 0) ≡ not (b || list_any p xs)
-    by true later = suc_not (length (filter p xs))
-    by false later = later
-
--- a set is there where data are
-some_items : (p : List Field → Bool) (o : Option RecordSet) → list_any p (option_map_or (λ (s : RecordSet). s.items) o []) ≡ true → IsSome o
-some_items p (Some s) h = refl
-some_items p None h = absurd (true≢false (sym h))
-
-pub others_some : (fields : List Field) (sets : Sets) (k : Key) → list_any (λ d. not (same_data fields d)) (items_at sets k) ≡ true → IsSome (set_in sets k)
-others_some fields sets k h = some_items (λ d. not (same_data fields d)) (set_in sets k) h
-
--- what is left is put, or nothing is
-pub some_others : (ttl : ℕ) (fields : List Field) (k : Key) (sets : Sets) → list_any (λ d. not (same_data fields d)) (items_at sets k) ≡ true → insert_entry key_cmp sets k (thinned ttl fields sets k) ≡ taken_out ttl fields k sets
-some_others ttl fields k sets h =
-    sym (ap (λ b. if b then remove_entry (has_key k) sets else insert_entry key_cmp sets k (thinned ttl fields sets k)) (filter_empty (λ d. not (same_data fields d)) (items_at sets k) ∙ ap not h))
-
-pub no_others : (ttl : ℕ) (fields : List Field) (k : Key) (sets : Sets) → list_any (λ d. not (same_data fields d)) (items_at sets k) ≡ false → remove_entry (has_key k) sets ≡ taken_out ttl fields k sets
-no_others ttl fields k sets h =
-    sym (ap (λ b. if b then remove_entry (has_key k) sets else insert_entry key_cmp sets k (thinned ttl fields sets k)) (filter_empty (λ d. not (same_data fields d)) (items_at sets k) ∙ ap not h))
+use Rattle.zone_sets.specs.SetEdits.{thinned, taken_out}
+use Rattle.zone_versions.specs.Puts.{without}
 
 -- a record's data taken out of a version
 pub without_is : (v : Version) (r : Record) → with_sets v (taken_out r.ttl r.fields (fold r.owner, r.rtype) v.sets) ≡ without v r

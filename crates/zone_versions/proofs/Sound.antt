@@ -1,11 +1,10 @@
 -- Edits keep a version sound, and a sound one that is closed may be published.
-use Rattle.std.proofs.Common.{◌≡◌, ℕ, zero, suc, ◌-◌, ◌≤◌, ◌==◌, Bool, true, false, cond, ◌&&◌, ◌||◌, not, nat_le, if◌then◌else◌, List, [], ◌∷◌, ◌++◌, length, drop, refl, sym, ap, ◌∙◌, subst, true≢false, Option, Some, None, is_some, Ordering, Less, Equal, Greater, is_eq, Ok, Err, eqb-true, eq-eqb, leb-true, le-leb, IsTrue, arith}
+use Rattle.std.proofs.Common.{◌≡◌, ℕ, zero, suc, ◌-◌, ◌≤◌, ◌==◌, Bool, true, false, cond, ◌&&◌, ◌||◌, not, nat_le, if◌then◌else◌, List, [], ◌∷◌, ◌++◌, length, drop, refl, sym, ap, ◌∙◌, subst, true≢false, Option, Some, None, is_some, is_eq, Ok, Err, eqb-true, eq-eqb, leb-true, le-leb, IsTrue, arith}
 use Rattle.std.specs.Option.{option_map_or}
 use Rattle.std.specs.List.{list_all, list_any, filter}
 use Rattle.std.specs.List.Sorted.{IsStrictlySortedBy}
-use Rattle.std.specs.Ordering.{match_ordering}
 use Rattle.std.specs.BTreeMap.{insert_entry}
-use Rattle.std.specs.Map.{keys_of, remove_entry}
+use Rattle.std.specs.Map.{keys_of}
 use Rattle.std.specs.Cmp.{first_so, second_so, Equal-is}
 use Rattle.std.specs.Cmp.Derive.{both_true}
 use Rattle.std.specs.Cmp.Lexicographic.{pointwise_decides, bytes_decides}
@@ -24,6 +23,7 @@ use Rattle.zone_versions.specs.Strays.{is_stray_at}
 use Rattle.zone_versions.specs.Puts.{with_soa, opened_by, adds_alias}
 use Rattle.zone_model.specs.Classify.{lowest_ttl}
 use Rattle.zone_sets.proofs.Equality.{filter_map}
+use Rattle.zone_sets.proofs.KeptTypes.{all_insert, all_remove}
 use Rattle.zone_versions.proofs.Closing.{closed_is}
 use Rattle.zone_versions.proofs.Distinct.{differ_push, differ_pushed, pushed_new, has_distinct_data}
 
@@ -68,24 +68,6 @@ put_together v k s h =
     some n g = le-leb 1 n g
 
 -- ---- entries
-
-all_insert : (p : Key × RecordSet → Bool) (es : Sets) (k : Key) (s : RecordSet) → p (k, s) ≡ true → ((e : Key × RecordSet) → p e ≡ true → key_cmp k e.0 ≡ Equal → p (e.0, s) ≡ true)
-    → list_all p es ≡ true → list_all p (insert_entry key_cmp es k s) ≡ true
-all_insert p [] k s g same h = both_true g refl
-all_insert p (e ∷ es) k s g same h = by (key_cmp k e.0) refl (all_insert p es k s g same (second_so (p e) (list_all p es) h))
-  where
-    by : (o : Ordering) → key_cmp k e.0 ≡ o → list_all p (insert_entry key_cmp es k s) ≡ true → list_all p (match_ordering o ((k, s) ∷ e ∷ es) ((e.0, s) ∷ es) (e ∷ insert_entry key_cmp es k s)) ≡ true
-    by Less q later = both_true g h
-    by Equal q later = both_true (same e (first_so (p e) (list_all p es) h) q) (second_so (p e) (list_all p es) h)
-    by Greater q later = both_true (first_so (p e) (list_all p es) h) later
-
-all_remove : (p : Key × RecordSet → Bool) (test : Key → Bool) (es : Sets) → list_all p es ≡ true → list_all p (remove_entry test es) ≡ true
-all_remove p test [] h = refl
-all_remove p test (e ∷ es) h = by (test e.0) (all_remove p test es (second_so (p e) (list_all p es) h))
-  where
-    by : (b : Bool) → list_all p (remove_entry test es) ≡ true → list_all p (cond b es (e ∷ remove_entry test es)) ≡ true
-    by true later = second_so (p e) (list_all p es) h
-    by false later = both_true (first_so (p e) (list_all p es) h) later
 
 -- the entry that a look-up finds
 found_sound : (v : Version) (es : Sets) (k : Key) (s : RecordSet) → IsFolded k → list_all (is_sound_at v) es ≡ true → set_in es k ≡ Some s → Sounds v k s

@@ -1,10 +1,7 @@
 -- The stop behind a key.
-use Rattle.std.proofs.Common.{◌≡◌, Bool, true, false, cond, ◌&&◌, if◌then◌else◌, List, [], ◌∷◌, map, refl, sym, ap, ◌∙◌, Ordering, Less, Equal, Greater, is_gt, is_lt, is_le, Option, Some, None, option_map}
+use Rattle.std.proofs.Common.{◌≡◌, Bool, true, false, cond, if◌then◌else◌, [], ◌∷◌, map, refl, sym, ap, ◌∙◌, Ordering, Less, Equal, Greater, is_gt, is_lt, Some, option_map}
 use Rattle.std.specs.List.{find}
 use Rattle.std.specs.Ordering.{ordering_reverse}
-use Rattle.std.specs.Map.Iter.{TakesFirst}
-use Rattle.std.specs.BTreeMap.Range.{entries_between}
-use Rattle.std.specs.declared.ops.Bound.TheVariants.{Included, Excluded, Unbounded}
 use Rattle.dns_name.specs.Names.{Name, fold, same_name, spelling_cmp}
 use Rattle.std.specs.Ordering.{ordering_then, nat_cmp}
 use Rattle.zone_model.specs.Version.{RecordSet, Key, Sets, Version, key_cmp}
@@ -41,32 +38,3 @@ first_behind v k (e ∷ es) =
         → cond b (Some (stop_of v e)) (find (λ (s : Stop). is_gt (key_cmp (fold s.owner, s.rtype) k)) (map (stop_of v) es)) ≡ option_map (stop_of v) (cond b (Some e) (find (λ (f : Key × RecordSet). is_lt (key_cmp k f.0)) es))
     by true h = refl
     by false h = h
-
-abbrev pub head_of : {X : Type 0} → List X → Option X
-head_of [] = None
-head_of (x ∷ xs) = Some x
-
--- the first of what a range holds
-pub first_of_range : (k : Key) (es : Sets) → head_of (entries_between key_cmp (Excluded k) Unbounded es) ≡ find (λ (e : Key × RecordSet). is_lt (key_cmp k e.0)) es
-first_of_range k [] = refl
-first_of_range k (e ∷ es) = by (is_lt (key_cmp k e.0)) (first_of_range k es)
-  where
-    by : (b : Bool) → head_of (entries_between key_cmp (Excluded k) Unbounded es) ≡ find (λ (f : Key × RecordSet). is_lt (key_cmp k f.0)) es
-        → head_of (cond (b && true) (e ∷ entries_between key_cmp (Excluded k) Unbounded es) (entries_between key_cmp (Excluded k) Unbounded es)) ≡ cond b (Some e) (find (λ (f : Key × RecordSet). is_lt (key_cmp k f.0)) es)
-    by true h = refl
-    by false h = h
-
--- the same with the bound's key
-pub first_of_range_from : (k : Key) (es : Sets) → head_of (entries_between key_cmp (Included k) Unbounded es) ≡ find (λ (e : Key × RecordSet). is_le (key_cmp k e.0)) es
-first_of_range_from k [] = refl
-first_of_range_from k (e ∷ es) = by (is_le (key_cmp k e.0)) (first_of_range_from k es)
-  where
-    by : (b : Bool) → head_of (entries_between key_cmp (Included k) Unbounded es) ≡ find (λ (f : Key × RecordSet). is_le (key_cmp k f.0)) es
-        → head_of (cond (b && true) (e ∷ entries_between key_cmp (Included k) Unbounded es) (entries_between key_cmp (Included k) Unbounded es)) ≡ cond b (Some e) (find (λ (f : Key × RecordSet). is_le (key_cmp k f.0)) es)
-    by true h = refl
-    by false h = h
-
--- what `next` of a map's iterator gives
-pub takes_head : {A X : Type 0} (shows : A → X) (s : List X) (r : Option A) (t : List X) → TakesFirst shows s r t → option_map shows r ≡ head_of s
-takes_head shows s None t h = ap head_of (sym h.0)
-takes_head shows s (Some x) t h = ap head_of (sym h)

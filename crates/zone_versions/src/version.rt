@@ -11,31 +11,28 @@ ghost use Rattle.zone_model.specs.Edits.{add, delete, with_sets};
 ghost use Rattle.zone_model.specs.Edits as edits;
 ghost use Rattle.zone_versions.specs.Causes.{refusal_of};
 ghost use Rattle.zone_versions.specs.Strays.{is_stray_at};
-ghost use Rattle.zone_versions.specs.Puts.{adds_alias, appended, without, with_soa, items_at, put_with, last_set, opening_set, thinned, taken_out};
-ghost use Rattle.std.specs.BTreeMap.{insert_entry};
+ghost use Rattle.zone_versions.specs.Puts.{adds_alias, appended, without, with_soa};
+ghost use Rattle.zone_sets.specs.TypedEntries.{item_of, entry_of, typed, typed_set_in};
 ghost use Rattle.std.specs.Map.{keys_of};
 ghost use Rattle.std.specs.Map.Iter.{deref_pair};
-ghost use Rattle.std.specs.Ordering.{is_le, is_lt};
-ghost use Rattle.dns_rdata.specs.Records.{same_data};
-ghost use Rattle.dns_rdata.specs.ZoneData.{data_fields};
+ghost use Rattle.std.specs.Ordering.{is_lt};
+ghost use Rattle.dns_rdata.specs.DataFields.{soa_fields};
 
 use crate::errors::EditError;
 use crate::walk::WalkItem;
 use dns_name::{Class, KeyName, Labelled, NameRef, Rtype, StoredName, ToName, Ttl};
-use dns_rdata::{RecordData, StoredRecord, StoredRecordData};
+use dns_rdata::{RecordData, Soa, StoredRecord, ZoneRecordData};
 use std::alloc::{AllocError, Global};
-use std::collections::BTreeMap;
 use std::collections::btree_map::Iter;
 use std::marker::Model;
-use std::ops::Bound;
-use zone_sets::{RecordSet, SetKey};
+use zone_sets::{KeyedSets, RecordSet, SetKey};
 
 /// One version of a zone (RFC 1034, 4.2): the apex as it was given, the class, and the record sets.
 #[derive(Drop)]
 pub struct ZoneVersion {
     apex: StoredName,
     class: Class,
-    sets: BTreeMap<SetKey, RecordSet>,
+    sets: KeyedSets,
 }
 
 impl Model for ZoneVersion {
@@ -44,9 +41,9 @@ impl Model for ZoneVersion {
 
     ghost Value = { Version };
 
-    ghost view = { λ v. record { apex = v.apex; class = v.class; sets = v.sets.entries } };
+    ghost view = { λ v. record { apex = v.apex; class = v.class; sets = v.sets } };
 
-    ghost invariant = { λ v. IsSound (record { apex = v.apex; class = v.class; sets = v.sets.entries }) };
+    ghost invariant = { λ v. IsSound (record { apex = v.apex; class = v.class; sets = v.sets }) };
 }
 
 impl Clone for ZoneVersion {
@@ -71,7 +68,7 @@ impl ZoneVersion {
         ZoneVersion {
             apex,
             class,
-            sets: BTreeMap::new(alloc),
+            sets: KeyedSets::new(alloc),
         }
     }
 
@@ -98,19 +95,20 @@ impl ZoneVersion {
 
     /// The set at a key.
     fn set_in(&self, key: &SetKey) -> Option<&RecordSet>
-        ensures { option_copied result ≡ set_in self.now.sets key.now }
+        ensures { option_copied result ≡ typed_set_in self.now.sets key.now }
     {
         self.sets.get(key)
     }
 
     /// The set of an owner and type.
     pub fn set_at<N: Labelled>(&self, owner: &N, rtype: Rtype) -> Option<&RecordSet>
-        ensures { option_copied result ≡ set_at self.now (N.labels owner.now) rtype }
+        ensures { option_copied result ≡ option_map (typed rtype) (set_at self.now (N.labels owner.now) rtype) }
     {
         self.set_in(&SetKey::new(owner, rtype))
     }
 
     /// Whether an owner has a set of a type.
+    #[tactic(auto, using(crate::proofs::TypedStops::is_some_typed))]
     pub fn has_set<N: Labelled>(&self, owner: &N, rtype: Rtype) -> bool
         ensures { result ≡ is_some (set_at self.now (N.labels owner.now) rtype) }
     {
@@ -151,14 +149,15 @@ impl ZoneVersion {
 impl ZoneVersion {
     /// The entries, in order.
     pub(crate) fn entries(&self) -> Iter<'_, SetKey, RecordSet>
-        ensures { result ≡ self.now.sets }
+        ensures { result ≡ map item_of self.now.sets }
     {
         self.sets.iter()
     }
 
     /// An entry as a walk shows it.
     pub(crate) fn stop<'v>(&'v self, key: &SetKey, contents: &'v RecordSet) -> WalkItem<'v>
-        ensures { result ≡ stop_of self.now (key.now, contents.now) }
+        requires { contents.now.rtype ≡ key.now.1 }
+        ensures { result ≡ stop_of self.now (entry_of (key.now, contents.now)) }
     {
         let owner = if key.owner().name_eq(&self.apex) {
             self.apex.to_key_name()
@@ -173,7 +172,7 @@ impl ZoneVersion {
     pub fn first_stop(&self) -> Option<WalkItem<'_>>
         ensures { result ≡ first_stop self.now }
     {
-        match self.sets.iter().next() {
+        match self.entries().next() {
             Some((key, contents)) => Some(self.stop(key, contents)),
             None => None,
         }
@@ -181,27 +180,17 @@ impl ZoneVersion {
 
     /// The first entry behind a key.
     fn entry_behind(&self, key: &SetKey) -> Option<(&SetKey, &RecordSet)>
-        ensures { option_map deref_pair result ≡ find (λ e. is_lt (key_cmp key.now e.0)) self.now.sets }
+        ensures { option_map deref_pair result ≡ option_map item_of (find (λ e. is_lt (key_cmp key.now e.0)) self.now.sets) }
     {
-        self.sets
-            .range((Bound::Excluded(key), Bound::Unbounded))
-            .next()
-    }
-
-    /// The first entry that isn't before a key.
-    fn entry_from(&self, key: &SetKey) -> Option<(&SetKey, &RecordSet)>
-        ensures { option_map deref_pair result ≡ find (λ e. is_le (key_cmp key.now e.0)) self.now.sets }
-    {
-        self.sets
-            .range((Bound::Included(key), Bound::Unbounded))
-            .next()
+        self.sets.first_behind(key)
     }
 
     /// The first set whose owner isn't before a name in canonical order (RFC 4034, 6.1).
     pub fn first_from<N: Labelled>(&self, owner: &N) -> Option<(&SetKey, &RecordSet)>
-        ensures { option_map deref_pair result ≡ first_from self.now (N.labels owner.now) }
+        ensures { option_map deref_pair result ≡ option_map item_of (first_from self.now (N.labels owner.now)) }
     {
-        self.entry_from(&SetKey::new(owner, Rtype::from_int(0)))
+        self.sets
+            .first_from(&SetKey::new(owner, Rtype::from_int(0)))
     }
 
     /// The first stop behind an owner and type.
@@ -217,21 +206,12 @@ impl ZoneVersion {
 
 // Edits.
 impl ZoneVersion {
-    /// Whether equal data stand in the set at a key.
-    fn has_item(&self, key: &SetKey, item: &StoredRecordData) -> bool
-        ensures { result ≡ list_any (same_data (data_fields item.now)) (items_at self.now.sets key.now) }
-    {
-        match self.sets.get(key) {
-            Some(set) => set.contains(item),
-            None => false,
-        }
-    }
-
     /// Whether a record's data stand in its set.
     pub fn has_data(&self, added: &StoredRecord) -> bool
         ensures { result ≡ edits.has_data self.now added.now }
     {
-        self.has_item(&SetKey::new(added.owner(), added.rtype()), added.data())
+        self.sets
+            .has_item(&SetKey::new(added.owner(), added.rtype()), added.data())
     }
 
     /// Whether a record would be a second CNAME of a name below the apex (RFC 2181, 10.1).
@@ -299,7 +279,7 @@ impl ZoneVersion {
     {
         let key = SetKey::new(added.owner(), added.rtype());
         let ttl = added.ttl();
-        put_last(&mut self.sets, alloc, key, ttl, added.into_data())?;
+        self.sets.put_last(alloc, key, ttl, added.into_data())?;
         Ok(())
     }
 
@@ -309,7 +289,7 @@ impl ZoneVersion {
         ensures { self.new ≡ without self.old deleted.now }
     {
         let key = SetKey::new(deleted.owner(), deleted.rtype());
-        take_out(&mut self.sets, &key, deleted.ttl(), deleted.data());
+        self.sets.take_out(&key, deleted.ttl(), deleted.data());
     }
 
     /// Puts a record that the zone opens with: data that the set has already are not put again, and the lower TTL stays.
@@ -322,22 +302,24 @@ impl ZoneVersion {
         let had = self.has_data(&added);
         let key = SetKey::new(added.owner(), added.rtype());
         let ttl = added.ttl();
-        put_opening(&mut self.sets, alloc, key, ttl, added.into_data(), had)?;
+        self.sets
+            .put_opening(alloc, key, ttl, added.into_data(), had)?;
         Ok(())
     }
 
-    /// Makes the apex SOA set this one record.
+    /// Makes the apex SOA set this one record. The TTL is in seconds.
     pub fn set_soa(
         &mut self,
         alloc: Global,
         ttl: Ttl,
-        item: StoredRecordData,
+        soa: Soa<StoredName>,
     ) -> Result<(), AllocError>
-        ensures ok { OnOk result (self.new ≡ with_soa self.old ttl (data_fields item)) }
+        ensures ok { OnOk result (self.new ≡ with_soa self.old ttl (soa_fields (λ n. n) soa)) }
         ensures err { OnErr result (self.new ≡ self.old) }
     {
         let key = SetKey::new(&self.apex, Rtype::SOA);
-        self.sets.insert(key, RecordSet::of_one(alloc, ttl, item)?)?;
+        let set = RecordSet::of_one(alloc, ttl, ZoneRecordData::Soa(soa))?;
+        self.sets.insert(key, set)?;
         Ok(())
     }
 
@@ -386,87 +368,15 @@ impl ZoneVersion {
 }
 
 /// Whether a commit of the version would leave one of the sets out.
-fn any_stray(version: &ZoneVersion, sets: &BTreeMap<SetKey, RecordSet>) -> bool
-    ensures { result ≡ list_any (is_stray_at version.now) (keys_of sets.now.entries) }
+fn any_stray(version: &ZoneVersion, sets: &KeyedSets) -> bool
+    ensures { result ≡ list_any (is_stray_at version.now) (keys_of sets.now) }
 {
-    sets.keys().any(|key| version.is_stray(key))
+    sets.any_key(|key| version.is_stray(key))
 }
 
 /// Drops the sets that a commit of the version leaves out.
-fn drop_strays(version: &ZoneVersion, sets: &mut BTreeMap<SetKey, RecordSet>)
-    ensures { sets.new.entries ≡ filter (λ e. not (is_stray_at version.now e.0)) sets.old.entries }
+fn drop_strays(version: &ZoneVersion, sets: &mut KeyedSets)
+    ensures { sets.new ≡ filter (λ e. not (is_stray_at version.now e.0)) sets.old }
 {
-    sets.retain(|key, _| !version.is_stray(key));
-}
-
-/// Puts data last in the set at a key, and this TTL in place of the set's.
-fn put_last(
-    sets: &mut BTreeMap<SetKey, RecordSet>,
-    alloc: Global,
-    key: SetKey,
-    ttl: Ttl,
-    item: StoredRecordData,
-) -> Result<(), AllocError>
-    ensures ok { OnOk result (sets.new.entries ≡ put_with (last_set ttl (data_fields item)) key sets.old.entries) }
-    ensures err { OnErr result (sets.new.entries ≡ sets.old.entries) }
-{
-    match sets.get_mut(&key) {
-        Some(set) => set.append(alloc, ttl, item),
-        None => {
-            sets.insert(key, RecordSet::of_one(alloc, ttl, item)?)?;
-            Ok(())
-        }
-    }
-}
-
-/// Whether data other than these stand in the set at a key.
-fn has_others(sets: &BTreeMap<SetKey, RecordSet>, key: &SetKey, item: &StoredRecordData) -> bool
-    ensures { result ≡ list_any (λ d. not (same_data (data_fields item.now) d)) (items_at sets.now.entries key.now) }
-{
-    match sets.get(key) {
-        Some(set) => set.has_others(item),
-        None => false,
-    }
-}
-
-/// Takes the data equal to these out of a set that stands at a key, and puts this TTL in place of the set's.
-fn thin_out(sets: &mut BTreeMap<SetKey, RecordSet>, key: &SetKey, ttl: Ttl, item: &StoredRecordData)
-    ensures { IsSome (set_in sets.old.entries key.now) → sets.new.entries ≡ insert_entry key_cmp sets.old.entries key.now (thinned ttl (data_fields item.now) sets.old.entries key.now) }
-{
-    if let Some(set) = sets.get_mut(key) {
-        set.remove(ttl, item);
-    }
-}
-
-/// Takes the data equal to these out of the set at a key, and puts this TTL in place of the set's; an emptied set goes.
-#[tactic(auto, using(crate::proofs::Removing::some_others, crate::proofs::Removing::no_others, crate::proofs::Removing::others_some))]
-fn take_out(sets: &mut BTreeMap<SetKey, RecordSet>, key: &SetKey, ttl: Ttl, item: &StoredRecordData)
-    ensures { sets.new.entries ≡ taken_out ttl (data_fields item.now) key.now sets.old.entries }
-{
-    if has_others(sets, key, item) {
-        thin_out(sets, key, ttl, item);
-    } else {
-        let _ = sets.remove(key);
-    }
-}
-
-/// Puts data that the zone opens with in the set at a key, unless it had equal data; the set's TTL is the lower one.
-fn put_opening(
-    sets: &mut BTreeMap<SetKey, RecordSet>,
-    alloc: Global,
-    key: SetKey,
-    ttl: Ttl,
-    item: StoredRecordData,
-    had: bool,
-) -> Result<(), AllocError>
-    ensures ok { OnOk result (sets.new.entries ≡ put_with (opening_set ttl (data_fields item) had) key sets.old.entries) }
-    ensures err { OnErr result (sets.new.entries ≡ sets.old.entries) }
-{
-    match sets.get_mut(&key) {
-        Some(set) => set.open_with(alloc, ttl, item, had),
-        None => {
-            sets.insert(key, RecordSet::of_one(alloc, ttl, item)?)?;
-            Ok(())
-        }
-    }
+    sets.retain_keys(|key| !version.is_stray(key));
 }

@@ -1,6 +1,6 @@
 // A walk of a version as an iterator.
-ghost use Rattle.std.specs.Prelude.{◌≡◌, map};
-ghost use Rattle.dns_rdata.specs.ZoneData.{data_fields};
+ghost use Rattle.std.specs.Prelude.{◌≡◌, map, All};
+ghost use Rattle.dns_rdata.specs.ZoneData.{rtype_of, data_fields};
 ghost use Rattle.zone_model.specs.Walk.{walk};
 
 use crate::version::ZoneVersion;
@@ -20,22 +20,26 @@ pub struct WalkItem<'v> {
 }
 
 impl<'v> Model for WalkItem<'v> {
+    ghost use Rattle.std.specs.Prelude.{◌≡◌};
     ghost use Rattle.zone_model.specs.Walk.{Stop};
 
     ghost Value = { Stop };
 
-    ghost view = { λ w. record { owner = w.owner; rtype = w.rtype; contents = w.contents.now; below_cut = w.below_cut } };
+    ghost view = { λ w. record { owner = w.owner; rtype = w.rtype; contents = w.contents.now.contents; below_cut = w.below_cut } };
+
+    ghost invariant = { λ w. w.contents.now.rtype ≡ w.rtype };
 }
 
 impl<'v> WalkItem<'v> {
-    /// The stop of these parts.
+    /// The stop of these parts, a set of this type.
     pub(crate) fn of(
         owner: KeyName,
         rtype: Rtype,
         contents: &'v RecordSet,
         below_cut: bool,
     ) -> WalkItem<'v>
-        ensures { result ≡ record { owner = owner; rtype = rtype; contents = contents.now; below_cut = below_cut } }
+        requires { contents.now.rtype ≡ rtype }
+        ensures { result ≡ record { owner = owner; rtype = rtype; contents = contents.now.contents; below_cut = below_cut } }
     {
         WalkItem {
             owner,
@@ -69,7 +73,8 @@ impl<'v> WalkItem<'v> {
 
     /// The data of the records, in order.
     pub fn items(&self) -> &'v [StoredRecordData]
-        ensures { map data_fields result.now ≡ self.now.contents.items }
+        ensures fields { map data_fields result.now ≡ self.now.contents.items }
+        ensures types { All (λ d. rtype_of d ≡ self.now.rtype) result.now }
     {
         let contents = self.contents;
         contents.items()
@@ -91,13 +96,17 @@ pub struct RrsetIter<'v> {
 }
 
 impl<'v> Model for RrsetIter<'v> {
-    ghost use Rattle.std.specs.Prelude.{List, map};
+    ghost use Rattle.std.specs.Prelude.{List, map, IsTrue};
+    ghost use Rattle.std.specs.List.{list_all};
     ghost use Rattle.zone_model.specs.Walk.{Stop};
+    ghost use Rattle.zone_sets.specs.TypedEntries.{entry_of, has_own_type};
     ghost use Rattle.zone_versions.specs.Stops.{stop_of};
 
     ghost Value = { List Stop };
 
-    ghost view = { λ w. map (stop_of w.version.now) w.entries };
+    ghost view = { λ w. map (stop_of w.version.now) (map entry_of w.entries) };
+
+    ghost invariant = { λ w. IsTrue (list_all has_own_type w.entries) };
 }
 
 impl<'v> RrsetIter<'v> {

@@ -4,8 +4,10 @@ use Rattle.std.specs.Map.{remove_entry}
 use Rattle.std.specs.BTreeMap.{insert_entry}
 use Rattle.zone_model.specs.Version.{key_cmp, has_key, set_in, Sets}
 use Rattle.zone_types.specs.TypedSets.{TypedSet}
-use Rattle.zone_diffs.specs.Kept.{entry_of, is_kept}
-use Rattle.zone_diffs.proofs.Entries.{TypedEntries, insert_seen, remove_seen, insert_kept, remove_kept, absent_seen, put_empty, put_full}
+use Rattle.zone_sets.specs.TypedEntries.{entry_of}
+use Rattle.zone_sets.proofs.KeptTypes.{TypedEntries, insert_seen, remove_seen}
+use Rattle.zone_diffs.specs.Kept.{is_kept}
+use Rattle.zone_diffs.proofs.Entries.{insert_kept, remove_kept, never_found, put_empty, put_full}
 use Rattle.zone_diffs.proofs.sets.DiffSets.put.Goals as goal
 
 pub invariant_of-self : goal.invariant_of-self
@@ -19,7 +21,7 @@ returns-then-is_empty-clause-ok c =
 -- An insertion at a key that is there isn't refused.
 pub returns-in_err-insert-clause-ready : goal.returns-in_err-insert-clause-ready
 returns-in_err-insert-clause-ready c some =
-    absurd (absent_seen c.self.inside.entries.entries c.args.key c.in_err-insert.ensures.absent (subst (λ (es : Sets). is_some (set_in es c.args.key) ≡ true) (sym c.self.view_is) some))
+    absurd (never_found c.self.inside.entries.entries c.args.key c.in_err-insert.ensures.absent (subst (λ (es : Sets). is_some (set_in es c.args.key) ≡ true) (sym c.self.view_is) some))
 
 pub invariant_of-self-2 : goal.invariant_of-self-2
 invariant_of-self-2 c =
