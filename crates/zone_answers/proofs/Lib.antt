@@ -5,3 +5,4 @@ mod FirstSets
 mod Wildcards
 mod Referrals
 mod JoinedRecords
+mod LentTypes

@@ -1,8 +1,10 @@
 // The kinds of answer, lent.
-ghost use Rattle.std.specs.Prelude.{◌≡◌, option_copied};
+ghost use Rattle.std.specs.Prelude.{◌≡◌, IfSome, option_copied};
+ghost use Rattle.dns_name.specs.Codes.{type_ns, type_cname, type_ds};
 ghost use Rattle.zone_model.specs.Answer.{answer_section, authority_section, glue_section, is_authoritative, rcode_of, set_or_no_data};
 ghost use Rattle.zone_model.specs.Answer.Answer.{Referral, Alias, NameError};
-ghost use Rattle.zone_answers.specs.Answers.{cut_of, servers_of, set_found, signer_of, type_found};
+ghost use Rattle.zone_sets.specs.TypedEntries.{untyped};
+ghost use Rattle.zone_answers.specs.Answers.{answer_of, cut_of, HasItsTypes, servers_of, set_found, signer_of, type_found};
 
 use crate::records::SetRecords;
 use crate::sections::{AnswerRecords, apex_soa};
@@ -33,11 +35,13 @@ pub(crate) struct LentAnswer<'v> {
 
 impl<'v> Model for LentAnswer<'v> {
     ghost use Rattle.zone_model.specs.Answer.{Answer};
-    ghost use Rattle.zone_answers.specs.Answers.{answer_of};
+    ghost use Rattle.zone_answers.specs.Answers.{answer_of, HasItsTypes};
 
     ghost Value = { Answer };
 
     ghost view = { λ a. answer_of a.content };
+
+    ghost invariant = { λ a. HasItsTypes a.content };
 }
 
 impl<'v> LentAnswer<'v> {
@@ -47,7 +51,9 @@ impl<'v> LentAnswer<'v> {
         servers: &'v RecordSet,
         signer: Option<&'v RecordSet>,
     ) -> LentAnswer<'v>
-        ensures { result ≡ Referral owner servers.now (option_copied signer.entry) }
+        requires servers { servers.now.rtype ≡ type_ns }
+        requires signer { IfSome signer (λ s. s.now.rtype ≡ type_ds) }
+        ensures { result ≡ Referral owner servers.now.contents (untyped (option_copied signer.entry)) }
     {
         LentAnswer {
             content: Content::Referral(owner, servers, signer),
@@ -56,7 +62,8 @@ impl<'v> LentAnswer<'v> {
 
     /// The CNAME set of the name.
     pub(crate) fn alias(target: &'v RecordSet) -> LentAnswer<'v>
-        ensures { result ≡ Alias target.now }
+        requires { target.now.rtype ≡ type_cname }
+        ensures { result ≡ Alias target.now.contents }
     {
         LentAnswer {
             content: Content::Alias(target),
@@ -65,7 +72,8 @@ impl<'v> LentAnswer<'v> {
 
     /// The set of the type, where there is one.
     pub(crate) fn set_or_no_data(rtype: Rtype, found: Option<&'v RecordSet>) -> LentAnswer<'v>
-        ensures { result ≡ set_or_no_data rtype (option_copied found.entry) }
+        requires { IfSome found (λ s. s.now.rtype ≡ rtype) }
+        ensures { result ≡ set_or_no_data rtype (untyped (option_copied found.entry)) }
     {
         match found {
             Some(found) => LentAnswer {
@@ -84,6 +92,14 @@ impl<'v> LentAnswer<'v> {
         LentAnswer {
             content: Content::NameError,
         }
+    }
+
+    /// The kind of answer with its sets.
+    pub(crate) fn content(&self) -> &Content<'v>
+        ensures answer { answer_of result.now ≡ self.now }
+        ensures types { HasItsTypes result.now }
+    {
+        &self.content
     }
 
     /// NXDOMAIN where the name doesn't exist, else NOERROR (RFC 1035, 4.1.1).

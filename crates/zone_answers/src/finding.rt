@@ -58,6 +58,7 @@ fn first_set<'v>(version: &'v ZoneVersion, name: &NameRef<'_>) -> LentAnswer<'v>
 }
 
 /// What a name below no cut has: below the apex its CNAME, else the set of the type (RFC 1034, 4.3.2, step 3a).
+#[tactic(auto, using(crate::proofs::LentTypes::lent_set, crate::proofs::LentTypes::lent_type))]
 fn own_sets<'v>(version: &'v ZoneVersion, name: &NameRef<'_>, rtype: Rtype) -> LentAnswer<'v>
     requires { IsValid version.now }
     ensures { result ≡ own_sets version.now name.now rtype (alias_at version.now name.now) }
@@ -75,6 +76,7 @@ fn own_sets<'v>(version: &'v ZoneVersion, name: &NameRef<'_>, rtype: Rtype) -> L
 
 /// What a zone cut at a name or above it answers: a referral, but DS at the cut itself is the parent's own (RFC 1034, 4.3.2, step 3b; RFC 4035,
 /// 3.1.4.1).
+#[tactic(auto, using(crate::proofs::LentTypes::lent_set, crate::proofs::LentTypes::lent_type))]
 fn at_cut<'v>(
     version: &'v ZoneVersion,
     name: &NameRef<'_>,

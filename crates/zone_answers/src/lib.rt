@@ -7,6 +7,7 @@
 mod answer_ref;
 mod content;
 mod finding;
+mod owning;
 mod question;
 mod records;
 mod sections;

@@ -1,9 +1,10 @@
 // Records of the sections of an answer, lent.
-ghost use Rattle.std.specs.Prelude.{◌≡◌, ◌++◌, OnOk, length, take, map, option_copied, option_map};
+ghost use Rattle.std.specs.Prelude.{◌≡◌, ◌++◌, OnOk, IfSome, All, length, take, map, option_copied, option_map};
 ghost use Rattle.std.specs.Iterator.{YieldsFirst};
 ghost use Rattle.dns_rdata.specs.Records.{record_wire};
-ghost use Rattle.dns_rdata.specs.ZoneData.{data_fields};
+ghost use Rattle.dns_rdata.specs.ZoneData.{rtype_of, data_fields};
 ghost use Rattle.zone_model.specs.Answer.{records_of_option, first_only};
+ghost use Rattle.zone_sets.specs.TypedEntries.{untyped};
 
 use dns_name::{Class, KeyName, Labelled, Rtype, Ttl};
 use dns_rdata::{ComposeRecord, RecordData, StoredRecordData};
@@ -22,16 +23,19 @@ pub struct AnswerRecord<'v> {
 }
 
 impl<'v> Model for AnswerRecord<'v> {
+    ghost use Rattle.std.specs.Prelude.{◌≡◌};
     ghost use Rattle.dns_rdata.specs.Records.{Record};
-    ghost use Rattle.dns_rdata.specs.ZoneData.{data_fields};
+    ghost use Rattle.dns_rdata.specs.ZoneData.{rtype_of, data_fields};
 
     ghost Value = { Record };
 
     ghost view = { λ r. record { owner = r.owner; rtype = r.rtype; class = r.class; ttl = r.ttl; fields = data_fields r.rdata.now } };
+
+    ghost invariant = { λ r. rtype_of r.rdata.now ≡ r.rtype };
 }
 
 impl<'v> AnswerRecord<'v> {
-    /// The record of these parts.
+    /// The record of these parts, the data of this type.
     pub(crate) fn new(
         owner: KeyName,
         rtype: Rtype,
@@ -39,6 +43,7 @@ impl<'v> AnswerRecord<'v> {
         ttl: Ttl,
         rdata: &'v StoredRecordData,
     ) -> AnswerRecord<'v>
+        requires { rtype_of rdata.now ≡ rtype }
         ensures { result ≡ record { owner = owner; rtype = rtype; class = class; ttl = ttl; fields = data_fields rdata.now } }
     {
         AnswerRecord {
@@ -80,7 +85,8 @@ impl<'v> AnswerRecord<'v> {
 
     /// The data.
     pub fn data(&self) -> &'v StoredRecordData
-        ensures { data_fields result.now ≡ self.now.fields }
+        ensures rtype { rtype_of result.now ≡ self.now.rtype }
+        ensures fields { data_fields result.now ≡ self.now.fields }
     {
         self.rdata
     }
@@ -125,25 +131,28 @@ pub(crate) struct SetRecords<'v> {
 }
 
 impl<'v> Model for SetRecords<'v> {
-    ghost use Rattle.std.specs.Prelude.{List, map};
+    ghost use Rattle.std.specs.Prelude.{◌≡◌, List, map, All};
     ghost use Rattle.dns_rdata.specs.Records.{Record};
-    ghost use Rattle.dns_rdata.specs.ZoneData.{data_fields};
+    ghost use Rattle.dns_rdata.specs.ZoneData.{rtype_of, data_fields};
     ghost use Rattle.zone_model.specs.Answer.{records_of};
 
     ghost Value = { List Record };
 
     ghost view = { λ s. records_of s.owner s.rtype s.class (record { ttl = s.ttl; items = map data_fields s.items.now }) };
+
+    ghost invariant = { λ s. All (λ d. rtype_of d ≡ s.rtype) s.items.now };
 }
 
 impl<'v> SetRecords<'v> {
-    /// The records of a set, and none where there is no set.
+    /// The records of a set of this type, and none where there is no set.
     pub(crate) fn of(
         owner: KeyName,
         rtype: Rtype,
         class: Class,
         contents: Option<&'v RecordSet>,
     ) -> SetRecords<'v>
-        ensures { result ≡ records_of_option owner rtype class (option_copied contents.entry) }
+        requires { IfSome contents (λ s. s.now.rtype ≡ rtype) }
+        ensures { result ≡ records_of_option owner rtype class (untyped (option_copied contents.entry)) }
     {
         match contents {
             Some(contents) => SetRecords {
@@ -163,14 +172,15 @@ impl<'v> SetRecords<'v> {
         }
     }
 
-    /// The first record of a set, and none where there is no set.
+    /// The first record of a set of this type, and none where there is no set.
     pub(crate) fn first_of(
         owner: KeyName,
         rtype: Rtype,
         class: Class,
         contents: Option<&'v RecordSet>,
     ) -> SetRecords<'v>
-        ensures { result ≡ records_of_option owner rtype class (option_map first_only (option_copied contents.entry)) }
+        requires { IfSome contents (λ s. s.now.rtype ≡ rtype) }
+        ensures { result ≡ records_of_option owner rtype class (option_map first_only (untyped (option_copied contents.entry))) }
     {
         let mut left = SetRecords::of(owner, rtype, class, contents);
         if left.items.len() > 1 {

@@ -127,6 +127,7 @@ fn no_records<'v>(version: &'v ZoneVersion) -> SetRecords<'v>
 }
 
 /// The first SOA record of the apex (RFC 2308, 3).
+#[tactic(auto, using(crate::proofs::LentTypes::lent_set, crate::proofs::LentTypes::lent_type))]
 pub(crate) fn apex_soa<'v>(version: &'v ZoneVersion) -> SetRecords<'v>
     ensures { result ≡ apex_soa_record version.now }
 {
@@ -169,6 +170,7 @@ fn addresses<'v>(
 }
 
 /// The records of one type of a name, with the owner that the version keeps.
+#[tactic(auto, using(crate::proofs::LentTypes::lent_set, crate::proofs::LentTypes::lent_type))]
 fn addresses_of<'v>(version: &'v ZoneVersion, target: &StoredName, rtype: Rtype) -> SetRecords<'v>
     ensures { result ≡ records_of_option (kept_owner version.now target.now) rtype version.now.class (set_at version.now target.now rtype) }
 {
