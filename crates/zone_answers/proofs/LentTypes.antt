@@ -1,5 +1,5 @@
 -- Lent sets with their type and without it.
-use Rattle.std.proofs.Common.{◌≡◌, ℕ, suc, ◌+◌, ◌<◌, List, ◌∷◌, length, get_or, All, arith, subst, refl, sym, ap, ◌∙◌, true≢false, Option, Some, None, option_map, is_some, IfSome}
+use Rattle.std.proofs.Common.{◌≡◌, ℕ, suc, List, ◌∷◌, All, arith, subst, refl, ap, ◌∙◌, true≢false, Option, Some, None, option_map, is_some, IfSome}
 use denote.Ref.{Bor}
 use Rattle.std.specs.Option.{option_copied}
 use Rattle.zone_model.specs.Version.{RecordSet, Key}
@@ -19,14 +19,11 @@ lent_type rtype (Some s) o e = by o e
     by None g = absurd (true≢false (ap is_some g))
     by (Some t) g = ap (λ (x : Option TypedSet). elim x as (λ y. ℕ) [ Some y ↦ y.rtype | None ↦ s.now.rtype ]) g
 
--- a set that is lent, with its type again
-pub typed_again : (rtype : ℕ) (s : TypedSet) → s.rtype ≡ rtype → Some s ≡ Some (typed rtype s.contents)
-typed_again rtype s e = ap (λ n. Some (typed n s.contents)) e
-
-pub option_typed_again : (rtype : ℕ) (r : Option (Bor TypedSet)) → IfSome r (λ s. s.now.rtype ≡ rtype) → option_copied r ≡ option_map (typed rtype) (untyped (option_copied r))
-option_typed_again rtype None h = refl
-option_typed_again rtype (Some s) h = typed_again rtype s.now h
-
 -- all but the first
 pub all_behind : {X : Type 0} (P : X → Type 0) (xs : List X) (x : X) (rest : List X) → xs ≡ x ∷ rest → All P xs → All P rest
 all_behind P xs x rest e h = λ k d below. (subst (All P) e h) (suc k) d (omega arith)
+
+-- an entry that is found, without its set's type
+pub found_untyped : (o : Option (Key × RecordSet)) → option_map entry_of (option_map item_of o) ≡ o
+found_untyped None = refl
+found_untyped (Some e) = refl

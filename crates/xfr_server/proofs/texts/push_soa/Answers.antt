@@ -1,6 +1,8 @@
-use Rattle.std.proofs.Common.{◌≡◌, refl, sym, ◌∙◌}
+use Rattle.std.proofs.Common.{◌≡◌, refl, sym, ap, ◌∙◌}
 use Rattle.dns_name.specs.Codes.{type_soa}
 use Rattle.dns_rdata.specs.ZoneData.{data_fields}
+use Rattle.zone_sets.specs.TypedEntries.{untyped}
+use Rattle.zone_versions.proofs.TypedStops.{untyped_typed}
 use Rattle.xfr_server.proofs.Adding.{adds_none, soa_none}
 use Rattle.xfr_server.proofs.Loops.{record_with, no_soa_data, pushed_soa}
 use Rattle.xfr_server.proofs.texts.push_soa.Goals as goal
@@ -8,18 +10,19 @@ use Rattle.xfr_server.proofs.texts.push_soa.Goals as goal
 pub returns-in_default : goal.returns-in_default
 returns-in_default c =
     let found = rw c.apex_name.ensures at c.in_default.ensures in
-    adds_none _ c.args.answer.now _ (soa_none c.args.zone.now.version (sym found))
+    adds_none _ c.args.answer.now _ (soa_none c.args.zone.now.version (sym (ap untyped found ∙ untyped_typed type_soa _)))
 
 pub returns-in_default-first : goal.returns-in_default-first
 returns-in_default-first c =
     let found = rw c.apex_name.ensures at c.in-Some.ensures in
-    adds_none _ c.args.answer.now _ (no_soa_data data_fields c.items.result.now c.args.zone.now.version c.in-Some.found.now found c.in_default-first.ensures.value c.items.ensures)
+    adds_none _ c.args.answer.now _
+    (no_soa_data data_fields c.items.result.now c.args.zone.now.version c.in-Some.found.now.contents (ap untyped found ∙ untyped_typed type_soa _) c.in_default-first.ensures.value c.items.ensures.fields)
 
 pub returns : goal.returns
 returns c =
     let v = c.args.zone.now.version in
     let found = rw c.apex_name.ensures at c.in-Some.ensures in
-    let made : c.new.result ≡ record_with v.apex type_soa v.class c.in-Some.found.now.ttl (data_fields c.in-Some-first.rdata.now) =
+    let made : c.new.result ≡ record_with v.apex type_soa v.class c.in-Some.found.now.contents.ttl (data_fields c.in-Some-first.rdata.now) =
     c.new.ensures ∙ rw (c.to_key_name-owner.ensures.value, c.apex_name-2.ensures, c.class.ensures, c.ttl.ensures) refl in
-    pushed_soa data_fields c.items.result.now c.in-Some-first.rdata.now v c.in-Some.found.now c.new.result c.args.answer.now c.push.new.self c.push.result
-    found c.in-Some-first.ensures.value c.items.ensures made c.push.ensures.adds
+    pushed_soa data_fields c.items.result.now c.in-Some-first.rdata.now v c.in-Some.found.now.contents c.new.result c.args.answer.now c.push.new.self c.push.result
+    (ap untyped found ∙ untyped_typed type_soa _) c.in-Some-first.ensures.value c.items.ensures.fields made c.push.ensures.adds

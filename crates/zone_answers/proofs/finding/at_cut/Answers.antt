@@ -1,6 +1,6 @@
 use Rattle.std.proofs.Common.{◌≡◌, Some, ◌==◌, ◌&&◌, false, sym, ap, ◌∙◌}
 use Rattle.std.specs.Option.{option_copied}
-use Rattle.dns_name.specs.Names.{fold, same_name}
+use Rattle.dns_name.specs.Names.{same_name}
 use Rattle.dns_name.specs.Codes.{type_ns, type_ds}
 use Rattle.zone_model.specs.Answer.Answer.{Referral}
 use Rattle.zone_sets.specs.TypedEntries.{untyped}
