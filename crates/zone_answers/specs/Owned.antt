@@ -1,6 +1,5 @@
 -- The answer of a version as a reply that owns its records (RFC 1034, 4.3.2).
-use Rattle.std.specs.Prelude.{ℕ, List, [], Option, Some, None, option_map}
-use Rattle.std.specs.Option.{option_and_then}
+use Rattle.std.specs.Prelude.{◌≡◌, ℕ, [], length, Option, Some, None, option_map}
 use Rattle.dns_name.specs.Codes.{type_ns, type_cname, type_soa, type_ds}
 use Rattle.zone_model.specs.Version.{Version, RecordSet, set_at}
 use Rattle.zone_model.specs.Answer.{Answer, rcode_of, is_authoritative, glue_section}
@@ -25,11 +24,12 @@ content_of (Found rtype found) = Data (typed rtype found)
 content_of NoData = NoContent
 content_of NameError = NoContent
 
--- the first record of the apex SOA set, if there is one
+-- the first record of a set of this type, if there is one
 abbrev pub first_of_option : ℕ → Option RecordSet → Option TypedRecord
 first_of_option rtype None = None
 first_of_option rtype (Some s) = first_record (typed rtype s)
 
+-- the first SOA record of the apex, if there is one
 abbrev pub first_apex_soa : Version → Option TypedRecord
 first_apex_soa v = first_of_option type_soa (set_at v v.apex type_soa)
 
@@ -62,3 +62,11 @@ reply_of a = record {
   authority = authority_for a.version a.answer;
   authoritative = is_authoritative a.answer;
 }
+
+-- an alias has exactly one record, as in each valid version (RFC 2181, 10.1)
+abbrev pub HasOneCname : Answer → Type 0
+HasOneCname (Referral owner servers signer) = Unit {0}
+HasOneCname (Alias target) = length target.items ≡ 1
+HasOneCname (Found rtype found) = Unit {0}
+HasOneCname NoData = Unit {0}
+HasOneCname NameError = Unit {0}
