@@ -2,18 +2,18 @@
 use Rattle.std.proofs.Common.{◌≡◌, ℕ, List, [], ◌∷◌, length, refl, ap, ◌∙◌, Option, Some, None, option_map}
 use Rattle.std.specs.Option.{option_map_or}
 use Rattle.dns_name.specs.Names.{Name}
-use Rattle.dns_name.specs.Codes.{type_ns, type_cname, type_soa, type_ds}
-use Rattle.dns_rdata.specs.Records.{Field, Record}
+use Rattle.dns_name.specs.Codes.{type_cname, type_soa}
+use Rattle.dns_rdata.specs.Records.{Field}
 use Rattle.dns_wire.specs.Wire.{Question}
 use Rattle.zone_model.specs.Version.{Version, RecordSet, set_at}
 use Rattle.zone_model.specs.Answer.{Answer, answer_section, authority_section, glue_section, records_of, records_of_option, first_only}
 use Rattle.zone_model.specs.Answer.Answer.{Referral, Alias, Found, NoData, NameError}
 use Rattle.zone_types.specs.TypedSets.{first_record}
 use Rattle.zone_sets.specs.TypedEntries.{typed}
-use Rattle.zone_replies.specs.Replies.{Authority, authority}
+use Rattle.zone_replies.specs.Replies.{authority}
 use Rattle.zone_replies.specs.Sending.{answers_of, authority_of, authority_in, authority_records, content_records, required_of, discardable_of}
 use Rattle.zone_answers.specs.Answers.{answered_by}
-use Rattle.zone_answers.specs.Owned.{HasOneCname, alias_content, first_of_option, reply_of, soa_authority}
+use Rattle.zone_answers.specs.Owned.{HasOneCname, alias_content, first_of_option, reply_of}
 
 abbrev pub set_with : ℕ → List (List Field) → RecordSet
 set_with ttl items = record { ttl = ttl; items = items }
