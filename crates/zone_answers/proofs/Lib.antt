@@ -6,3 +6,4 @@ mod Wildcards
 mod Referrals
 mod JoinedRecords
 mod LentTypes
+mod OwnedRecords

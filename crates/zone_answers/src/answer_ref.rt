@@ -1,9 +1,9 @@
 // An answer of a version, lent.
 ghost use Rattle.std.specs.Prelude.{◌≡◌, option_copied};
 ghost use Rattle.zone_model.specs.Answer.{answer_section, authority_section, glue_section, is_authoritative, rcode_of};
-ghost use Rattle.zone_answers.specs.Answers.{answered_by, cut_of, servers_of, set_found, signer_of, type_found};
+ghost use Rattle.zone_answers.specs.Answers.{answer_of, answered_by, cut_of, HasItsTypes, servers_of, set_found, signer_of, type_found};
 
-use crate::content::LentAnswer;
+use crate::content::{Content, LentAnswer};
 use crate::sections::AnswerRecords;
 use dns_name::{KeyName, Labelled, Rcode, Rtype};
 use std::marker::Model;
@@ -30,6 +30,21 @@ impl<'v> AnswerRef<'v> {
         ensures { result ≡ answered_by version.now lent.entry }
     {
         AnswerRef { version, lent }
+    }
+
+    /// The version that was asked.
+    pub(crate) fn version(&self) -> &'v ZoneVersion
+        ensures { result.now ≡ self.now.version }
+    {
+        self.version
+    }
+
+    /// The sets of the answer.
+    pub(crate) fn content(&self) -> &Content<'v>
+        ensures answer { answer_of result.now ≡ self.now.answer }
+        ensures types { HasItsTypes result.now }
+    {
+        self.lent.content()
     }
 
     /// NXDOMAIN where the name doesn't exist, else NOERROR (RFC 1035, 4.1.1).

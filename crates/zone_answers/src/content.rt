@@ -4,7 +4,7 @@ ghost use Rattle.dns_name.specs.Codes.{type_ns, type_cname, type_ds};
 ghost use Rattle.zone_model.specs.Answer.{answer_section, authority_section, glue_section, is_authoritative, rcode_of, set_or_no_data};
 ghost use Rattle.zone_model.specs.Answer.Answer.{Referral, Alias, NameError};
 ghost use Rattle.zone_sets.specs.TypedEntries.{untyped};
-ghost use Rattle.zone_answers.specs.Answers.{cut_of, servers_of, set_found, signer_of, type_found};
+ghost use Rattle.zone_answers.specs.Answers.{answer_of, cut_of, HasItsTypes, servers_of, set_found, signer_of, type_found};
 
 use crate::records::SetRecords;
 use crate::sections::{AnswerRecords, apex_soa};
@@ -92,6 +92,14 @@ impl<'v> LentAnswer<'v> {
         LentAnswer {
             content: Content::NameError,
         }
+    }
+
+    /// The kind of answer with its sets.
+    pub(crate) fn content(&self) -> &Content<'v>
+        ensures answer { answer_of result.now ≡ self.now }
+        ensures types { HasItsTypes result.now }
+    {
+        &self.content
     }
 
     /// NXDOMAIN where the name doesn't exist, else NOERROR (RFC 1035, 4.1.1).

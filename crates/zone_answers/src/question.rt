@@ -7,13 +7,8 @@ ghost use Rattle.zone_answers.specs.Answers.{answered_by};
 use crate::answer_ref::AnswerRef;
 use crate::finding::answer;
 use dns_name::{Rtype, ToName};
-use thiserror::Error;
 use zone_store::ReadZone;
-
-/// The name is neither the zone's apex nor below it.
-#[derive(Clone, Copy, Debug, PartialEq, Eq, Drop, Error)]
-#[error("Out of zone")]
-pub struct OutOfZone;
+use zone_types::OutOfZone;
 
 /// What the handle's version has for a name and a type, without a copy and in no memory: the highest zone cut at or above the name refers, but DS
 /// at the cut itself is the zone's own; else a name that exists has its CNAME, whatever is asked below the apex, or the set of the type, for ANY that of

@@ -3,6 +3,8 @@
 #![tactic(auto)]
 
 mod comparing;
+mod errors;
+mod querying;
 mod stores;
 #[cfg(test)]
 mod tests;
@@ -10,6 +12,7 @@ mod walking;
 mod zones;
 
 pub use comparing::is_same;
+pub use errors::QueryError;
 pub use stores::ReadableZone;
 pub use walking::walk;
 pub use zones::{Zone, ZoneStore};

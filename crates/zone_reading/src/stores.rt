@@ -5,10 +5,15 @@ ghost use Rattle.dns_name.specs.Names.{under};
 ghost use Rattle.zone_model.specs.Answer.{answer};
 ghost use Rattle.zone_model.specs.Walk.{next_stop, walk as walk_of};
 ghost use Rattle.zone_answers.specs.Answers.{answered_by};
+ghost use Rattle.zone_reading.specs.Queries.{Queried};
 
+use crate::errors::QueryError;
+use crate::querying::query;
 use crate::walking::walk;
 use dns_name::{Labelled, Rtype, ToName};
+use std::alloc::Global;
 use zone_answers::{AnswerRef, OutOfZone, look_up};
+use zone_replies::Answer;
 use zone_store::{ReadZone, WalkItem};
 
 /// A read handle: one version of a zone, whatever keeps it.
@@ -24,6 +29,11 @@ pub trait ReadableZone {
         ensures inside { OnOk result (under (N.labels qname.now) (version_of self.now).apex ≡ true) }
         ensures outside { OnErr result (under (N.labels qname.now) (version_of self.now).apex ≡ false) }
         ensures answer { IfOk result (λ a. a ≡ answered_by (version_of self.now) (answer (version_of self.now) (N.labels qname.now) qtype)) };
+
+    /// The same answer with records of its own. `OutOfZone` exactly where the name is neither the apex nor below it, `Memory` only where memory
+    /// runs out.
+    fn query<N: ToName>(&self, alloc: Global, qname: &N, qtype: Rtype) -> Result<Answer, QueryError>
+        ensures { Queried (version_of self.now) (N.labels qname.now) qtype result };
 
     /// The first set behind an owner and type: owners in canonical order, types ascending (RFC 4034, 6.1).
     fn next_rrset<N: Labelled>(&self, owner: &N, rtype: Rtype) -> Option<WalkItem<'_>>
@@ -44,6 +54,15 @@ impl ReadableZone for ReadZone {
         qtype: Rtype,
     ) -> Result<AnswerRef<'v>, OutOfZone> {
         look_up(self, qname, qtype)
+    }
+
+    fn query<N: ToName>(
+        &self,
+        alloc: Global,
+        qname: &N,
+        qtype: Rtype,
+    ) -> Result<Answer, QueryError> {
+        query(self, alloc, qname, qtype)
     }
 
     fn next_rrset<N: Labelled>(&self, owner: &N, rtype: Rtype) -> Option<WalkItem<'_>> {
