@@ -103,8 +103,7 @@ impl<'z> WriteZone<'z> {
     }
 
     /// Where memory comes from.
-    pub(crate) fn memory(&self) -> Global
-    {
+    pub(crate) fn memory(&self) -> Global {
         self.alloc
     }
 
@@ -173,10 +172,7 @@ impl<'z> WriteZone<'z> {
     /// With `bump_soa_serial` a pending SOA that is absent, or as published, becomes the published one with the next serial (RFC 1982, 3.1).
     /// Told is the difference to the version before (RFC 1995, 4), where it was asked for since the last commit or rollback (`open`), both
     /// versions have an SOA record at the apex, and the new serial is neither the old one nor before it.
-    pub fn commit(
-        &mut self,
-        bump_soa_serial: bool,
-    ) -> Result<Option<InMemoryZoneDiff>, CommitError>
+    pub fn commit(&mut self, bump_soa_serial: bool) -> Result<Option<InMemoryZoneDiff>, CommitError>
         ensures ok { OnOk result (self.new ≡ committed self.old bump_soa_serial) }
         ensures difference { IfOk result (λ told. told ≡ told_difference self.old bump_soa_serial) }
         ensures exhausted { (result ≡ Err CommitError.VersionsExhausted) ↔ (self.old.current.number ≡ 2 ^ 64 - 1) }
