@@ -3,7 +3,7 @@
 use crate::tests::{address, name, soa, zone};
 use crate::{WriteZone, ZoneApex};
 use dns_name::{Label, NameRef, Rtype, Serial, Ttl};
-use dns_rdata::{A, ZoneRecordData};
+use dns_rdata::{A, RecordData, ZoneRecordData};
 use std::alloc::Global;
 use std::process::Abort;
 use zone_diffs::{InMemoryZoneDiff, ZoneDiff};
@@ -16,6 +16,7 @@ fn three<R: Abort>(rt: &R, alloc: Global, ttl: u32) -> SharedRrset {
     let mut set = Rrset::new(alloc, Rtype::A, Ttl::from_int(ttl));
     for last in [1_u8, 2, 3] {
         let item = ZoneRecordData::A(A::new([192, 0, 2, last]));
+        assert!(rt; item.rtype() == set.rtype());
         set.push_data(item).expect(rt, "memory");
     }
     set.into_shared(alloc).expect(rt, "memory")

@@ -3,7 +3,7 @@
 use crate::tests::{address, filled, name};
 use crate::{EditError, NodeError, UpdateError, WriteNode, WriteZone};
 use dns_name::{Label, NameRef, Rtype, Ttl};
-use dns_rdata::{A, Cname, Ns, StoredRecordData, ZoneRecordData};
+use dns_rdata::{A, Cname, Ns, RecordData, StoredRecordData, ZoneRecordData};
 use std::alloc::Global;
 use std::process::Abort;
 use zone_types::{Rrset, SharedRr, SharedRrset, ZoneCut};
@@ -18,10 +18,16 @@ fn host(last: u8) -> StoredRecordData {
     ZoneRecordData::A(A::new([192, 0, 2, last]))
 }
 
+/// Puts data of a set's type last.
+fn push<R: Abort>(rt: &R, set: &mut Rrset, item: StoredRecordData) {
+    assert!(rt; item.rtype() == set.rtype());
+    set.push_data(item).expect(rt, "memory");
+}
+
 fn hosts<R: Abort>(rt: &R, alloc: Global, first: u8, second: u8) -> SharedRrset {
     let mut set = Rrset::new(alloc, Rtype::A, Ttl::from_int(30));
-    set.push_data(host(first)).expect(rt, "memory");
-    set.push_data(host(second)).expect(rt, "memory");
+    push(rt, &mut set, host(first));
+    push(rt, &mut set, host(second));
     set.into_shared(alloc).expect(rt, "memory")
 }
 
@@ -40,8 +46,7 @@ fn aliases<R: Abort>(rt: &R, alloc: Global, first: &[u8], second: &[u8]) -> Shar
 fn servers<R: Abort>(rt: &R, alloc: Global) -> SharedRrset {
     let mut set = Rrset::new(alloc, Rtype::NS, Ttl::from_int(30));
     let server = Ns::new(name(rt, alloc, b"\x02ns\x01c\x07example\x00"));
-    set.push_data(ZoneRecordData::Ns(server))
-        .expect(rt, "memory");
+    push(rt, &mut set, ZoneRecordData::Ns(server));
     set.into_shared(alloc).expect(rt, "memory")
 }
 
@@ -136,6 +141,7 @@ fn makes_a_cut(rt: HostRuntime) {
         glue,
     };
     let mut node = child(&rt, session.node(), b"c");
+    assert!(rt; cut.ns.as_rrset().rtype() == Rtype::NS);
     assert_eq!(rt; node.make_zone_cut(cut), Ok(()));
     let node = child(&rt, node, b"ns");
     assert!(rt; node.get_rrset(Rtype::A).is_some());
@@ -154,10 +160,12 @@ fn makes_an_alias(rt: HostRuntime) {
     let mut session = zone.write(alloc);
     let other = b"\x01b\x07example\x00";
     let alias = SharedRr::new(Ttl::from_int(30), target(&rt, alloc, other));
+    assert!(rt; alias.rtype() == Rtype::CNAME);
     let refused = session.node().make_cname(alias);
     assert_eq!(rt; refused, Err(NodeError::NotAllowed));
     let alias = SharedRr::new(Ttl::from_int(30), target(&rt, alloc, other));
     let mut node = child(&rt, session.node(), b"a");
+    assert!(rt; alias.rtype() == Rtype::CNAME);
     assert_eq!(rt; node.make_cname(alias), Ok(()));
     let two = aliases(&rt, alloc, other, b"\x01c\x07example\x00");
     assert_eq!(rt; node.update_rrset(two), Err(EditError::InvalidData));
