@@ -37,9 +37,8 @@ fn target<R: Abort>(rt: &R, alloc: Global, octets: &[u8]) -> StoredRecordData {
 
 fn aliases<R: Abort>(rt: &R, alloc: Global, first: &[u8], second: &[u8]) -> SharedRrset {
     let mut set = Rrset::new(alloc, Rtype::CNAME, Ttl::from_int(30));
-    set.push_data(target(rt, alloc, first)).expect(rt, "memory");
-    set.push_data(target(rt, alloc, second))
-        .expect(rt, "memory");
+    push(rt, &mut set, target(rt, alloc, first));
+    push(rt, &mut set, target(rt, alloc, second));
     set.into_shared(alloc).expect(rt, "memory")
 }
 
