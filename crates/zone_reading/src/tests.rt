@@ -1,7 +1,7 @@
 // A zone of two versions: its walk, its answers, and what the versions have in common.
 
-use crate::{QueryError, ReadableZone, Zone, ZoneStore, is_same};
-use dns_name::{Class, Labelled, NameRef, Rcode, Rtype, StoredName, ToName, Ttl};
+use crate::{ReadableZone, Zone, ZoneStore, is_same};
+use dns_name::{Class, Labelled, NameRef, Rtype, StoredName, ToName, Ttl};
 use dns_rdata::{A, Record, StoredRecord, ZoneRecordData};
 use std::alloc::Global;
 use std::process::Abort;
@@ -82,25 +82,4 @@ fn versions_are_the_same_but_for_order(rt: HostRuntime) {
     let second = other.read().expect(&rt, "memory");
     assert!(rt; is_same(&first, &second));
     assert!(rt; !is_same(&less, &second));
-}
-
-#[test]
-fn queries_are_answered(rt: HostRuntime) {
-    let alloc = rt.alloc();
-    let mut zone = zone(&rt, alloc);
-    commit(&rt, alloc, &mut zone, &[(b"\x01a\x01c\0", 1)]);
-    let read = zone.read().expect(&rt, "memory");
-    let found = name(&rt, alloc, b"\x01A\x01C\0");
-    let found = read.query(alloc, &found, Rtype::A).expect(&rt, "an answer");
-    assert!(rt; found.authoritative());
-    let first = found.content().first().expect(&rt, "memory");
-    assert_eq!(rt; first.expect(&rt, "a record").ttl(), Ttl::from_int(60));
-    let absent = name(&rt, alloc, b"\x01b\x01c\0");
-    let absent = read
-        .query(alloc, &absent, Rtype::A)
-        .expect(&rt, "an answer");
-    assert_eq!(rt; absent.rcode(), Rcode::NXDOMAIN);
-    let outside = name(&rt, alloc, b"\x01d\0");
-    let refused = read.query(alloc, &outside, Rtype::A);
-    assert_eq!(rt; refused.err(), Some(QueryError::OutOfZone));
 }
