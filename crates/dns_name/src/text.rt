@@ -1,5 +1,5 @@
 // Names as text (RFC 1035, 5.1).
-ghost use Rattle.std.specs.Prelude.{Some};
+ghost use Rattle.std.specs.Prelude.{Some, ◌++◌, codes};
 ghost use Rattle.dns_name.specs.Names.{name_text};
 
 use crate::name::Name;
@@ -30,5 +30,21 @@ impl<'m> fmt::Display for ParsedName<'m> {
     fn fmt<W: fmt::Write>(&self, f: &mut fmt::Formatter<W>) -> fmt::Result {
         let name = self.to_key_name();
         write!(f, "{name}")
+    }
+}
+
+impl<Octs: AsSlice<u8>> fmt::Debug for Name<Octs> {
+    ghost debug_output = { λ n. Some (codes "Name(" ++ name_text n ++ codes ")") };
+
+    fn fmt<W: fmt::Write>(&self, f: &mut fmt::Formatter<W>) -> fmt::Result {
+        write!(f, "Name({self})")
+    }
+}
+
+impl<'m> fmt::Debug for ParsedName<'m> {
+    ghost debug_output = { λ n. Some (codes "ParsedName(" ++ name_text n ++ codes ")") };
+
+    fn fmt<W: fmt::Write>(&self, f: &mut fmt::Formatter<W>) -> fmt::Result {
+        write!(f, "ParsedName({self})")
     }
 }

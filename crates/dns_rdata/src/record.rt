@@ -11,7 +11,7 @@ use std::alloc::{AllocError, Global};
 use std::marker::Model;
 
 /// A record: its owner, its class, its TTL and its data (RFC 1035, 3.2.1).
-#[derive(Drop)]
+#[derive(Debug, Drop)]
 pub struct Record<N: Labelled + Drop, D: RecordData + Drop> {
     owner: N,
     class: Class,

@@ -16,7 +16,7 @@ use std::alloc::{AllocError, Global};
 use std::convert::AsSlice;
 
 /// Data of any type: of a known one piece by piece, and of any other as octets (RFC 1035, 3.3; RFC 3597, 3).
-#[derive(Drop)]
+#[derive(Debug, Drop)]
 pub enum ZoneRecordData<O: AsSlice<u8> + Drop, N: Labelled + Drop> {
     A(A),
     Aaaa(Aaaa),
