@@ -7,13 +7,13 @@ ghost use Rattle.zone_model.specs.Edits as edits;
 ghost use Rattle.zone_versions.specs.Puts.{adds_alias};
 
 use crate::apex::ZoneApex;
-use zone_errors::InsertError;
 use crate::read::ReadZone;
 use dns_name::{Class, Labelled, Rtype, StoredName, ToName};
 use dns_rdata::StoredRecord;
 use std::alloc::{AllocError, Global};
 use std::marker::Model;
 use std::sync::Arc;
+use zone_errors::InsertError;
 use zone_versions::ZoneVersion;
 
 /// The records that a zone opens with, put one by one. It is seen as the version that they make.

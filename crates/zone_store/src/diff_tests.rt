@@ -3,7 +3,7 @@
 use crate::tests::{address, name, soa, zone};
 use crate::{WriteZone, ZoneApex};
 use dns_name::{Label, NameRef, Rtype, Serial, Ttl};
-use dns_rdata::{A, RecordData, ZoneRecordData};
+use dns_rdata::{A, RecordData, StoredRecordData, ZoneRecordData};
 use std::alloc::Global;
 use std::process::Abort;
 use zone_diffs::{InMemoryZoneDiff, ZoneDiff};
@@ -138,4 +138,44 @@ fn drops_edits_without_a_trace(rt: HostRuntime) {
     assert!(rt; told.is_none());
     let later = session.handle().expect(&rt, "memory");
     assert!(rt; later.rrset_at(&owner, Rtype::A).is_some());
+}
+
+// The SOA is the one of the version that is read, whatever was committed since.
+#[test]
+fn gives_the_soa_of_a_version(rt: HostRuntime) {
+    let alloc = rt.alloc();
+    let mut zone = opened(&rt, alloc, 7);
+    let before = zone.read().expect(&rt, "memory");
+    let mut session = zone.write(alloc);
+    put_soa(&rt, alloc, &mut session, 8);
+    session.commit(false).expect(&rt, "a version");
+    drop(session);
+    let (ttl, item) = zone.get_soa(&before).expect(&rt, "an SOA record");
+    assert_eq!(rt; ttl, Ttl::from_int(3600));
+    assert!(rt; serial_is(item, 7));
+    let now = zone.read().expect(&rt, "memory");
+    let (_, item) = zone.get_soa(&now).expect(&rt, "an SOA record");
+    assert!(rt; serial_is(item, 8));
+}
+
+fn serial_is(item: &StoredRecordData, wanted: u32) -> bool {
+    match item {
+        ZoneRecordData::Soa(soa) => soa.serial == Serial::from(wanted),
+        _ => false,
+    }
+}
+
+#[test]
+fn prepares_names_of_the_zone(rt: HostRuntime) {
+    let alloc = rt.alloc();
+    let zone = zone(&rt, alloc);
+    let below = name(&rt, alloc, b"\x01b\x01T\x07EXAMPLE\x00");
+    let mut labels = zone.prepare_name(&below).ok().expect(&rt, "labels");
+    let first = labels.next().expect(&rt, "a label");
+    assert_eq!(rt; first.as_slice(), b"T".as_slice());
+    let second = labels.next().expect(&rt, "a label");
+    assert_eq!(rt; second.as_slice(), b"b".as_slice());
+    assert!(rt; labels.next().is_none());
+    let outside = name(&rt, alloc, b"\x01b\x00");
+    assert!(rt; zone.prepare_name(&outside).is_err());
 }

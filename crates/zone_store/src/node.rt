@@ -11,11 +11,11 @@ ghost use Rattle.zone_versions.specs.Causes.{refusal_of};
 ghost use Rattle.zone_store.specs.Nodes.{with_edit};
 
 use crate::child::child_name;
-use zone_errors::{NodeError, UpdateError};
 use crate::write::WriteZone;
 use dns_name::{KeyName, Label, Labelled, Rtype};
 use std::alloc::AllocError;
 use std::marker::Model;
+use zone_errors::{NodeError, UpdateError};
 use zone_types::{SharedRr, SharedRrset, ZoneCut};
 use zone_versions::{EditError, RecordSet};
 

@@ -11,7 +11,6 @@ ghost use Rattle.zone_changes.specs.Drafts.{draft};
 ghost use Rattle.zone_store.specs.Pending.{told_of};
 
 use crate::apex::ZoneApex;
-use zone_errors::CommitError;
 use crate::read::ReadZone;
 use dns_name::{StoredName, Ttl};
 use dns_rdata::{Soa, StoredRecord};
@@ -19,6 +18,7 @@ use std::alloc::{AllocError, Global};
 use std::marker::Model;
 use zone_changes::Draft;
 use zone_diffs::InMemoryZoneDiff;
+use zone_errors::CommitError;
 use zone_versions::{EditError, ZoneVersion};
 
 /// The one session of a zone: it edits what is pending, and publishes it by `commit`. What is pending when it is dropped is gone.
