@@ -1,20 +1,19 @@
 // A zone.
-ghost use Rattle.std.specs.Prelude.{◌≡◌, [], IfOk, IfSome, OnErr, option_map, true, false};
+ghost use Rattle.std.specs.Prelude.{◌≡◌, [], IfOk, OnErr, option_copied, option_map, true, false};
 ghost use Rattle.dns_name.specs.Names.{under};
 ghost use Rattle.dns_name.specs.Codes.{type_soa};
-ghost use Rattle.dns_rdata.specs.ZoneData.{rtype_of, data_fields};
-ghost use Rattle.zone_model.specs.Edits.{first_soa};
+ghost use Rattle.zone_model.specs.Version.{set_at};
 ghost use Rattle.zone_types.specs.Relative.{labels_below};
+ghost use Rattle.zone_sets.specs.TypedEntries.{typed};
 
 use crate::read::ReadZone;
 use crate::write::WriteZone;
-use dns_name::{Class, Rtype, StoredName, ToName, Ttl};
-use dns_rdata::StoredRecordData;
+use dns_name::{Class, Rtype, StoredName, ToName};
 use std::alloc::{AllocError, Global};
 use std::marker::Model;
 use std::sync::Arc;
 use zone_types::{OutOfZone, RelNameRevIter, rel_name_rev_iter};
-use zone_versions::ZoneVersion;
+use zone_versions::{RecordSet, ZoneVersion};
 
 /// A zone: its current version, and how the next one is written.
 #[derive(Drop)]
@@ -74,14 +73,11 @@ impl ZoneApex {
         rel_name_rev_iter(self.name(), qname)
     }
 
-    /// The first SOA record at the apex of a version that is read, if there is one: its TTL, in seconds, and its data (RFC 1035, 3.3.13).
-    pub fn get_soa<'v>(&self, read: &'v ReadZone) -> Option<(Ttl, &'v StoredRecordData)>
-        ensures first { option_map (λ s. (s.0, data_fields s.1.now)) result ≡ first_soa read.now.version }
-        ensures rtype { IfSome result (λ s. rtype_of s.1.now ≡ type_soa) }
+    /// The SOA records at the apex of a version that is read, lent with their TTL, if there are any: the first is the zone's (RFC 1035, 3.3.13).
+    pub fn get_soa<'v>(&self, read: &'v ReadZone) -> Option<&'v RecordSet>
+        ensures { option_copied result ≡ option_map (typed type_soa) (set_at read.now.version read.now.version.apex type_soa) }
     {
-        let set = read.rrset_at(read.apex_name(), Rtype::SOA)?;
-        let first = set.items().first()?;
-        Some((set.ttl(), first))
+        read.rrset_at(read.apex_name(), Rtype::SOA)
     }
 
     /// The number of the current version: 0 for the one that the zone opened with, and one more for each commit.

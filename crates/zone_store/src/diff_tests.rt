@@ -1,9 +1,9 @@
 // What commits tell of their differences.
 
 use crate::tests::{address, name, soa, zone};
-use crate::{WriteZone, ZoneApex};
+use crate::{ReadZone, WriteZone, ZoneApex};
 use dns_name::{Label, NameRef, Rtype, Serial, Ttl};
-use dns_rdata::{A, RecordData, StoredRecordData, ZoneRecordData};
+use dns_rdata::{A, RecordData, ZoneRecordData};
 use std::alloc::Global;
 use std::process::Abort;
 use zone_diffs::{InMemoryZoneDiff, ZoneDiff};
@@ -146,22 +146,24 @@ fn gives_the_soa_of_a_version(rt: HostRuntime) {
     let alloc = rt.alloc();
     let mut zone = opened(&rt, alloc, 7);
     let before = zone.read().expect(&rt, "memory");
-    let mut session = zone.write(alloc);
-    put_soa(&rt, alloc, &mut session, 8);
-    session.commit(false).expect(&rt, "a version");
-    drop(session);
-    let (ttl, item) = zone.get_soa(&before).expect(&rt, "an SOA record");
-    assert_eq!(rt; ttl, Ttl::from_int(3600));
-    assert!(rt; serial_is(item, 7));
+    commit_soa(&rt, alloc, &mut zone, 8);
     let now = zone.read().expect(&rt, "memory");
-    let (_, item) = zone.get_soa(&now).expect(&rt, "an SOA record");
-    assert!(rt; serial_is(item, 8));
+    assert!(rt; serial_in(&zone, &before) == Some(Serial::from(7)));
+    assert!(rt; serial_in(&zone, &now) == Some(Serial::from(8)));
 }
 
-fn serial_is(item: &StoredRecordData, wanted: u32) -> bool {
-    match item {
-        ZoneRecordData::Soa(soa) => soa.serial == Serial::from(wanted),
-        _ => false,
+/// Commits an SOA with this serial.
+fn commit_soa<R: Abort>(rt: &R, alloc: Global, zone: &mut ZoneApex, serial: u32) {
+    let mut session = zone.write(alloc);
+    put_soa(rt, alloc, &mut session, serial);
+    session.commit(false).expect(rt, "a version");
+}
+
+/// The serial of a version's first SOA record.
+fn serial_in(zone: &ZoneApex, read: &ReadZone) -> Option<Serial> {
+    match zone.get_soa(read)?.items().first()? {
+        ZoneRecordData::Soa(soa) => Some(soa.serial),
+        _ => None,
     }
 }
 
