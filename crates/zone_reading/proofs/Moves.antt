@@ -1,14 +1,14 @@
 -- What the calls of a session and of its handles do to the zones that they stand for.
-use Rattle.std.proofs.Common.{◌≡◌, ℕ, ◌+◌, ◌-◌, ◌<◌, ◌≤◌, Bool, true, false, List, [], ◌∷◌, ◌++◌, length, map, refl, sym, ap, subst, ◌∙◌, Option, Some, None, Result, Ok, slice_get, option_map, option_and_then, unwrap_or, arith, append-nil, length-append, Bor}
+use Rattle.std.proofs.Common.{◌≡◌, ℕ, ◌+◌, ◌-◌, ◌≤◌, Bool, true, false, List, [], ◌∷◌, ◌++◌, length, map, refl, sym, ap, subst, ◌∙◌, Option, Some, None, slice_get, option_map, option_and_then, unwrap_or, arith, append-nil, length-append, Bor}
 use Rattle.std.specs.List.{last_or}
 use Rattle.std.specs.Slice.{IsItemAt}
 use Rattle.std.proofs.lemmas.List.{append_assoc, map-append}
 use Rattle.std.proofs.lemmas.Option.{slice_get_within, get_or_from_slice_get, slice_get-get_or, slice_get-map, slice_get_read, slice_get_past}
 use Rattle.std.proofs.Math.ListN.{get_or-append}
 use Rattle.zone_model.specs.Version.{Version}
-use Rattle.zone_model.specs.Edits.{Refusal, bump, close}
+use Rattle.zone_model.specs.Edits.{bump, close}
 use Rattle.zone_model.specs.Session.{Session, committed}
-use Rattle.zone_model.specs.Commits.{Commit, CommitList, Zone, latest, Event, Edit, Publish, Abandon, Read, next_commit, appended, reset, kept_or, after, after_all, AllMayHappen, version_of}
+use Rattle.zone_model.specs.Commits.{Commit, CommitList, Zone, latest, Event, Edit, Publish, next_commit, appended, reset, kept_or, after, after_all, AllMayHappen, version_of}
 use Rattle.zone_model.proofs.Handles.{handles_keep}
 use Rattle.zone_reading.specs.declared.steps.Step.{Step}
 use Rattle.zone_reading.specs.declared.steps.Step.TheVariants.{Commit as CommitStep, Read as ReadStep, Copy}
@@ -103,17 +103,21 @@ publishes : (s : Session) (handles : CommitList) (z : Zone) (v : Version) (b : B
     → StandFor (record { current = record { number = s.current.number + 1; version = close v }; pending = close v; compares = false; has_handle = b }) handles (after Publish z)
 publishes s handles z v b last pending readers =
     subst (λ o. StandFor (record { current = record { number = s.current.number + 1; version = close v }; pending = close v; compares = false; has_handle = b }) handles (appended o z)) (sym last)
-      (record {
-        current = last_more None z.commits (next_commit s.current z.pending) ∙ (λ i. Some (next_commit s.current (sym pending i)));
-        pending = ap close pending;
-        readers = readers_keep z.commits (next_commit s.current z.pending ∷ []) handles z.positions readers;
-      })
+    (record {
+      current = last_more None z.commits (next_commit s.current z.pending) ∙ (λ i. Some (next_commit s.current (sym pending i)));
+      pending = ap close pending;
+      readers = readers_keep z.commits (next_commit s.current z.pending ∷ []) handles z.positions readers;
+    })
 
-pub commits : (bumps : Bool) (s : Session) (handles : CommitList) → Leads (events_of (CommitStep bumps)) s handles (committed s bumps) handles
+commits : (bumps : Bool) (s : Session) (handles : CommitList) → Leads (events_of (CommitStep bumps)) s handles (committed s bumps) handles
 commits false s handles z h = ((tt, tt), publishes s handles z s.pending true h.current h.pending h.readers)
-commits true s handles z h =
-    ((tt, (tt, tt)),
-     publishes s handles (after (Edit (counted_on (latest z.commits))) z) (bump s.current.version s.pending) true h.current (λ i. kept_or (h.pending i) (counted_on (sym h.current i) (h.pending i))) h.readers)
+commits true s handles z h = (
+  (tt, (tt, tt)),
+  publishes s handles (after (Edit (counted_on (latest z.commits))) z) (bump s.current.version s.pending) true h.current (λ i. kept_or (h.pending i) (counted_on (sym h.current i) (h.pending i))) h.readers,
+)
+
+pub commit_leads : (bumps : Bool) (s t : Session) (handles : CommitList) → t ≡ committed s bumps → Leads (events_of (CommitStep bumps)) s handles t handles
+commit_leads bumps s t handles e = subst (λ u. Leads (events_of (CommitStep bumps)) s handles u handles) (sym e) (commits bumps s handles)
 
 -- reads
 reads_at : (s t : Session) (handles : CommitList) (z : Zone) (c : Commit) (p : ℕ) → StandFor s handles z → t.current ≡ s.current → t.pending ≡ s.pending → slice_get z.commits p ≡ Some c
@@ -172,9 +176,10 @@ pub one_step_more : (xs : List Step) (x : Step) (s t u : Session) (handles then_
 one_step_more xs x s t u handles then_handles later f g z h =
     let first = f z h in
     let second = g (after_all (events_of_all xs z) z) first.1 in
-    subst (λ events. AllMayHappen events z × StandFor u later (after_all events z)) (sym (events_more xs x z))
-      (may_both (events_of_all xs z) (events_of x (after_all (events_of_all xs z) z)) z first.0 second.0,
-       subst (λ y. StandFor u later y) (sym (after_both (events_of_all xs z) (events_of x (after_all (events_of_all xs z) z)) z)) second.1)
+    subst (λ events. AllMayHappen events z × StandFor u later (after_all events z)) (sym (events_more xs x z)) (
+      may_both (events_of_all xs z) (events_of x (after_all (events_of_all xs z) z)) z first.0 second.0,
+      subst (λ y. StandFor u later y) (sym (after_both (events_of_all xs z) (events_of x (after_all (events_of_all xs z) z)) z)) second.1,
+    )
 
 pub stays_then : (events : Zone → List Event) (s t u : Session) (handles then_handles later : CommitList) → Leads events s handles t then_handles → Stays t then_handles u later → Leads events s handles u later
 stays_then events s t u handles then_handles later f g z h = ((f z h).0, g (after_all (events z) z) (f z h).1)

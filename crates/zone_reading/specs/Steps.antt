@@ -1,5 +1,5 @@
 -- Steps of readers and one writer, and what stands for a zone with its history (RFC 1034, 4.3.5).
-use Rattle.std.specs.Prelude.{◌≡◌, ℕ, ◌-◌, Bool, true, false, List, [], ◌∷◌, ◌++◌, length, map, Option, Some, None, Result, Ok, Err, slice_get, option_map}
+use Rattle.std.specs.Prelude.{◌≡◌, ℕ, ◌-◌, true, false, List, [], ◌∷◌, ◌++◌, length, map, Option, Some, None, Result, Ok, Err, slice_get, option_map}
 use Rattle.dns_name.specs.Names.{Name}
 use Rattle.zone_model.specs.Version.{Version, in_zone}
 use Rattle.zone_model.specs.Edits.{Refusal, add, delete, bump}

@@ -1,7 +1,7 @@
 // Steps of readers and one writer, each made by the calls of the zone's session and of its read handles.
 ghost use Rattle.std.specs.Prelude.{◌≡◌, ◌↔◌, ◌≤◌, ◌<◌, ℕ, List, [], ◌∷◌, ◌++◌, length, take, slice_get, Some, Err, OnOk, OnErr};
 ghost use Rattle.zone_model.specs.Version.{Version};
-ghost use Rattle.zone_model.specs.Session.{Session};
+ghost use Rattle.zone_model.specs.Session.{Session, committed};
 ghost use Rattle.zone_model.specs.Commits.{CommitList, Zone, Event, after_all, version_of};
 ghost use Rattle.zone_reading.specs.Steps.{HandlesStand, Leads, Stays, Answers, events_of, events_of_all};
 ghost use Rattle.zone_reading.specs.declared.steps.Step.{Step};
@@ -110,10 +110,19 @@ fn delete(session: &mut WriteZone<'_>, deleted: &StoredRecord) -> Result<(), Com
     }
 }
 
-/// Commits, and keeps no difference.
+/// Commits.
 fn commit(session: &mut WriteZone<'_>, bumps: bool) -> Result<(), CommitError>
     ensures made { OnOk result ((handles : CommitList) → Leads (events_of (Step.Commit bumps)) session.old handles session.new handles) }
     ensures refused { OnErr result ((handles : CommitList) → Stays session.old handles session.new handles) }
+{
+    publish(session, bumps)?;
+    Ok(())
+}
+
+/// Commits, and keeps no difference.
+fn publish(session: &mut WriteZone<'_>, bumps: bool) -> Result<(), CommitError>
+    ensures ok { OnOk result (session.new ≡ committed session.old bumps) }
+    ensures err { OnErr result (session.new ≡ session.old) }
 {
     session.commit(bumps)?;
     Ok(())
