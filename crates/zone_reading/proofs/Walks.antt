@@ -1,5 +1,5 @@
 -- Two walks are the same, stop by stop, where their versions are.
-use Rattle.std.proofs.Common.{◌≡◌, Bool, true, false, is_some, ◌&&◌, ◌==◌, List, [], ◌∷◌, map, refl, sym, ap, ◌∙◌, bytes_eq}
+use Rattle.std.proofs.Common.{◌≡◌, is_some, ◌&&◌, ◌==◌, List, [], ◌∷◌, map, refl, sym, ◌∙◌, bytes_eq}
 use Rattle.std.specs.List.{AllByRecursion, list_all, list_any}
 use Rattle.std.specs.Cmp.Lexicographic.{pointwise}
 use Rattle.std.specs.Map.{keys_of}

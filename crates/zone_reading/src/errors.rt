@@ -11,3 +11,14 @@ pub enum QueryError {
     #[error("out of memory")]
     Memory,
 }
+
+/// Why a handle isn't asked or has no answer.
+#[derive(Clone, Copy, Debug, PartialEq, Eq, Drop, Error)]
+pub enum AskError {
+    /// There is no handle at that place.
+    #[error("no handle")]
+    NoHandle,
+    /// The name is neither the zone's apex nor below it.
+    #[error("Out of zone")]
+    OutOfZone,
+}

@@ -1,10 +1,15 @@
 //! What a zone's store and its read handles have in common, whatever keeps the zone: a store gives read handles, and a handle answers, walks and
-//! compares the one version that it stands for (RFC 1034, 4.3.2 and 4.3.5).
+//! compares the one version that it stands for (RFC 1034, 4.3.2 and 4.3.5). Steps of readers and of the one writer, made by their calls, lead through
+//! the zone's history, whatever their order: a handle answers from the version at its position, and nothing that is dropped is seen.
 #![tactic(auto)]
 
 mod comparing;
 mod errors;
+mod laws;
 mod querying;
+#[cfg(test)]
+mod step_tests;
+mod steps;
 mod stores;
 #[cfg(test)]
 mod tests;
@@ -12,7 +17,8 @@ mod walking;
 mod zones;
 
 pub use comparing::is_same;
-pub use errors::QueryError;
+pub use errors::{AskError, QueryError};
+pub use steps::{Step, ask, make_step, make_steps};
 pub use stores::ReadableZone;
 pub use walking::walk;
 pub use zones::{Zone, ZoneStore};

@@ -1,4 +1,4 @@
-use Rattle.std.proofs.Common.{◌≡◌, ◌&&◌, ◌∙◌}
+use Rattle.std.proofs.Common.{◌&&◌, ◌∙◌}
 use Rattle.dns_rdata.specs.ZoneData.{data_fields}
 use Rattle.zone_reading.proofs.Walks.{same_read}
 use Rattle.zone_reading.proofs.comparing.are_same.Goals as goal

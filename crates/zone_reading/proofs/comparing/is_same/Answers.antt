@@ -1,7 +1,7 @@
-use Rattle.std.proofs.Common.{◌≡◌, ◌&&◌, ◌∙◌, sym}
+use Rattle.std.proofs.Common.{◌&&◌, ◌∙◌, sym}
 use Rattle.std.specs.Cmp.Lexicographic.{pointwise}
 use Rattle.zone_reading.specs.Stops.{same_stop}
-use Rattle.zone_reading.proofs.Walks.{same_walks, are_left}
+use Rattle.zone_reading.proofs.Walks.{are_left}
 use Rattle.zone_reading.proofs.comparing.is_same.Goals as goal
 
 pub returns-in_default-next : goal.returns-in_default-next

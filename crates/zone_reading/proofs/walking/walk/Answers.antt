@@ -1,6 +1,5 @@
-use Rattle.std.proofs.Common.{rules, ◌≡◌, ℕ, List, [], ◌∷◌, subst, sym}
+use Rattle.std.proofs.Common.{◌≡◌, [], subst, sym}
 use Rattle.std.specs.List.{FoldsTo}
-use Rattle.zone_model.specs.Walk.{walk as walk_of}
 use Rattle.zone_reading.proofs.walking.walk.Goals as goal
 use Rattle.zone_reading.proofs.walking.walk.Given as given
 
