@@ -5,3 +5,4 @@ pub mod Rest
 pub mod Interpreting
 pub mod Causes
 pub mod Updating
+pub mod UpdateTexts

@@ -21,6 +21,12 @@ pub enum ZoneUpdate<R> {
 }
 
 impl<R> fmt::Display for ZoneUpdate<R> {
+    ghost use Rattle.std.specs.Prelude.{Some};
+    ghost use Rattle.xfr_client.specs.UpdateTexts.{update_text};
+
+    ghost output = { λ u. Some (update_text u) };
+
+    /// The kind of the update, without its record.
     fn fmt<W: fmt::Write>(&self, f: &mut fmt::Formatter<W>) -> fmt::Result {
         match self {
             ZoneUpdate::DeleteAllRecords => write!(f, "DeleteAllRecords"),
