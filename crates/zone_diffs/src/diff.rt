@@ -15,7 +15,7 @@ use zone_sets::SetKey;
 use zone_types::SharedRrset;
 
 /// The difference from one version of a zone to another: its serials, and the sets of records that one has and the other lacks (RFC 1995, 4).
-#[derive(Drop)]
+#[derive(Debug, Drop)]
 pub struct InMemoryZoneDiff {
     /// The serial that the difference leads from.
     pub start_serial: Serial,

@@ -21,7 +21,7 @@ use zone_sets::SetKey;
 use zone_types::{Rrset, SharedRrset};
 
 /// Record sets by owner and type, none of them empty: owners in lower case and canonical order, each one's types ascending (RFC 4034, 6.1).
-#[derive(Drop)]
+#[derive(Debug, Drop)]
 pub struct DiffSets {
     entries: BTreeMap<SetKey, SharedRrset>,
 }

@@ -226,7 +226,7 @@ impl Clone for RecordSet {
 }
 
 /// Where a set stands: its owner in lower case, and its type.
-#[derive(Drop)]
+#[derive(Debug, Drop)]
 pub struct SetKey {
     owner: KeyName,
     rtype: Rtype,

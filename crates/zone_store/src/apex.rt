@@ -1,12 +1,19 @@
 // A zone.
-ghost use Rattle.std.specs.Prelude.{◌≡◌, [], IfOk, false};
+ghost use Rattle.std.specs.Prelude.{◌≡◌, [], IfOk, IfSome, OnErr, option_map, true, false};
+ghost use Rattle.dns_name.specs.Names.{under};
+ghost use Rattle.dns_name.specs.Codes.{type_soa};
+ghost use Rattle.dns_rdata.specs.ZoneData.{rtype_of, data_fields};
+ghost use Rattle.zone_model.specs.Edits.{first_soa};
+ghost use Rattle.zone_types.specs.Relative.{labels_below};
 
 use crate::read::ReadZone;
 use crate::write::WriteZone;
-use dns_name::{Class, StoredName};
+use dns_name::{Class, Rtype, StoredName, ToName, Ttl};
+use dns_rdata::StoredRecordData;
 use std::alloc::{AllocError, Global};
 use std::marker::Model;
 use std::sync::Arc;
+use zone_types::{OutOfZone, RelNameRevIter, rel_name_rev_iter};
 use zone_versions::ZoneVersion;
 
 /// A zone: its current version, and how the next one is written.
@@ -53,6 +60,28 @@ impl ZoneApex {
         ensures { result.now ≡ self.now.version.apex }
     {
         self.current.apex_name()
+    }
+
+    /// The labels of a name left of the apex, from the right, ASCII case aside (RFC 1034, 3.1). `OutOfZone` exactly where the name is neither the
+    /// apex nor below it.
+    pub fn prepare_name<'a, N: ToName>(
+        &self,
+        qname: &'a N,
+    ) -> Result<RelNameRevIter<'a, N>, OutOfZone>
+        ensures ok { IfOk result (λ i. (under (N.labels qname.now) self.now.version.apex ≡ true) × (i ≡ labels_below self.now.version.apex (N.labels qname.now))) }
+        ensures err { OnErr result (under (N.labels qname.now) self.now.version.apex ≡ false) }
+    {
+        rel_name_rev_iter(self.name(), qname)
+    }
+
+    /// The first SOA record at the apex of a version that is read, if there is one: its TTL, in seconds, and its data (RFC 1035, 3.3.13).
+    pub fn get_soa<'v>(&self, read: &'v ReadZone) -> Option<(Ttl, &'v StoredRecordData)>
+        ensures first { option_map (λ s. (s.0, data_fields s.1.now)) result ≡ first_soa read.now.version }
+        ensures rtype { IfSome result (λ s. rtype_of s.1.now ≡ type_soa) }
+    {
+        let set = read.rrset_at(read.apex_name(), Rtype::SOA)?;
+        let first = set.items().first()?;
+        Some((set.ttl(), first))
     }
 
     /// The number of the current version: 0 for the one that the zone opened with, and one more for each commit.

@@ -7,7 +7,7 @@ ghost use Rattle.zone_model.specs.Edits as edits;
 ghost use Rattle.zone_versions.specs.Puts.{adds_alias};
 
 use crate::apex::ZoneApex;
-use crate::errors::InsertError;
+use zone_errors::InsertError;
 use crate::read::ReadZone;
 use dns_name::{Class, Labelled, Rtype, StoredName, ToName};
 use dns_rdata::StoredRecord;

@@ -7,7 +7,6 @@ mod child;
 #[cfg(test)]
 mod diff_tests;
 mod edits;
-mod errors;
 mod node;
 #[cfg(test)]
 mod node_tests;
@@ -18,8 +17,8 @@ mod write;
 
 pub use apex::ZoneApex;
 pub use builder::ZoneBuilder;
-pub use errors::{CommitError, InsertError, NodeError, UpdateError};
 pub use node::WriteNode;
 pub use read::ReadZone;
 pub use write::WriteZone;
+pub use zone_errors::{CommitError, InsertError, NodeError, UpdateError};
 pub use zone_versions::{EditError, RecordSet, RrsetIter, WalkItem};

@@ -11,7 +11,7 @@ ghost use Rattle.zone_versions.specs.Causes.{refusal_of};
 ghost use Rattle.zone_store.specs.Nodes.{with_edit};
 
 use crate::child::child_name;
-use crate::errors::{NodeError, UpdateError};
+use zone_errors::{NodeError, UpdateError};
 use crate::write::WriteZone;
 use dns_name::{KeyName, Label, Labelled, Rtype};
 use std::alloc::AllocError;

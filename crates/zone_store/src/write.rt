@@ -11,7 +11,7 @@ ghost use Rattle.zone_changes.specs.Drafts.{draft};
 ghost use Rattle.zone_store.specs.Pending.{told_of};
 
 use crate::apex::ZoneApex;
-use crate::errors::CommitError;
+use zone_errors::CommitError;
 use crate::read::ReadZone;
 use dns_name::{StoredName, Ttl};
 use dns_rdata::{Soa, StoredRecord};

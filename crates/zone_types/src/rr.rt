@@ -9,7 +9,7 @@ use std::alloc::AllocError;
 use std::marker::Model;
 
 /// A record without its owner and class, which shares its octets with its copies (RFC 1035, 3.2.1).
-#[derive(Drop)]
+#[derive(Debug, Drop)]
 pub struct SharedRr {
     ttl: Ttl,
     data: StoredRecordData,

@@ -12,7 +12,7 @@ use std::ops::Deref;
 use std::sync::Arc;
 
 /// The records of one owner and type without the owner: their type, their TTL and their data, in order (RFC 2181, 5).
-#[derive(Drop)]
+#[derive(Debug, Drop)]
 pub struct Rrset {
     rtype: Rtype,
     ttl: Ttl,
@@ -177,7 +177,7 @@ impl Eq for Rrset {
 }
 
 /// A record set behind an `Arc`, which its copies share.
-#[derive(Drop)]
+#[derive(Debug, Drop)]
 pub struct SharedRrset {
     set: Arc<Rrset>,
 }

@@ -182,3 +182,14 @@ fn texts_of_errors(rt: HostRuntime) {
     let text = format!(in rt.alloc(); "{there}; {lacking}").expect(&rt, "memory");
     assert_eq!(rt; text.as_str(), "Zone already exists; Zone does not exist");
 }
+
+#[test]
+fn a_record_is_shown_by_its_fields(rt: HostRuntime) {
+    let alloc = rt.alloc();
+    let first = SharedRr::from(address(&rt, alloc, 60, 1));
+    let text = format!(in alloc; "{first:?}").expect(&rt, "memory");
+    assert_eq!(rt;
+        text.as_str(),
+        "SharedRr { ttl: Ttl { seconds: 60 }, data: A(A { octets: [192, 0, 2, 1] }) }"
+    );
+}

@@ -7,7 +7,7 @@ use dns_rdata::StoredRecord;
 use std::alloc::AllocError;
 
 /// A zone cut: where the authority of a zone ends (RFC 1034, 4.2.1).
-#[derive(Drop)]
+#[derive(Debug, Drop)]
 pub struct ZoneCut {
     /// The owner of the cut's NS records.
     pub name: StoredName,

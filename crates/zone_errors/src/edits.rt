@@ -1,4 +1,4 @@
-// Why a record isn't put into a zone that opens, and why a commit is refused.
+// Why a record isn't put into a zone that opens, why a commit is refused, and why a node isn't edited.
 
 use std::alloc::AllocError;
 use thiserror::Error;
@@ -18,7 +18,7 @@ pub enum InsertError {
 
 impl From<AllocError> for InsertError {
     ghost use Rattle.std.specs.Prelude.{◌≡◌};
-    ghost use Rattle.zone_store.specs.declared.errors.InsertError.{InsertError};
+    ghost use Rattle.zone_errors.specs.declared.edits.InsertError.{InsertError};
 
     ghost from_gives = { λ e f. f ≡ InsertError.Memory };
 
@@ -39,7 +39,7 @@ pub enum CommitError {
 
 impl From<AllocError> for CommitError {
     ghost use Rattle.std.specs.Prelude.{◌≡◌};
-    ghost use Rattle.zone_store.specs.declared.errors.CommitError.{CommitError};
+    ghost use Rattle.zone_errors.specs.declared.edits.CommitError.{CommitError};
 
     ghost from_gives = { λ e f. f ≡ CommitError.Memory };
 
@@ -68,7 +68,7 @@ pub enum NodeError {
 
 impl From<AllocError> for NodeError {
     ghost use Rattle.std.specs.Prelude.{◌≡◌};
-    ghost use Rattle.zone_store.specs.declared.errors.NodeError.{NodeError};
+    ghost use Rattle.zone_errors.specs.declared.edits.NodeError.{NodeError};
 
     ghost from_gives = { λ e f. f ≡ NodeError.Memory };
 
