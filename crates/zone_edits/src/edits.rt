@@ -1,5 +1,5 @@
 //! Edits of the zone, each with a commit, and what their differences tell.
-ghost use Rattle.std.specs.Prelude.{◌≡◌, ◌+◌, ◌<◌, Ok, IfOk, OnOk, OnErr, option_copied};
+ghost use Rattle.std.specs.Prelude.{◌≡◌, ◌+◌, ◌<◌, Ok, IfOk, OnOk, OnErr};
 ghost use Rattle.zone_edits.specs.Courses.{with_difference, edit_of, edits_of};
 ghost use Rattle.zone_edits.specs.Courses as courses;
 
@@ -20,11 +20,11 @@ pub struct Told {
 fn record_count(count: usize, sets: &DiffSets) -> usize
     ensures { result ≡ courses.record_count count sets.now }
 {
-    let mut count = count;
+    let mut found = count;
     for (_, set) in sets.iter() {
-        count = count.saturating_add(set.as_rrset().data().len());
+        found = found.saturating_add(set.as_rrset().data().len());
     }
-    count
+    found
 }
 
 /// What was told, and one more difference, if there is one.
