@@ -12,7 +12,7 @@ It prints, for each size of zone:
 - resident memory at its peak without edits and with them, and how much more the edits took;
 
 beside each how many times that of the smallest zone it is. What grows with the zone is the copy of the map of its sets, which each commit
-makes; the records are shared. Time is the processor's, the least of the runs, memory the most. Only ratios say something on another machine.
+makes; the records are shared. Time is the processor's, the least of the runs. Only ratios say something on another machine.
 """
 
 import argparse
@@ -25,22 +25,28 @@ from transfer import TOP
 SIZES = [1_000, 10_000, 100_000]
 
 
-def measured(program, sets, edits):
-    """The processor time in seconds and the peak memory in KB of one run, whose line is looked at."""
-    child = subprocess.Popen([program, str(sets), str(edits)], stdout=subprocess.PIPE)
-    said = child.stdout.read()
-    _, status, usage = os.wait4(child.pid, 0)
-    child.returncode = os.waitstatus_to_exitcode(status)
+def peak_memory(how, edits):
+    """The peak memory in KB of one run, whose line is looked at. A child of this process would count what this one has before it starts."""
+    done = subprocess.run(["/usr/bin/time", "-f", "%M", *how], capture_output=True)
     # Each commit adds the address and the new SOA record, and removes the old one.
-    if (child.returncode, said) != (0, b"version %d added %d removed %d\n" % (edits, 2 * edits, edits)):
-        sys.exit(f"{sets} sets, {edits} edits: status {child.returncode}, {said}")
-    return usage.ru_utime + usage.ru_stime, usage.ru_maxrss
+    if (done.returncode, done.stdout) != (0, b"version %d added %d removed %d\n" % (edits, 2 * edits, edits)):
+        sys.exit(f"{how}: status {done.returncode}, {done.stdout}")
+    return int(done.stderr.split()[-1])
 
 
-def least(program, sets, edits, runs):
-    """The least time and the most memory of some runs."""
-    found = [measured(program, sets, edits) for _ in range(runs)]
-    return min(time for time, _ in found), max(peak for _, peak in found)
+def processor_time(how):
+    """The processor time in seconds of one run."""
+    child = subprocess.Popen(how, stdout=subprocess.DEVNULL)
+    _, _, usage = os.wait4(child.pid, 0)
+    child.returncode = 0
+    return usage.ru_utime + usage.ru_stime
+
+
+def measured(program, sets, edits, runs):
+    """The least time of some runs, and the memory of one."""
+    how = [program, str(sets), str(edits)]
+    peak = peak_memory(how, edits)
+    return min(processor_time(how) for _ in range(runs)), peak
 
 
 def main():
@@ -51,10 +57,12 @@ def main():
     asked = parser.parse_args()
     if not os.path.exists(asked.program):
         sys.exit(f"no {asked.program}: run rt run in crates/zone_edits first")
+    if not os.path.exists("/usr/bin/time"):
+        sys.exit("no /usr/bin/time")
     rows = []
     for sets in SIZES:
-        opened, before = least(asked.program, sets, 0, asked.runs)
-        edited, after = least(asked.program, sets, asked.edits, asked.runs)
+        opened, before = measured(asked.program, sets, 0, asked.runs)
+        edited, after = measured(asked.program, sets, asked.edits, asked.runs)
         rows.append((opened * 1e3, (edited - opened) / asked.edits * 1e3, before, after, after - before))
     titles = ["open, ms", "one edit, ms", "KB, no edits", f"KB, {asked.edits} edits", "KB more"]
     print(f"{'sets':>8}" + "".join(f"{it:>14} {'ratio':>7}" for it in titles))
