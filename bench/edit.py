@@ -1,0 +1,78 @@
+#!/usr/bin/env python3
+"""Time and peak memory of one edit and its commit against the number of sets in the zone.
+
+usage: python3 bench/edit.py [--program FILE] [--runs N] [--edits N]
+
+It runs the program that `rt run` built in crates/zone_edits, on zones of 1,000, 10,000 and 100,000 sets beside the SOA, without edits and with
+so many. An edit adds one address, at an old name and at a new one in turn; its commit counts the SOA's serial on and tells the difference.
+
+It prints, for each size of zone:
+
+- the time in which the program makes and opens the zone, and that of one edit with its commit;
+- resident memory at its peak without edits and with them, and how much more the edits took;
+
+beside each how many times that of the smallest zone it is. What grows with the zone is the copy of the map of its sets, which each commit
+makes; the records are shared. Time is the processor's, the least of the runs. Only ratios say something on another machine.
+"""
+
+import argparse
+import os
+import subprocess
+import sys
+
+from transfer import TOP
+
+SIZES = [1_000, 10_000, 100_000]
+
+
+def peak_memory(how, edits):
+    """The peak memory in KB of one run, whose line is looked at. A child of this process would count what this one has before it starts."""
+    done = subprocess.run(["/usr/bin/time", "-f", "%M", *how], capture_output=True)
+    # Each commit adds the address and the new SOA record, and removes the old one.
+    if (done.returncode, done.stdout) != (0, b"version %d added %d removed %d\n" % (edits, 2 * edits, edits)):
+        sys.exit(f"{how}: status {done.returncode}, {done.stdout}")
+    return int(done.stderr.split()[-1])
+
+
+def processor_time(how):
+    """The processor time in seconds of one run."""
+    child = subprocess.Popen(how, stdout=subprocess.DEVNULL)
+    _, _, usage = os.wait4(child.pid, 0)
+    child.returncode = 0
+    return usage.ru_utime + usage.ru_stime
+
+
+def measured(program, sets, edits, runs):
+    """The least time of some runs, and the memory of one."""
+    how = [program, str(sets), str(edits)]
+    peak = peak_memory(how, edits)
+    return min(processor_time(how) for _ in range(runs)), peak
+
+
+def main():
+    parser = argparse.ArgumentParser(description=__doc__, formatter_class=argparse.RawDescriptionHelpFormatter)
+    parser.add_argument("--program", default=f"{TOP}/crates/zone_edits/out/zone_edits")
+    parser.add_argument("--runs", type=int, default=5, help="runs for each number, of which the least time counts")
+    parser.add_argument("--edits", type=int, default=20)
+    asked = parser.parse_args()
+    if not os.path.exists(asked.program):
+        sys.exit(f"no {asked.program}: run rt run in crates/zone_edits first")
+    if not os.path.exists("/usr/bin/time"):
+        sys.exit("no /usr/bin/time")
+    rows = []
+    for sets in SIZES:
+        opened, before = measured(asked.program, sets, 0, asked.runs)
+        edited, after = measured(asked.program, sets, asked.edits, asked.runs)
+        rows.append((opened * 1e3, (edited - opened) / asked.edits * 1e3, before, after, after - before))
+    titles = ["open, ms", "one edit, ms", "KB, no edits", f"KB, {asked.edits} edits", "KB more"]
+    print(f"{'sets':>8}" + "".join(f"{it:>14} {'ratio':>7}" for it in titles))
+    for sets, row in zip(SIZES, rows):
+        print(f"{sets:>8}" + "".join(f"{value:>14.3f} {ratio(value, base)}" for value, base in zip(row, rows[0])))
+
+
+def ratio(value, base):
+    return f"{value / base:7.2f}" if base > 0 else "      -"
+
+
+if __name__ == "__main__":
+    main()
