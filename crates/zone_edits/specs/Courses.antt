@@ -1,5 +1,5 @@
 -- What edits in a row make, and what their commits tell.
-use Rattle.std.specs.Prelude.{ℕ, zero, suc, ◌+◌, ◌-◌, ◌^◌, min, true, List, [], ◌∷◌, length, Option, Some, None, Result, Ok, Err}
+use Rattle.std.specs.Prelude.{ℕ, zero, suc, ◌+◌, ◌-◌, ◌^◌, min, true, [], ◌∷◌, length, Option, Some, None, Result, Ok, Err}
 use Rattle.dns_name.specs.Octets.{u32_octets}
 use Rattle.zone_model.specs.Version.{Sets, Version}
 use Rattle.zone_model.specs.Edits.{Refusal, add}
