@@ -1,5 +1,5 @@
 -- Steps of readers and one writer, and what stands for a zone with its history (RFC 1034, 4.3.5).
-use Rattle.std.specs.Prelude.{◌≡◌, ℕ, ◌-◌, true, false, List, [], ◌∷◌, ◌++◌, length, map, Option, Some, None, Result, Ok, Err, slice_get, option_map}
+use Rattle.std.specs.Prelude.{◌≡◌, ℕ, ◌-◌, ◌^◌, true, false, List, [], ◌∷◌, ◌++◌, length, map, Option, Some, None, Result, Ok, Err, slice_get, option_map}
 use Rattle.dns_name.specs.Names.{Name}
 use Rattle.zone_model.specs.Version.{Version, in_zone}
 use Rattle.zone_model.specs.Edits.{Refusal, add, delete, bump}
@@ -7,6 +7,8 @@ use Rattle.zone_model.specs.Answer.{answer}
 use Rattle.zone_model.specs.Session.{Session}
 use Rattle.zone_model.specs.Commits.{Commit, CommitList, Zone, latest, Event, Edit, Publish, Abandon, Read, after, after_all, AllMayHappen, version_of}
 use Rattle.zone_answers.specs.Answers.{AnsweredBy, answered_by}
+use Rattle.zone_errors.specs.declared.edits.CommitError.{CommitError}
+use Rattle.zone_errors.specs.declared.edits.CommitError.TheVariants.{VersionsExhausted as NoNumber, Memory as NoMemory}
 use Rattle.zone_reading.specs.declared.errors.AskError.{AskError}
 use Rattle.zone_reading.specs.declared.errors.AskError.TheVariants.{OutOfZone, NoHandle}
 use Rattle.zone_reading.specs.declared.steps.Step.{Step}
@@ -54,6 +56,20 @@ Leads events s handles t later = (z : Zone) → StandFor s handles z → AllMayH
 -- what stood for a zone stands for it still
 abbrev pub Stays : Session → CommitList → Session → CommitList → Type 0
 Stays s handles t later = (z : Zone) → StandFor s handles z → StandFor t later z
+
+-- a step that can't be made for want of version numbers: a commit behind the greatest
+abbrev pub Exhausts : Step → Session → Type 0
+Exhausts (Add r) s = ⊥
+Exhausts (Delete r) s = ⊥
+Exhausts (CommitStep bumps) s = s.current.number ≡ 2 ^ 64 - 1
+Exhausts Rollback s = ⊥
+Exhausts ReadStep s = ⊥
+Exhausts (Copy handle) s = ⊥
+
+-- why a step is refused: want of memory, at any step, or of version numbers
+abbrev pub Refuses : Step → Session → CommitError → Type 0
+Refuses step s NoMemory = Unit {0}
+Refuses step s NoNumber = Exhausts step s
 
 -- what a version answers to a question
 abbrev pub Answers : Version → Name → ℕ → Result AnsweredBy AskError → Type 0

@@ -1,9 +1,9 @@
 // Steps of readers and one writer, each made by the calls of the zone's session and of its read handles.
-ghost use Rattle.std.specs.Prelude.{◌≡◌, ◌↔◌, ◌≤◌, ◌<◌, ℕ, List, [], ◌∷◌, ◌++◌, length, take, slice_get, Some, Err, OnOk, OnErr};
+ghost use Rattle.std.specs.Prelude.{◌≡◌, ◌↔◌, ◌≤◌, ◌<◌, ℕ, List, [], ◌∷◌, ◌++◌, length, take, slice_get, Some, Err, IfErr, OnOk, OnErr, ◌-◌, ◌^◌};
 ghost use Rattle.zone_model.specs.Version.{Version};
 ghost use Rattle.zone_model.specs.Session.{Session, committed};
 ghost use Rattle.zone_model.specs.Commits.{CommitList, Zone, Event, after_all, version_of};
-ghost use Rattle.zone_reading.specs.Steps.{HandlesStand, Leads, Stays, Answers, events_of, events_of_all};
+ghost use Rattle.zone_reading.specs.Steps.{HandlesStand, Leads, Stays, Refuses, Answers, events_of, events_of_all};
 ghost use Rattle.zone_reading.specs.declared.steps.Step.{Step};
 
 use crate::errors::AskError;
@@ -38,6 +38,7 @@ pub fn make_step(
 ) -> Result<(), CommitError>
     ensures made { OnOk result (Leads (events_of step.now) session.old handles.old.items session.new handles.new.items) }
     ensures refused { OnErr result (Stays session.old handles.old.items session.new handles.new.items) }
+    ensures cause { IfErr result (λ e. Refuses step.now session.old e) }
 {
     match step {
         Step::Add(added) => add(session, added),
@@ -92,6 +93,7 @@ pub fn ask<'v, N: ToName>(
 fn add(session: &mut WriteZone<'_>, added: &StoredRecord) -> Result<(), CommitError>
     ensures made { OnOk result ((handles : CommitList) → Leads (events_of (Step.Add added.now)) session.old handles session.new handles) }
     ensures refused { OnErr result ((handles : CommitList) → Stays session.old handles session.new handles) }
+    ensures memory { IfErr result (λ e. e ≡ CommitError.Memory) }
 {
     match session.add_record(added.clone()?) {
         Err(EditError::Memory) => Err(CommitError::Memory),
@@ -103,6 +105,7 @@ fn add(session: &mut WriteZone<'_>, added: &StoredRecord) -> Result<(), CommitEr
 fn delete(session: &mut WriteZone<'_>, deleted: &StoredRecord) -> Result<(), CommitError>
     ensures made { OnOk result ((handles : CommitList) → Leads (events_of (Step.Delete deleted.now)) session.old handles session.new handles) }
     ensures refused { OnErr result ((handles : CommitList) → Stays session.old handles session.new handles) }
+    ensures memory { IfErr result (λ e. e ≡ CommitError.Memory) }
 {
     match session.delete_record(deleted) {
         Err(EditError::Memory) => Err(CommitError::Memory),
@@ -114,6 +117,7 @@ fn delete(session: &mut WriteZone<'_>, deleted: &StoredRecord) -> Result<(), Com
 fn commit(session: &mut WriteZone<'_>, bumps: bool) -> Result<(), CommitError>
     ensures made { OnOk result ((handles : CommitList) → Leads (events_of (Step.Commit bumps)) session.old handles session.new handles) }
     ensures refused { OnErr result ((handles : CommitList) → Stays session.old handles session.new handles) }
+    ensures exhausted { (result ≡ Err CommitError.VersionsExhausted) → (session.old.current.number ≡ 2 ^ 64 - 1) }
 {
     publish(session, bumps)?;
     Ok(())
@@ -123,6 +127,7 @@ fn commit(session: &mut WriteZone<'_>, bumps: bool) -> Result<(), CommitError>
 fn publish(session: &mut WriteZone<'_>, bumps: bool) -> Result<(), CommitError>
     ensures ok { OnOk result (session.new ≡ committed session.old bumps) }
     ensures err { OnErr result (session.new ≡ session.old) }
+    ensures exhausted { (result ≡ Err CommitError.VersionsExhausted) → (session.old.current.number ≡ 2 ^ 64 - 1) }
 {
     session.commit(bumps)?;
     Ok(())
@@ -132,6 +137,7 @@ fn publish(session: &mut WriteZone<'_>, bumps: bool) -> Result<(), CommitError>
 fn roll_back(session: &mut WriteZone<'_>) -> Result<(), CommitError>
     ensures made { OnOk result ((handles : CommitList) → Leads (events_of Step.Rollback) session.old handles session.new handles) }
     ensures refused { OnErr result ((handles : CommitList) → Stays session.old handles session.new handles) }
+    ensures memory { IfErr result (λ e. e ≡ CommitError.Memory) }
 {
     session.rollback();
     Ok(())
@@ -141,6 +147,7 @@ fn roll_back(session: &mut WriteZone<'_>) -> Result<(), CommitError>
 fn read(session: &mut WriteZone<'_>, handles: &mut Vec<ReadZone>) -> Result<(), CommitError>
     ensures made { OnOk result (Leads (events_of Step.Read) session.old handles.old.items session.new handles.new.items) }
     ensures refused { OnErr result (Stays session.old handles.old.items session.new handles.new.items) }
+    ensures memory { IfErr result (λ e. e ≡ CommitError.Memory) }
 {
     let handle = session.handle()?;
     keep(handles, handle)?;
@@ -151,6 +158,7 @@ fn read(session: &mut WriteZone<'_>, handles: &mut Vec<ReadZone>) -> Result<(), 
 fn copy(handles: &mut Vec<ReadZone>, handle: usize) -> Result<(), CommitError>
     ensures made { OnOk result ((s : Session) → Leads (events_of (Step.Copy handle)) s handles.old.items s handles.new.items) }
     ensures refused { OnErr result ((s : Session) → Stays s handles.old.items s handles.new.items) }
+    ensures memory { IfErr result (λ e. e ≡ CommitError.Memory) }
 {
     let Some(found) = handles.get(handle) else {
         return Ok(());
