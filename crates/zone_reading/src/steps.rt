@@ -1,5 +1,5 @@
 // Steps of readers and one writer, each made by the calls of the zone's session and of its read handles.
-ghost use Rattle.std.specs.Prelude.{◌≡◌, ◌↔◌, ◌≤◌, ◌<◌, ℕ, List, [], ◌∷◌, ◌++◌, length, take, slice_get, Some, Err, IfErr, OnOk, OnErr, ◌-◌, ◌^◌};
+ghost use Rattle.std.specs.Prelude.{◌≡◌, ◌↔◌, ◌≤◌, ◌<◌, ℕ, List, [], ◌∷◌, ◌++◌, length, take, slice_get, Some, Err, IfErr, IfSome, OnOk, OnErr, ◌-◌, ◌^◌};
 ghost use Rattle.zone_model.specs.Version.{Version};
 ghost use Rattle.zone_model.specs.Session.{Session, committed};
 ghost use Rattle.zone_model.specs.Commits.{CommitList, Zone, Event, after_all, version_of};
@@ -38,6 +38,7 @@ pub fn make_step(
 ) -> Result<(), CommitError>
     ensures made { OnOk result (Leads (events_of step.now) session.old handles.old.items session.new handles.new.items) }
     ensures refused { OnErr result (Stays session.old handles.old.items session.new handles.new.items) }
+    ensures stays { OnErr result (session.new.current ≡ session.old.current) }
     ensures cause { IfErr result (λ e. Refuses step.now session.old e) }
 {
     match step {
@@ -59,6 +60,7 @@ pub fn make_steps(
     ensures made { Leads (events_of_all (take result.0 steps.now)) session.old handles.old.items session.new handles.new.items }
     ensures all { OnOk result.1 (result.0 ≡ length steps.now) }
     ensures refused { OnErr result.1 (result.0 < length steps.now) }
+    ensures cause { IfErr result.1 (λ e. IfSome (slice_get steps.now result.0) (λ s. Refuses s session.new e)) }
 {
     let mut made = 0_usize;
     'steps: for step in steps {
@@ -93,6 +95,7 @@ pub fn ask<'v, N: ToName>(
 fn add(session: &mut WriteZone<'_>, added: &StoredRecord) -> Result<(), CommitError>
     ensures made { OnOk result ((handles : CommitList) → Leads (events_of (Step.Add added.now)) session.old handles session.new handles) }
     ensures refused { OnErr result ((handles : CommitList) → Stays session.old handles session.new handles) }
+    ensures stays { OnErr result (session.new.current ≡ session.old.current) }
     ensures memory { IfErr result (λ e. e ≡ CommitError.Memory) }
 {
     match session.add_record(added.clone()?) {
@@ -105,6 +108,7 @@ fn add(session: &mut WriteZone<'_>, added: &StoredRecord) -> Result<(), CommitEr
 fn delete(session: &mut WriteZone<'_>, deleted: &StoredRecord) -> Result<(), CommitError>
     ensures made { OnOk result ((handles : CommitList) → Leads (events_of (Step.Delete deleted.now)) session.old handles session.new handles) }
     ensures refused { OnErr result ((handles : CommitList) → Stays session.old handles session.new handles) }
+    ensures stays { OnErr result (session.new.current ≡ session.old.current) }
     ensures memory { IfErr result (λ e. e ≡ CommitError.Memory) }
 {
     match session.delete_record(deleted) {
@@ -117,6 +121,7 @@ fn delete(session: &mut WriteZone<'_>, deleted: &StoredRecord) -> Result<(), Com
 fn commit(session: &mut WriteZone<'_>, bumps: bool) -> Result<(), CommitError>
     ensures made { OnOk result ((handles : CommitList) → Leads (events_of (Step.Commit bumps)) session.old handles session.new handles) }
     ensures refused { OnErr result ((handles : CommitList) → Stays session.old handles session.new handles) }
+    ensures stays { OnErr result (session.new.current ≡ session.old.current) }
     ensures exhausted { (result ≡ Err CommitError.VersionsExhausted) → (session.old.current.number ≡ 2 ^ 64 - 1) }
 {
     publish(session, bumps)?;
@@ -137,6 +142,7 @@ fn publish(session: &mut WriteZone<'_>, bumps: bool) -> Result<(), CommitError>
 fn roll_back(session: &mut WriteZone<'_>) -> Result<(), CommitError>
     ensures made { OnOk result ((handles : CommitList) → Leads (events_of Step.Rollback) session.old handles session.new handles) }
     ensures refused { OnErr result ((handles : CommitList) → Stays session.old handles session.new handles) }
+    ensures stays { OnErr result (session.new.current ≡ session.old.current) }
     ensures memory { IfErr result (λ e. e ≡ CommitError.Memory) }
 {
     session.rollback();
@@ -147,6 +153,7 @@ fn roll_back(session: &mut WriteZone<'_>) -> Result<(), CommitError>
 fn read(session: &mut WriteZone<'_>, handles: &mut Vec<ReadZone>) -> Result<(), CommitError>
     ensures made { OnOk result (Leads (events_of Step.Read) session.old handles.old.items session.new handles.new.items) }
     ensures refused { OnErr result (Stays session.old handles.old.items session.new handles.new.items) }
+    ensures stays { OnErr result (session.new.current ≡ session.old.current) }
     ensures memory { IfErr result (λ e. e ≡ CommitError.Memory) }
 {
     let handle = session.handle()?;
