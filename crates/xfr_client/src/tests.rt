@@ -42,7 +42,8 @@ fn refusal(message: &MessageBuf) -> Option<Error> {
 }
 
 // Applies a message's updates, and tells whether one of them committed.
-fn apply_all(
+fn apply_all<R>(
+    rt: &R,
     session: &mut WriteZone<'_>,
     updater: &mut ZoneUpdater,
     updates: &mut XfrZoneUpdateIterator<'_>,
@@ -52,13 +53,13 @@ fn apply_all(
         match updates.next_update() {
             None => return Ok(committed),
             Some(Err(error)) => return Err(Fail::new(error)),
-            Some(Ok(update)) => committed = updater.apply(session, update)?,
+            Some(Ok(update)) => committed = updater.apply(rt, session, update)?,
         }
     }
     Ok(false)
 }
 
-fn transferred(alloc: Global, message: &MessageBuf) -> Result<ReadZone, Fail> {
+fn transferred<R>(rt: &R, alloc: Global, message: &MessageBuf) -> Result<ReadZone, Fail> {
     let mut zone = ZoneApex::new(
         alloc,
         NameRef::from_octets(b"\x07example\x00")?.store(alloc)?,
@@ -68,7 +69,8 @@ fn transferred(alloc: Global, message: &MessageBuf) -> Result<ReadZone, Fail> {
     let mut updater = ZoneUpdater::new(alloc);
     let mut interpreter = XfrResponseInterpreter::new();
     let mut updates = interpreter.interpret_response(message)?;
-    if !apply_all(&mut session, &mut updater, &mut updates)? || !interpreter.is_finished() {
+    let committed = apply_all(rt, &mut session, &mut updater, &mut updates)?;
+    if !committed || !interpreter.is_finished() {
         return Err(Fail::new("no end"));
     }
     Ok(updater.handle(&mut session)?)
@@ -91,7 +93,7 @@ fn first_data(zone: &ReadZone, rtype: Rtype) -> usize {
 #[test]
 fn equal_data_are_passed_over(rt: HostRuntime) -> Result<(), Fail> {
     let message = reply(rt.alloc(), [0x84, 0], 4, &[&SOA, &ADDRESS, &ADDRESS, &SOA])?;
-    let zone = transferred(rt.alloc(), &message)?;
+    let zone = transferred(&rt, rt.alloc(), &message)?;
     assert_eq!(rt; zone.version(), 1);
     assert_eq!(rt; first_data(&zone, Rtype::A), 1);
     Ok(())

@@ -69,13 +69,14 @@ impl ZoneUpdater {
         session.handle()
     }
 
-    /// Applies one update, and tells whether it committed a version.
+    /// Applies one update, and tells whether it committed a version. Nothing waits, so nothing is asked of `rt`.
     ///
     /// `Finished` comes after the end and after `IncompatibleUpdate`; after the other refusals the updater goes on.
     /// After `Memory` or `VersionsExhausted` the same update may be applied again; where it was `Finished` the new SOA
     /// may be pending already. An update that lacks both memory and a number is answered by either.
-    pub fn apply(
+    pub fn apply<R>(
         &mut self,
+        rt: &R,
         session: &mut WriteZone<'_>,
         update: ZoneUpdate<ReadRecord<'_>>,
     ) -> Result<bool, Error>
@@ -104,14 +105,14 @@ impl ZoneUpdater {
             }
             ZoneUpdate::DeleteRecord(deleted) => self.delete(session, &deleted),
             ZoneUpdate::AddRecord(added) => self.add(session, &added),
-            ZoneUpdate::BeginBatchDelete(_) => self.publish(session),
+            ZoneUpdate::BeginBatchDelete(_) => self.publish(rt, session),
             ZoneUpdate::BeginBatchAdd(soa) => {
                 put_soa(self.alloc, session, &soa)?;
                 Ok(false)
             }
             ZoneUpdate::Finished(soa) => {
                 put_soa(self.alloc, session, &soa)?;
-                self.publish(session)?;
+                self.publish(rt, session)?;
                 self.is_finished = true;
                 Ok(true)
             }
@@ -119,13 +120,13 @@ impl ZoneUpdater {
     }
 
     // What is pending is published.
-    fn publish(&mut self, session: &mut WriteZone<'_>) -> Result<bool, Error>
+    fn publish<R>(&mut self, rt: &R, session: &mut WriteZone<'_>) -> Result<bool, Error>
         ensures ok { OnOk result ((self.new ≡ record { replacing = false; finished = self.old.finished }) × (session.new ≡ committed session.old false)) }
         ensures told { IfOk result (λ told. told ≡ true) }
         ensures err { IfErr result (λ e. (self.new ≡ self.old) × (session.new ≡ session.old) × (update_fault_of e ≡ None)) }
         ensures exhausted { (result ≡ Err VersionsExhausted) ↔ (session.old.current.number ≡ 2 ^ 64 - 1) }
     {
-        commit(session)?;
+        commit(rt, session)?;
         self.is_replacing = false;
         Ok(true)
     }
@@ -241,12 +242,12 @@ fn put_data(session: &mut WriteZone<'_>, ttl: Ttl, data: Soa<StoredName>) -> Res
 }
 
 // What is pending is published.
-fn commit(session: &mut WriteZone<'_>) -> Result<(), Error>
+fn commit<R>(rt: &R, session: &mut WriteZone<'_>) -> Result<(), Error>
     ensures ok { OnOk result (session.new ≡ committed session.old false) }
     ensures err { IfErr result (λ e. (session.new ≡ session.old) × (update_fault_of e ≡ None)) }
     ensures exhausted { (result ≡ Err VersionsExhausted) ↔ (session.old.current.number ≡ 2 ^ 64 - 1) }
 {
-    match session.commit(false) {
+    match session.commit(rt, false) {
         Ok(_) => Ok(()),
         Err(CommitError::VersionsExhausted) => Err(Error::VersionsExhausted),
         Err(CommitError::Memory) => Err(Error::Memory),

@@ -62,7 +62,7 @@ fn fill<R: Abort>(rt: &R, alloc: Global, session: &mut WriteZone<'_>) {
         let address = new_record(rt, alloc, NS_EXAMPLE, address);
         session.add_record(address).expect(rt, "an address");
     }
-    session.commit(false).expect(rt, "a version");
+    session.commit(rt, false).expect(rt, "a version");
 }
 
 fn example_zone<R: Abort>(rt: &R, alloc: Global) -> ReadZone {

@@ -141,7 +141,7 @@ fn opened<R: Abort>(rt: &R, alloc: Global, apex: &[u8], rows: &str) -> ReadZone 
         put(rt, alloc, &mut builder, row);
     }
     let zone = builder.build().expect(rt, "memory");
-    zone.read().expect(rt, "memory")
+    zone.read(rt).expect(rt, "memory")
 }
 
 /// Adds the records of a section, and how many they are.

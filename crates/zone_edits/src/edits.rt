@@ -41,7 +41,8 @@ fn with_difference(told: Told, diff: &Option<InMemoryZoneDiff>) -> Told
 }
 
 /// Makes the edit of a number and commits it: one more address at the name of the number, whether the zone has that or not.
-fn edit(
+fn edit<R>(
+    rt: &R,
     alloc: Global,
     session: &mut WriteZone<'_>,
     number: u32,
@@ -53,11 +54,16 @@ fn edit(
     session.open(true);
     let added = address(alloc, number, number.to_be_bytes())?;
     session.add_record(added)?;
-    Ok(session.commit(true)?)
+    Ok(session.commit(rt, true)?)
 }
 
 /// Makes so many edits, one commit each, and counts what they tell. After an error fewer are published.
-pub fn edit_all(alloc: Global, session: &mut WriteZone<'_>, edits: u32) -> Result<Told, EditsError>
+pub fn edit_all<R>(
+    rt: &R,
+    alloc: Global,
+    session: &mut WriteZone<'_>,
+    edits: u32,
+) -> Result<Told, EditsError>
     ensures ok { IfOk result (λ told. edits_of edits session.old ≡ Ok (session.new, told)) }
     ensures number { OnOk result (session.new.current.number ≡ session.old.current.number + edits) }
     ensures err { OnErr result (session.new.current.number < session.old.current.number + edits) }
@@ -67,7 +73,7 @@ pub fn edit_all(alloc: Global, session: &mut WriteZone<'_>, edits: u32) -> Resul
         removed: 0,
     };
     for number in 0..edits {
-        let diff = edit(alloc, session, number)?;
+        let diff = edit(rt, alloc, session, number)?;
         told = with_difference(told, &diff);
     }
     Ok(told)

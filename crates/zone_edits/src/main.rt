@@ -63,14 +63,14 @@ fn words_of(rt: &HostRuntime) -> io::Result<Vec<String>> {
 }
 
 /// Opens the zone and edits it: the number of its last version, and what the commits told.
-fn run(alloc: Global, sizes: Sizes) -> Result<(u64, Told), EditsError>
+fn run<R>(rt: &R, alloc: Global, sizes: Sizes) -> Result<(u64, Told), EditsError>
     requires { sizes.sets ≤ MOST }
     ensures course { IfOk result (λ r. (s : Session) × (edits_of sizes.edits (session_of sizes.sets) ≡ Ok (s, r.1)) × (s.current.number ≡ r.0)) }
     ensures number { IfOk result (λ r. r.0 ≡ sizes.edits) }
 {
     let mut zone = open_zone(alloc, sizes.sets)?;
     let mut session = zone.write(alloc);
-    let told = edit_all(alloc, &mut session, sizes.edits)?;
+    let told = edit_all(rt, alloc, &mut session, sizes.edits)?;
     let last = session.handle()?;
     Ok((last.version(), told))
 }
@@ -93,7 +93,7 @@ fn print(rt: &HostRuntime, outcome: Result<(u64, Told), EditsError>) -> io::Resu
 fn main(rt: HostRuntime) -> ExitCode {
     let outcome = match words_of(&rt) {
         Ok(words) => match sizes_of(words.as_slice()) {
-            Some(sizes) => run(rt.alloc(), sizes),
+            Some(sizes) => run(&rt, rt.alloc(), sizes),
             None => Err(EditsError::Usage),
         },
         Err(_) => Err(EditsError::Memory(AllocError)),

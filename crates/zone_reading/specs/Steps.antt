@@ -1,5 +1,5 @@
 -- Steps of readers and one writer, and what stands for a zone with its history (RFC 1034, 4.3.5).
-use Rattle.std.specs.Prelude.{◌≡◌, ℕ, ◌-◌, ◌^◌, true, false, List, [], ◌∷◌, ◌++◌, length, map, Option, Some, None, Result, Ok, Err, slice_get, option_map}
+use Rattle.std.specs.Prelude.{◌≡◌, ℕ, ◌-◌, ◌^◌, Bool, true, false, List, [], ◌∷◌, ◌++◌, length, map, Option, Some, None, Result, Ok, Err, slice_get, option_map}
 use Rattle.dns_name.specs.Names.{Name}
 use Rattle.zone_model.specs.Version.{Version, in_zone}
 use Rattle.zone_model.specs.Edits.{Refusal, add, delete, bump}
@@ -70,6 +70,15 @@ Exhausts (Copy handle) s = ⊥
 abbrev pub Refuses : Step → Session → CommitError → Type 0
 Refuses step s NoMemory = Unit {0}
 Refuses step s NoNumber = Exhausts step s
+
+-- whether the next commit is to tell a difference, behind a step: a commit and a rollback end that wish
+abbrev pub wish_after : Step → Bool → Bool
+wish_after (Add r) wish = wish
+wish_after (Delete r) wish = wish
+wish_after (CommitStep bumps) wish = false
+wish_after Rollback wish = false
+wish_after ReadStep wish = wish
+wish_after (Copy handle) wish = wish
 
 -- what a version answers to a question
 abbrev pub Answers : Version → Name → ℕ → Result AnsweredBy AskError → Type 0

@@ -24,7 +24,7 @@ fn make<R: Abort>(
     handles: &mut Vec<ReadZone>,
     steps: &[Step],
 ) {
-    let (made, outcome) = make_steps(session, handles, steps);
+    let (made, outcome) = make_steps(rt, session, handles, steps);
     outcome.expect(rt, "memory");
     assert_eq!(rt; made, steps.len());
 }

@@ -1,9 +1,9 @@
 // Steps of readers and one writer, each made by the calls of the zone's session and of its read handles.
-ghost use Rattle.std.specs.Prelude.{◌≡◌, ◌↔◌, ◌≤◌, ◌<◌, ℕ, List, [], ◌∷◌, ◌++◌, length, take, slice_get, Some, Err, IfErr, IfSome, OnOk, OnErr, ◌-◌, ◌^◌};
+ghost use Rattle.std.specs.Prelude.{◌≡◌, ◌↔◌, ◌≤◌, ◌<◌, ℕ, List, [], ◌∷◌, ◌++◌, length, take, slice_get, false, Some, Err, IfErr, IfSome, OnOk, OnErr, ◌-◌, ◌^◌};
 ghost use Rattle.zone_model.specs.Version.{Version};
 ghost use Rattle.zone_model.specs.Session.{Session, committed};
 ghost use Rattle.zone_model.specs.Commits.{CommitList, Zone, Event, after_all, version_of};
-ghost use Rattle.zone_reading.specs.Steps.{HandlesStand, Leads, Stays, Refuses, Answers, events_of, events_of_all};
+ghost use Rattle.zone_reading.specs.Steps.{HandlesStand, Leads, Stays, Refuses, Answers, events_of, events_of_all, wish_after};
 ghost use Rattle.zone_reading.specs.declared.steps.Step.{Step};
 
 use crate::errors::AskError;
@@ -30,8 +30,10 @@ pub enum Step {
     Copy(usize),
 }
 
-/// Makes a step. It is refused where memory or version numbers run out, and nothing has happened then.
-pub fn make_step(
+/// Makes a step. It is refused where memory or version numbers run out, and nothing has happened then. Nothing waits, so nothing is asked
+/// of `rt`.
+pub fn make_step<R>(
+    rt: &R,
     session: &mut WriteZone<'_>,
     handles: &mut Vec<ReadZone>,
     step: &Step,
@@ -39,12 +41,14 @@ pub fn make_step(
     ensures made { OnOk result (Leads (events_of step.now) session.old handles.old.items session.new handles.new.items) }
     ensures refused { OnErr result (Stays session.old handles.old.items session.new handles.new.items) }
     ensures stays { OnErr result (session.new.current ≡ session.old.current) }
+    ensures wish { OnOk result (session.new.compares ≡ wish_after step.now session.old.compares) }
+    ensures wish_stays { OnErr result (session.new.compares ≡ session.old.compares) }
     ensures cause { IfErr result (λ e. Refuses step.now session.old e) }
 {
     match step {
         Step::Add(added) => add(session, added),
         Step::Delete(deleted) => delete(session, deleted),
-        Step::Commit(bumps) => commit(session, *bumps),
+        Step::Commit(bumps) => commit(rt, session, *bumps),
         Step::Rollback => roll_back(session),
         Step::Read => read(session, handles),
         Step::Copy(handle) => copy(handles, *handle),
@@ -52,7 +56,8 @@ pub fn make_step(
 }
 
 /// Makes steps in turn, up to the first that is refused for want of memory or of version numbers, and tells how many were made.
-pub fn make_steps(
+pub fn make_steps<R>(
+    rt: &R,
     session: &mut WriteZone<'_>,
     handles: &mut Vec<ReadZone>,
     steps: &[Step],
@@ -64,7 +69,7 @@ pub fn make_steps(
 {
     let mut made = 0_usize;
     'steps: for step in steps {
-        if let Err(error) = make_step(session, handles, step) {
+        if let Err(error) = make_step(rt, session, handles, step) {
             return (made, Err(error));
         }
         made += 1;
@@ -96,6 +101,7 @@ fn add(session: &mut WriteZone<'_>, added: &StoredRecord) -> Result<(), CommitEr
     ensures made { OnOk result ((handles : CommitList) → Leads (events_of (Step.Add added.now)) session.old handles session.new handles) }
     ensures refused { OnErr result ((handles : CommitList) → Stays session.old handles session.new handles) }
     ensures stays { OnErr result (session.new.current ≡ session.old.current) }
+    ensures wish { session.new.compares ≡ session.old.compares }
     ensures memory { IfErr result (λ e. e ≡ CommitError.Memory) }
 {
     match session.add_record(added.clone()?) {
@@ -109,6 +115,7 @@ fn delete(session: &mut WriteZone<'_>, deleted: &StoredRecord) -> Result<(), Com
     ensures made { OnOk result ((handles : CommitList) → Leads (events_of (Step.Delete deleted.now)) session.old handles session.new handles) }
     ensures refused { OnErr result ((handles : CommitList) → Stays session.old handles session.new handles) }
     ensures stays { OnErr result (session.new.current ≡ session.old.current) }
+    ensures wish { session.new.compares ≡ session.old.compares }
     ensures memory { IfErr result (λ e. e ≡ CommitError.Memory) }
 {
     match session.delete_record(deleted) {
@@ -118,23 +125,25 @@ fn delete(session: &mut WriteZone<'_>, deleted: &StoredRecord) -> Result<(), Com
 }
 
 /// Commits.
-fn commit(session: &mut WriteZone<'_>, bumps: bool) -> Result<(), CommitError>
+fn commit<R>(rt: &R, session: &mut WriteZone<'_>, bumps: bool) -> Result<(), CommitError>
     ensures made { OnOk result ((handles : CommitList) → Leads (events_of (Step.Commit bumps)) session.old handles session.new handles) }
     ensures refused { OnErr result ((handles : CommitList) → Stays session.old handles session.new handles) }
     ensures stays { OnErr result (session.new.current ≡ session.old.current) }
+    ensures wish { OnOk result (session.new.compares ≡ false) }
+    ensures wish_stays { OnErr result (session.new.compares ≡ session.old.compares) }
     ensures exhausted { (result ≡ Err CommitError.VersionsExhausted) → (session.old.current.number ≡ 2 ^ 64 - 1) }
 {
-    publish(session, bumps)?;
+    publish(rt, session, bumps)?;
     Ok(())
 }
 
 /// Commits, and keeps no difference.
-fn publish(session: &mut WriteZone<'_>, bumps: bool) -> Result<(), CommitError>
+fn publish<R>(rt: &R, session: &mut WriteZone<'_>, bumps: bool) -> Result<(), CommitError>
     ensures ok { OnOk result (session.new ≡ committed session.old bumps) }
     ensures err { OnErr result (session.new ≡ session.old) }
     ensures exhausted { (result ≡ Err CommitError.VersionsExhausted) → (session.old.current.number ≡ 2 ^ 64 - 1) }
 {
-    session.commit(bumps)?;
+    session.commit(rt, bumps)?;
     Ok(())
 }
 
@@ -143,6 +152,8 @@ fn roll_back(session: &mut WriteZone<'_>) -> Result<(), CommitError>
     ensures made { OnOk result ((handles : CommitList) → Leads (events_of Step.Rollback) session.old handles session.new handles) }
     ensures refused { OnErr result ((handles : CommitList) → Stays session.old handles session.new handles) }
     ensures stays { OnErr result (session.new.current ≡ session.old.current) }
+    ensures wish { session.new.compares ≡ false }
+    ensures wish_stays { OnErr result (session.new.compares ≡ session.old.compares) }
     ensures memory { IfErr result (λ e. e ≡ CommitError.Memory) }
 {
     session.rollback();
@@ -154,6 +165,7 @@ fn read(session: &mut WriteZone<'_>, handles: &mut Vec<ReadZone>) -> Result<(), 
     ensures made { OnOk result (Leads (events_of Step.Read) session.old handles.old.items session.new handles.new.items) }
     ensures refused { OnErr result (Stays session.old handles.old.items session.new handles.new.items) }
     ensures stays { OnErr result (session.new.current ≡ session.old.current) }
+    ensures wish { session.new.compares ≡ session.old.compares }
     ensures memory { IfErr result (λ e. e ≡ CommitError.Memory) }
 {
     let handle = session.handle()?;

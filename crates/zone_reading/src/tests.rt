@@ -31,7 +31,7 @@ fn commit<R: Abort>(rt: &R, alloc: Global, zone: &mut Zone<ZoneApex>, added: &[(
         let added = address(rt, alloc, owner, *last);
         session.add_record(added).expect(rt, "a new record");
     }
-    session.commit(false).expect(rt, "a version");
+    session.commit(rt, false).expect(rt, "a version");
 }
 
 /// The owners that a walk visits, one behind the other.
@@ -55,7 +55,7 @@ fn walks_each_set_once(rt: HostRuntime) {
         &[(b"\x01a\x01B\x01c\0", 1), (b"\x01C\0", 2)],
     );
     commit(&rt, alloc, &mut zone, &[(b"\x01c\0", 3)]);
-    let read = zone.read().expect(&rt, "memory");
+    let read = zone.read(&rt).expect(&rt, "memory");
     let wanted = b"\x01c\0\x01a\x01b\x01c\0";
     assert_eq!(rt; owners(&rt, alloc, &read).as_slice(), wanted.as_slice());
     assert_eq!(rt; zone.class(), Class::IN);
@@ -76,11 +76,11 @@ fn versions_are_the_same_but_for_order(rt: HostRuntime) {
     );
     let mut other = zone(&rt, alloc);
     commit(&rt, alloc, &mut other, &[(b"\x01A\x01c\0", 2)]);
-    let first = one.read().expect(&rt, "memory");
-    let less = other.read().expect(&rt, "memory");
+    let first = one.read(&rt).expect(&rt, "memory");
+    let less = other.read(&rt).expect(&rt, "memory");
     assert!(rt; !is_same(&first, &less));
     commit(&rt, alloc, &mut other, &[(b"\x01a\x01C\0", 1)]);
-    let second = other.read().expect(&rt, "memory");
+    let second = other.read(&rt).expect(&rt, "memory");
     assert!(rt; is_same(&first, &second));
     assert!(rt; !is_same(&less, &second));
 }
@@ -110,7 +110,7 @@ fn queries_are_answered(rt: HostRuntime) {
     let alloc = rt.alloc();
     let mut zone = zone(&rt, alloc);
     commit(&rt, alloc, &mut zone, &[(b"\x01a\x01c\0", 1)]);
-    let read = zone.read().expect(&rt, "memory");
+    let read = zone.read(&rt).expect(&rt, "memory");
     let found = queried(&rt, alloc, &read, b"\x01A\x01C\0").expect(&rt, "an answer");
     let (rcode, authoritative, octets) = told(&rt, alloc, found);
     assert_eq!(rt; rcode, Rcode::NOERROR);

@@ -5,6 +5,7 @@ use crate::stores::ReadableZone;
 use dns_name::{Class, StoredName};
 use std::alloc::{AllocError, Global};
 use std::marker::Model;
+use std::sync::Wait;
 use zone_store::{ReadZone, WriteZone, ZoneApex};
 
 /// What keeps a zone: it knows its class and apex, and gives read handles.
@@ -26,8 +27,8 @@ pub trait ZoneStore {
     fn apex_name(&self) -> &StoredName
         ensures { (v : Version) → MayGive self.now v → v.apex ≡ result.now };
 
-    /// A read handle.
-    fn read(&self) -> Result<Self::Read, AllocError>
+    /// A read handle. A store may wait for one.
+    fn read<R: Wait>(&self, rt: &R) -> Result<Self::Read, AllocError>
         ensures { IfOk result (λ z. MayGive self.now (Self.Read.version_of z)) };
 }
 
@@ -47,8 +48,8 @@ impl ZoneStore for ZoneApex {
         self.name()
     }
 
-    fn read(&self) -> Result<ReadZone, AllocError> {
-        ZoneApex::read(self)
+    fn read<R: Wait>(&self, rt: &R) -> Result<ReadZone, AllocError> {
+        ZoneApex::read(self, rt)
     }
 }
 
@@ -100,8 +101,8 @@ impl<S: ZoneStore + Drop> ZoneStore for Zone<S> {
         self.store.apex_name()
     }
 
-    fn read(&self) -> Result<S::Read, AllocError> {
-        self.store.read()
+    fn read<R: Wait>(&self, rt: &R) -> Result<S::Read, AllocError> {
+        self.store.read(rt)
     }
 }
 

@@ -87,8 +87,8 @@ impl ZoneApex {
         self.current.version()
     }
 
-    /// A read handle of the current version.
-    pub fn read(&self) -> Result<ReadZone, AllocError>
+    /// A read handle of the current version. It doesn't wait, so nothing is asked of `rt`.
+    pub fn read<R>(&self, _rt: &R) -> Result<ReadZone, AllocError>
         ensures { IfOk result (λ z. z ≡ self.now) }
     {
         self.current.clone()

@@ -44,7 +44,7 @@ fn opened<R: Abort>(rt: &R, alloc: Global, serial: u32) -> ZoneApex {
     let mut session = zone.write(alloc);
     put_soa(rt, alloc, &mut session, serial);
     put(rt, alloc, &mut session, 3600);
-    session.commit(false).expect(rt, "a version");
+    session.commit(rt, false).expect(rt, "a version");
     drop(session);
     zone
 }
@@ -75,14 +75,14 @@ fn tells_a_changed_ttl(rt: HostRuntime) {
     session.open(true);
     put(&rt, alloc, &mut session, 60);
     put_soa(&rt, alloc, &mut session, 2);
-    let told = session.commit(false).expect(&rt, "a version");
+    let told = session.commit(&rt, false).expect(&rt, "a version");
     let diff = told.expect(&rt, "a difference");
     assert!(rt; diff.start_serial == Serial::from(1));
     assert!(rt; diff.end_serial == Serial::from(2));
     let (removed, added) = counts(&diff);
     assert_eq!(rt; removed, 4);
     assert_eq!(rt; added, 4);
-    let told = session.commit(false).expect(&rt, "a version");
+    let told = session.commit(&rt, false).expect(&rt, "a version");
     assert!(rt; told.is_none());
 }
 
@@ -92,7 +92,7 @@ fn counts_the_serial_on(rt: HostRuntime) {
     let mut zone = opened(&rt, alloc, 4_294_967_295);
     let mut session = zone.write(alloc);
     session.open(true);
-    let told = session.commit(true).expect(&rt, "a version");
+    let told = session.commit(&rt, true).expect(&rt, "a version");
     let diff = told.expect(&rt, "a difference");
     assert!(rt; diff.start_serial == Serial::from(4_294_967_295));
     assert!(rt; diff.end_serial == Serial::from(0));
@@ -114,7 +114,7 @@ fn tells_what_is_left_of_edits(rt: HostRuntime) {
     session.clear_all().expect(&rt, "memory");
     put_soa(&rt, alloc, &mut session, 7);
     put(&rt, alloc, &mut session, 3600);
-    let told = session.commit(false).expect(&rt, "a version");
+    let told = session.commit(&rt, false).expect(&rt, "a version");
     let (removed, added) = counts(&told.expect(&rt, "a difference"));
     assert_eq!(rt; removed, 1);
     assert_eq!(rt; added, 1);
@@ -125,7 +125,7 @@ fn tells_what_is_left_of_edits(rt: HostRuntime) {
 fn drops_edits_without_a_trace(rt: HostRuntime) {
     let alloc = rt.alloc();
     let mut zone = opened(&rt, alloc, 1);
-    let handle = zone.read().expect(&rt, "memory");
+    let handle = zone.read(&rt).expect(&rt, "memory");
     let mut session = zone.write(alloc);
     session.open(true);
     session.clear_all().expect(&rt, "memory");
@@ -134,7 +134,7 @@ fn drops_edits_without_a_trace(rt: HostRuntime) {
     assert!(rt; handle.rrset_at(&owner, Rtype::A).is_some());
     let mut session = zone.write(alloc);
     put_soa(&rt, alloc, &mut session, 2);
-    let told = session.commit(false).expect(&rt, "a version");
+    let told = session.commit(&rt, false).expect(&rt, "a version");
     assert!(rt; told.is_none());
     let later = session.handle().expect(&rt, "memory");
     assert!(rt; later.rrset_at(&owner, Rtype::A).is_some());
@@ -145,9 +145,9 @@ fn drops_edits_without_a_trace(rt: HostRuntime) {
 fn gives_the_soa_of_a_version(rt: HostRuntime) {
     let alloc = rt.alloc();
     let mut zone = opened(&rt, alloc, 7);
-    let before = zone.read().expect(&rt, "memory");
+    let before = zone.read(&rt).expect(&rt, "memory");
     commit_soa(&rt, alloc, &mut zone, 8);
-    let now = zone.read().expect(&rt, "memory");
+    let now = zone.read(&rt).expect(&rt, "memory");
     assert!(rt; serial_in(&zone, &before) == Some(Serial::from(7)));
     assert!(rt; serial_in(&zone, &now) == Some(Serial::from(8)));
 }
@@ -156,7 +156,7 @@ fn gives_the_soa_of_a_version(rt: HostRuntime) {
 fn commit_soa<R: Abort>(rt: &R, alloc: Global, zone: &mut ZoneApex, serial: u32) {
     let mut session = zone.write(alloc);
     put_soa(rt, alloc, &mut session, serial);
-    session.commit(false).expect(rt, "a version");
+    session.commit(rt, false).expect(rt, "a version");
 }
 
 /// The serial of a version's first SOA record.

@@ -96,7 +96,7 @@ fn reaches_names_below(rt: HostRuntime) {
     let put = node.update_rrset(hosts(&rt, alloc, 1, 2));
     assert_eq!(rt; put, Ok(()));
     drop(node);
-    session.commit(false).expect(&rt, "a version");
+    session.commit(&rt, false).expect(&rt, "a version");
     let owner = NameRef::from_octets(b"\x01b\x01a\x07example\x00".as_slice()).expect(&rt, "a name");
     let zone = session.handle().expect(&rt, "memory");
     assert!(rt; zone.rrset_at(&owner, Rtype::A).is_some());

@@ -57,7 +57,7 @@ fn fill<R: Abort>(rt: &R, alloc: Global, session: &mut WriteZone<'_>) {
     session.add_record(second).expect(rt, "an address");
     let server = apex_server(rt, alloc);
     session.add_record(server).expect(rt, "a server");
-    session.commit(false).expect(rt, "a version");
+    session.commit(rt, false).expect(rt, "a version");
 }
 
 pub(crate) fn filled<R: Abort>(rt: &R, alloc: Global) -> ZoneApex {
@@ -80,7 +80,7 @@ fn is_at(zone: &ReadZone, owner: &[u8], rtype: Rtype, next: Rtype) -> bool {
 
 #[test]
 fn walks_in_order(rt: HostRuntime) {
-    let zone = filled(&rt, rt.alloc()).read().expect(&rt, "memory");
+    let zone = filled(&rt, rt.alloc()).read(&rt).expect(&rt, "memory");
     assert_eq!(rt; zone.version(), 1);
     let first = zone.first_rrset().expect(&rt, "a set");
     assert_eq!(rt; first.rtype(), Rtype::NS);
@@ -121,7 +121,7 @@ fn flags_what_is_below_a_cut(rt: HostRuntime) {
     session.add_record(cut).expect(&rt, "a cut");
     let glue = address(&rt, alloc, b"\x02ns\x01a\x07example\x00", 3);
     session.add_record(glue).expect(&rt, "an address");
-    session.commit(false).expect(&rt, "a version");
+    session.commit(&rt, false).expect(&rt, "a version");
     let zone = session.handle().expect(&rt, "memory");
     let mut flags = Vec::new(alloc);
     for stop in zone.iter_rrsets() {
@@ -141,12 +141,12 @@ fn flags_what_is_below_a_cut(rt: HostRuntime) {
 fn counts_commits(rt: HostRuntime) {
     let mut zone = filled(&rt, rt.alloc());
     let mut session = zone.write(rt.alloc());
-    session.commit(false).expect(&rt, "a version");
-    session.commit(false).expect(&rt, "a version");
+    session.commit(&rt, false).expect(&rt, "a version");
+    session.commit(&rt, false).expect(&rt, "a version");
     assert_eq!(rt; session.handle().expect(&rt, "memory").version(), 3);
     assert_eq!(rt; session.handle().expect(&rt, "memory").version(), 3);
     drop(session);
-    assert_eq!(rt; zone.read().expect(&rt, "memory").version(), 3);
+    assert_eq!(rt; zone.read(&rt).expect(&rt, "memory").version(), 3);
 }
 
 #[test]
@@ -163,16 +163,16 @@ fn drops_what_is_pending(rt: HostRuntime) {
     assert!(rt; !session.has_data(&server));
     session.add_record(server).expect(&rt, "a server");
     drop(session);
-    assert!(rt; zone.read().expect(&rt, "memory").first_rrset().is_none());
+    assert!(rt; zone.read(&rt).expect(&rt, "memory").first_rrset().is_none());
 }
 
 #[test]
 fn keeps_a_handles_version(rt: HostRuntime) {
     let mut zone = filled(&rt, rt.alloc());
-    let before = zone.read().expect(&rt, "memory");
+    let before = zone.read(&rt).expect(&rt, "memory");
     let mut session = zone.write(rt.alloc());
     session.clear_all().expect(&rt, "memory");
-    session.commit(false).expect(&rt, "a version");
+    session.commit(&rt, false).expect(&rt, "a version");
     assert!(rt;
         session
             .handle()
@@ -192,7 +192,7 @@ fn refuses_what_does_not_fit(rt: HostRuntime) {
     assert_eq!(rt; outside, Err(EditError::OutOfZone));
     let again = session.add_record(address(&rt, rt.alloc(), b"\x02NS\x07example\x00", 2));
     assert_eq!(rt; again, Err(EditError::Incompatible));
-    assert!(rt; session.commit(false).is_ok());
+    assert!(rt; session.commit(&rt, false).is_ok());
 }
 
 #[test]
@@ -209,7 +209,7 @@ fn opens_with_what_was_inserted(rt: HostRuntime) {
     let zone = builder
         .build()
         .expect(&rt, "memory")
-        .read()
+        .read(&rt)
         .expect(&rt, "memory");
     assert_eq!(rt; zone.version(), 0);
     let first = zone.first_rrset().expect(&rt, "a set");
@@ -239,7 +239,7 @@ fn a_session_refuses_a_second_alias(rt: HostRuntime) {
     let other = alias(&rt, alloc, b"\x01B\x07example\x00", b"\x01c\x07example\x00");
     let refused = session.add_record(other);
     assert_eq!(rt; refused, Err(EditError::InvalidData));
-    assert!(rt; session.commit(false).is_ok());
+    assert!(rt; session.commit(&rt, false).is_ok());
 }
 
 #[test]
@@ -252,7 +252,7 @@ fn deletes_the_last_data_of_a_set(rt: HostRuntime) {
     assert_eq!(rt; refused, Err(EditError::Incompatible));
     let last = address(&rt, alloc, b"\x01A\x07example\x00", 1);
     session.delete_record(&last).expect(&rt, "an address");
-    session.commit(false).expect(&rt, "a version");
+    session.commit(&rt, false).expect(&rt, "a version");
     let owner = NameRef::from_octets(b"\x01a\x07example\x00".as_slice()).expect(&rt, "a name");
     let zone = session.handle().expect(&rt, "memory");
     assert!(rt; zone.rrset_at(&owner, Rtype::A).is_none());
@@ -288,7 +288,7 @@ fn finds_equal_data_among_many(rt: HostRuntime) {
     assert_eq!(rt; deleted, Ok(()));
     let lacking = session.delete_record(&lettered(&rt, alloc, b'c'));
     assert_eq!(rt; lacking, Err(EditError::Incompatible));
-    session.commit(false).expect(&rt, "a version");
+    session.commit(&rt, false).expect(&rt, "a version");
     assert_eq!(rt; add_servers(&rt, alloc, &mut session), 19);
 }
 
@@ -327,7 +327,11 @@ fn stays_as_it_was_in_want_of_memory(rt: HostRuntime) {
     assert_eq!(rt; has_added, is_added);
     let current = current_of(&rt, &mut session, old, new);
     assert_eq!(rt; current, (1, true, false));
-    let number = if session.commit(false).is_ok() { 2 } else { 1 };
+    let number = if session.commit(&rt, false).is_ok() {
+        2
+    } else {
+        1
+    };
     let is_current = is_added && number == 2;
     let current = current_of(&rt, &mut session, old, new);
     assert_eq!(rt; current, (number, true, is_current));

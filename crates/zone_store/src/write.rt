@@ -171,8 +171,13 @@ impl<'z> WriteZone<'z> {
     /// Publishes what is pending, without DS sets below the apex that lack NS (RFC 4035, 2.4), as the zone's current version with the next number.
     /// With `bump_soa_serial` a pending SOA that is absent, or as published, becomes the published one with the next serial (RFC 1982, 3.1).
     /// Told is the difference to the version before (RFC 1995, 4), where it was asked for since the last commit or rollback (`open`), both
-    /// versions have an SOA record at the apex, and the new serial is neither the old one nor before it.
-    pub fn commit(&mut self, bump_soa_serial: bool) -> Result<Option<InMemoryZoneDiff>, CommitError>
+    /// versions have an SOA record at the apex, and the new serial is neither the old one nor before it. It doesn't wait, so nothing is asked
+    /// of `rt`.
+    pub fn commit<R>(
+        &mut self,
+        _rt: &R,
+        bump_soa_serial: bool,
+    ) -> Result<Option<InMemoryZoneDiff>, CommitError>
         ensures ok { OnOk result (self.new ≡ committed self.old bump_soa_serial) }
         ensures difference { IfOk result (λ told. told ≡ told_difference self.old bump_soa_serial) }
         ensures exhausted { (result ≡ Err CommitError.VersionsExhausted) ↔ (self.old.current.number ≡ 2 ^ 64 - 1) }
@@ -242,7 +247,7 @@ impl<'z> WriteZone<'z> {
     {
         match self.spare.take() {
             Some(handle) => Ok(handle),
-            None => self.zone.read(),
+            None => self.zone.current().clone(),
         }
     }
 }

@@ -90,8 +90,10 @@ fn status_of(outcome: &Result<SyncOk, SyncError>) -> Status
     }
 }
 
-/// Runs the program: tests its words, reads the script, transfers the zone over the link, and writes the report.
-pub fn run<S: Source, K: Sink, L: Link>(
+/// Runs the program: tests its words, reads the script, transfers the zone over the link, and writes the report. Nothing waits, so nothing
+/// is asked of `rt`.
+pub fn run<R, S: Source, K: Sink, L: Link>(
+    rt: &R,
     alloc: Global,
     words: &[String],
     src: &mut S,
@@ -131,7 +133,7 @@ pub fn run<S: Source, K: Sink, L: Link>(
         return write_last(out, USAGE, Status::Usage);
     }
     match read_whole(alloc, src) {
-        Ok(text) => run_script(alloc, text.as_slice(), out, link),
+        Ok(text) => run_script(rt, alloc, text.as_slice(), out, link),
         Err(ReadError::Failed) => write_last(out, b"read fault\n", Status::SourceFault),
         Err(ReadError::TooLong) => write_last(out, b"too long\n", Status::TooLong),
         Err(ReadError::Memory) => Status::Memory,
@@ -154,7 +156,13 @@ fn write_last<K: Sink>(out: &mut K, octets: &[u8], status: Status) -> Status
 }
 
 /// Reads a script and runs it.
-fn run_script<K: Sink, L: Link>(alloc: Global, text: &[u8], out: &mut K, link: &mut L) -> Status
+fn run_script<R, K: Sink, L: Link>(
+    rt: &R,
+    alloc: Global,
+    text: &[u8],
+    out: &mut K,
+    link: &mut L,
+) -> Status
     ensures written { result ≢ Status.SinkFault → Took (λ octets. IsDue (λ provider key at m. ⟦<Primary as Service<()>>⟧.Sends ((refuser, provider), key) (request_at m at)) (Some text.now) (L.longest link.old) (L.lists link.old) (L.lists link.new) (L.faults link.old) (L.faults link.new) octets result) (K.taken out.old) (K.taken out.new) }
     ensures part { result ≡ Status.SinkFault → TookFirst (IsDue (λ provider key at m. ⟦<Primary as Service<()>>⟧.Sends ((refuser, provider), key) (request_at m at)) (Some text.now) (L.longest link.old) (L.lists link.old) (L.lists link.new) (L.faults link.old) (L.faults link.new)) (K.taken out.old) (K.taken out.new) }
     ensures sink_fault { result ≡ Status.SinkFault → Rose (K.faults out.old) (K.faults out.new) }
@@ -170,7 +178,7 @@ fn run_script<K: Sink, L: Link>(alloc: Global, text: &[u8], out: &mut K, link: &
     // For the proof: such a primary grants.
     history_primaries_grant();
     match parse(alloc, text) {
-        Ok(script) => run_transfer(alloc, script, out, link),
+        Ok(script) => run_transfer(rt, alloc, script, out, link),
         Err(ScriptError::Line(number)) => write_bad_line(alloc, out, number),
         Err(ScriptError::Memory) => Status::Memory,
     }
@@ -192,7 +200,8 @@ fn write_bad_line<K: Sink>(alloc: Global, out: &mut K, number: u64) -> Status
 }
 
 /// Transfers the zone, and writes the report.
-fn run_transfer<K: Sink, L: Link>(
+fn run_transfer<R, K: Sink, L: Link>(
+    rt: &R,
     alloc: Global,
     script: Script,
     out: &mut K,
@@ -211,7 +220,7 @@ fn run_transfer<K: Sink, L: Link>(
     ensures steady { result ≢ Status.SinkFault → K.faults out.new ≡ K.faults out.old }
     ensures others { (result ≢ Status.Usage) × (result ≢ Status.SourceFault) × (result ≢ Status.TooLong) × (result ≢ Status.Script) }
 {
-    match transfer(alloc, script, link) {
+    match transfer(rt, alloc, script, link) {
         Ok((report, status)) => write_last(out, report.as_slice(), status),
         Err(_) => Status::Memory,
     }
@@ -221,17 +230,18 @@ fn run_transfer<K: Sink, L: Link>(
 type Primary = PrimaryStack<RefuseSvc, HistoryProvider, Key>;
 
 /// The primary that offers a zone's current version to a key.
-fn primary_of(alloc: Global, zone: &ZoneApex, key: &Key) -> Result<Primary, AllocError>
+fn primary_of<R>(rt: &R, alloc: Global, zone: &ZoneApex, key: &Key) -> Result<Primary, AllocError>
     ensures { IfOk result (λ p. p ≡ ((refuser, provider_of zone.now.version key.now), key.now)) }
 {
-    let mut provider = HistoryProvider::new(alloc, zone.read()?);
+    let mut provider = HistoryProvider::new(alloc, zone.read(rt)?);
     provider.grant(key.name().duplicate(), key.algorithm())?;
     let transfers = XfrMiddlewareSvc::new(RefuseSvc, provider);
     Ok(TsigMiddlewareSvc::new(transfers, key.duplicate()))
 }
 
 /// Transfers the zone; what is to be written, and the status.
-fn transfer<L: Link>(
+fn transfer<R, L: Link>(
+    rt: &R,
     alloc: Global,
     script: Script,
     link: &mut L,
@@ -243,7 +253,7 @@ fn transfer<L: Link>(
     ensures others { IfOk result (λ r. IsTrue (is_reported r.1)) }
 {
     let mut script = script;
-    let primary = primary_of(alloc, &script.primary, &script.key)?;
+    let primary = primary_of(rt, alloc, &script.primary, &script.key)?;
     let moments = Moments {
         at_primary: script.at_primary,
         at_secondary: script.at_secondary,
@@ -251,6 +261,7 @@ fn transfer<L: Link>(
     let mut made = Vec::new(alloc);
     let mut session = script.secondary.write(alloc);
     let outcome = sync_zone(
+        rt,
         alloc,
         &primary,
         &mut session,

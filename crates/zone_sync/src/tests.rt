@@ -58,7 +58,7 @@ pub(crate) fn ran<R: Abort, L: Link>(
     let words = words_of(rt, alloc, words);
     let mut src = MemorySource::new(script, Vec::new(alloc));
     let mut out = MemorySink::new(alloc, 7, Vec::new(alloc));
-    let got = run(alloc, words.as_slice(), &mut src, &mut out, link);
+    let got = run(rt, alloc, words.as_slice(), &mut src, &mut out, link);
     (got, out)
 }
 
@@ -144,7 +144,14 @@ fn failing_source(rt: HostRuntime) {
     let mut src = MemorySource::new(script, failing);
     let mut out = MemorySink::new(rt.alloc(), 4096, Vec::new(rt.alloc()));
     let mut link = LoopLink::new(rt.alloc());
-    let got = run(rt.alloc(), words.as_slice(), &mut src, &mut out, &mut link);
+    let got = run(
+        &rt,
+        rt.alloc(),
+        words.as_slice(),
+        &mut src,
+        &mut out,
+        &mut link,
+    );
     assert_eq!(rt; out.as_slice(), b"read fault\n".as_slice());
     assert_eq!(rt; got, Status::SourceFault);
 }
@@ -157,7 +164,14 @@ fn failing_sink(rt: HostRuntime) {
     let failing = vec![in rt.alloc(); 3].expect(&rt, "memory");
     let mut out = MemorySink::new(rt.alloc(), 16, failing);
     let mut link = LoopLink::new(rt.alloc());
-    let got = run(rt.alloc(), words.as_slice(), &mut src, &mut out, &mut link);
+    let got = run(
+        &rt,
+        rt.alloc(),
+        words.as_slice(),
+        &mut src,
+        &mut out,
+        &mut link,
+    );
     assert_eq!(rt; out.as_slice().len(), 32);
     assert!(rt; REPORT.starts_with(out.as_slice()));
     assert_eq!(rt; got, Status::SinkFault);
@@ -170,7 +184,14 @@ fn one_octet_a_call(rt: HostRuntime) {
     let mut src = StdSource::new(OneOctet { octets, place: 0 });
     let mut out = MemorySink::new(rt.alloc(), 1, Vec::new(rt.alloc()));
     let mut link = LoopLink::new(rt.alloc());
-    let got = run(rt.alloc(), words.as_slice(), &mut src, &mut out, &mut link);
+    let got = run(
+        &rt,
+        rt.alloc(),
+        words.as_slice(),
+        &mut src,
+        &mut out,
+        &mut link,
+    );
     assert_eq!(rt; out.as_slice(), REPORT);
     assert_eq!(rt; got, Status::Done);
 }

@@ -148,9 +148,10 @@ impl XfrClient {
 
     /// Takes a reply: checks its signature, and applies the updates that it says. The outcome, where the transfer ends with it, is
     /// told, and so is a refusal; after either the client isn't open and nothing is pending. Each version that is committed gives
-    /// a handle at the end of `made`.
-    pub fn take(
+    /// a handle at the end of `made`. Nothing waits, so nothing is asked of `rt`.
+    pub fn take<R>(
         &mut self,
+        rt: &R,
         session: &mut WriteZone<'_>,
         octets: Vec<u8>,
         made: &mut Vec<ReadZone>,
@@ -166,7 +167,7 @@ impl XfrClient {
         let Some(mut exchange) = self.exchange.take() else {
             unreachable!()
         };
-        match exchange.take(session, octets, self.at, made) {
+        match exchange.take(rt, session, octets, self.at, made) {
             Ok(None) => {
                 self.exchange = Some(exchange);
                 Ok(None)
@@ -185,8 +186,9 @@ impl XfrClient {
 
 impl Exchange {
     /// Takes a reply: its signature, its tests and its updates.
-    fn take(
+    fn take<R>(
         &mut self,
+        rt: &R,
         session: &mut WriteZone<'_>,
         octets: Vec<u8>,
         at: Time48,
@@ -197,7 +199,7 @@ impl Exchange {
     {
         let message = self.checked(octets, at)?;
         let updates = self.read(&message)?;
-        apply_all(session, &mut self.updater, updates, made)?;
+        apply_all(rt, session, &mut self.updater, updates, made)?;
         if self.interpreter.is_finished() {
             Ok(Some(SyncOk::Updated))
         } else {
@@ -288,7 +290,8 @@ fn ask(alloc: Global, id: u16, question: &Question<KeyName>) -> Result<Additiona
 }
 
 /// Applies the updates of one message in order, and adds a handle for each version that they commit.
-fn apply_all(
+fn apply_all<R>(
+    rt: &R,
     session: &mut WriteZone<'_>,
     updater: &mut ZoneUpdater,
     mut updates: XfrZoneUpdateIterator<'_>,
@@ -298,13 +301,14 @@ fn apply_all(
         → TakesAll base before updater.new session.new made.new.items g updates.entry result }
 {
     'updates: while let Some(update) = updates.next_update() {
-        apply_one(session, updater, update?, made)?;
+        apply_one(rt, session, updater, update?, made)?;
     }
     Ok(())
 }
 
 /// Applies one update, and adds a handle for the version that it commits, for which there is room beforehand.
-fn apply_one(
+fn apply_one<R>(
+    rt: &R,
     session: &mut WriteZone<'_>,
     updater: &mut ZoneUpdater,
     update: ZoneUpdate<ReadRecord<'_>>,
@@ -316,7 +320,7 @@ fn apply_one(
     if made.reserve(1).is_err() {
         return Err(update::Error::Memory);
     }
-    if updater.apply(session, update)? {
+    if updater.apply(rt, session, update)? {
         let Ok(handle) = session.handle() else {
             unreachable!()
         };

@@ -33,8 +33,9 @@ pub struct Moments {
 
 /// Brings a secondary's zone up to date with a primary's, over a link: what was pending is dropped, the request goes to the
 /// primary, and its replies come back, each checked and applied before the next. `made` gains a handle of each version
-/// that is committed, as they come, whatever the answer is; nothing is pending afterwards.
-pub fn sync_zone<P: Service<()>, L: Link>(
+/// that is committed, as they come, whatever the answer is; nothing is pending afterwards. Nothing waits, so nothing is asked of `rt`.
+pub fn sync_zone<R, P: Service<()>, L: Link>(
+    rt: &R,
     alloc: Global,
     primary: &P,
     session: &mut WriteZone<'_>,
@@ -56,6 +57,7 @@ pub fn sync_zone<P: Service<()>, L: Link>(
 {
     let mut client = XfrClient::new(alloc, key, mode, moments.at_secondary);
     let outcome = exchange(
+        rt,
         alloc,
         primary,
         &mut client,
@@ -69,7 +71,8 @@ pub fn sync_zone<P: Service<()>, L: Link>(
 }
 
 /// The request, the primary's replies, and what the secondary makes of them.
-fn exchange<P: Service<()>, L: Link>(
+fn exchange<R, P: Service<()>, L: Link>(
+    rt: &R,
     alloc: Global,
     primary: &P,
     client: &mut XfrClient,
@@ -94,7 +97,7 @@ fn exchange<P: Service<()>, L: Link>(
         link,
         at_primary,
     )?;
-    take_replies(client, session, link, made)
+    take_replies(rt, client, session, link, made)
 }
 
 /// Has a primary reply to a request, and gives its replies to the link.
@@ -130,7 +133,8 @@ fn send_replies<S: ReplyStream, L: Link>(replies: S, link: &mut L) -> Result<(),
 }
 
 /// Takes replies until the outcome is met.
-fn take_replies<L: Link>(
+fn take_replies<R, L: Link>(
+    rt: &R,
     client: &mut XfrClient,
     session: &mut WriteZone<'_>,
     link: &mut L,
@@ -147,7 +151,7 @@ fn take_replies<L: Link>(
         let Some(reply) = link.take_reply()? else {
             return Err(SyncError::Ended);
         };
-        if let Some(outcome) = client.take(session, reply, made)? {
+        if let Some(outcome) = client.take(rt, session, reply, made)? {
             return Ok(outcome);
         }
     }

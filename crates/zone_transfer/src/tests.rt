@@ -413,6 +413,7 @@ fn answer_in<R: Abort>(
         at_secondary: Time48::from_u64(1000),
     };
     sync_zone(
+        rt,
         alloc,
         &primary,
         session,

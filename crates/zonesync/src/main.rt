@@ -24,7 +24,14 @@ fn main(rt: HostRuntime) -> ExitCode {
             let mut src = StdSource::new(rt.reader());
             let mut out = StdSink::new(io::writer(&rt));
             let mut link = LoopLink::new(rt.alloc());
-            run(rt.alloc(), words.as_slice(), &mut src, &mut out, &mut link)
+            run(
+                &rt,
+                rt.alloc(),
+                words.as_slice(),
+                &mut src,
+                &mut out,
+                &mut link,
+            )
         }
         Err(_) => Status::Memory,
     };
