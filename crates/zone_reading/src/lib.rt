@@ -18,7 +18,7 @@ mod zones;
 
 pub use comparing::is_same;
 pub use errors::{AskError, QueryError};
-pub use steps::{Step, ask, make_step, make_steps};
+pub use steps::{Step, ask, begin_again, make_step, make_steps};
 pub use stores::ReadableZone;
 pub use walking::walk;
 pub use zones::{Zone, ZoneStore};

@@ -1,7 +1,7 @@
 // Steps of readers and one writer, and what their handles answer.
 
 use crate::tests::{address, name, zone};
-use crate::{AskError, Step, ask, make_steps};
+use crate::{AskError, Step, ask, begin_again, make_steps};
 use dns_name::{Rcode, Rtype};
 use std::alloc::Global;
 use std::process::Abort;
@@ -78,4 +78,10 @@ fn handles_answer_from_their_positions(rt: HostRuntime) {
     assert_eq!(rt; lacking, Err(AskError::NoHandle));
     let outside = asked(&rt, alloc, handles.as_slice(), 0, b"\x01d\0");
     assert_eq!(rt; outside, Err(AskError::OutOfZone));
+    let mut session = begin_again(session, alloc);
+    let mut steps = Vec::new(alloc);
+    then(&rt, &mut steps, Step::Read);
+    make(&rt, &mut session, &mut handles, steps.as_slice());
+    let again = asked(&rt, alloc, handles.as_slice(), 5, b);
+    assert_eq!(rt; again, Ok(Rcode::NOERROR));
 }

@@ -3,13 +3,13 @@ ghost use Rattle.std.specs.Prelude.{◌≡◌, ◌↔◌, ◌≤◌, ◌<◌, �
 ghost use Rattle.zone_model.specs.Version.{Version};
 ghost use Rattle.zone_model.specs.Session.{Session, committed};
 ghost use Rattle.zone_model.specs.Commits.{CommitList, Zone, Event, after_all, version_of};
-ghost use Rattle.zone_reading.specs.Steps.{HandlesStand, Leads, Stays, Refuses, Answers, events_of, events_of_all, wish_after};
+ghost use Rattle.zone_reading.specs.Steps.{HandlesStand, Leads, Stays, Refuses, Answers, events_of, events_of_all, wish_after, new_session};
 ghost use Rattle.zone_reading.specs.declared.steps.Step.{Step};
 
 use crate::errors::AskError;
 use dns_name::{Rtype, ToName};
 use dns_rdata::StoredRecord;
-use std::alloc::AllocError;
+use std::alloc::{AllocError, Global};
 use zone_answers::{AnswerRef, look_up};
 use zone_store::{CommitError, EditError, ReadZone, WriteZone};
 
@@ -94,6 +94,14 @@ pub fn ask<'v, N: ToName>(
         },
         None => Err(AskError::NoHandle),
     }
+}
+
+/// Ends a session and begins the next one of its zone. What was pending is dropped, and the law `sessions_stand` says that what stood for
+/// the zone stands for it still, with these edits abandoned.
+pub fn begin_again<'z>(session: WriteZone<'z>, alloc: Global) -> WriteZone<'z>
+    ensures { result ≡ new_session session.entry.current }
+{
+    session.into_zone().write(alloc)
 }
 
 /// Adds a record, unless the version refuses it.

@@ -138,6 +138,7 @@ fn drops_edits_without_a_trace(rt: HostRuntime) {
     assert!(rt; told.is_none());
     let later = session.handle().expect(&rt, "memory");
     assert!(rt; later.rrset_at(&owner, Rtype::A).is_some());
+    assert_eq!(rt; session.into_zone().versions(), 2);
 }
 
 // The SOA is the one of the version that is read, whatever was committed since.

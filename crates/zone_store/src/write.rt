@@ -239,6 +239,13 @@ impl<'z> WriteZone<'z> {
         self.compares = false;
     }
 
+    /// Ends the session and lends the zone back: its current version is the one that was committed last. What is pending is dropped.
+    pub fn into_zone(self) -> &'z mut ZoneApex
+        ensures { result.now ≡ self.entry.current }
+    {
+        self.zone
+    }
+
     /// A read handle of the current version. The first one after a commit takes no memory and isn't refused.
     pub fn handle(&mut self) -> Result<ReadZone, AllocError>
         ensures current { IfOk result (λ z. z ≡ self.old.current) }
