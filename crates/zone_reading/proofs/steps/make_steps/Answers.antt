@@ -5,7 +5,7 @@ use Rattle.zone_reading.proofs.Moves.{one_step_more}
 use Rattle.zone_reading.proofs.steps.make_steps.Goals as goal
 
 pub steps-preserved : goal.steps-preserved
-steps-preserved c =
+steps-preserved g c =
     let step = c.step-item.result in (
       ap (λ n. n + 1) c.steps.invariant.0,
       subst (λ xs. Leads (events_of_all xs) c.args.session.now c.args.handles.now.items c.make_step.new.session c.make_step.new.handles.items)

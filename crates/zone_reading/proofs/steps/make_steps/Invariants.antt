@@ -3,4 +3,4 @@ use Rattle.zone_reading.specs.Steps.{Leads, events_of_all}
 use Rattle.zone_reading.proofs.steps.make_steps.Given as goal
 
 abbrev pub invariant-steps : goal.invariant-steps
-invariant-steps l = (l.made ≡ l.step-index) × Leads (events_of_all (take l.step-index l.fn.steps)) l.fn.session l.fn.handles.items l.session l.handles.items
+invariant-steps g l = (l.made ≡ l.step-index) × Leads (events_of_all (take l.step-index l.fn.steps)) l.fn.session l.fn.handles.items l.session l.handles.items

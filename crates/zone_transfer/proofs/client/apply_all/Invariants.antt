@@ -5,8 +5,8 @@ use Rattle.zone_transfer.specs.Steps.{Ahead, LedOn, numbers_left}
 use Rattle.zone_transfer.proofs.client.apply_all.Given as goal
 
 abbrev pub invariant-updates : goal.invariant-updates
-invariant-updates l = (base : Commit) (before : List Commit) (g : Progress) → l.initial.updates.retry ≡ false → Ahead base before l.initial.updater l.initial.session l.initial.made.items g
+invariant-updates met l = (base : Commit) (before : List Commit) (g : Progress) → l.initial.updates.retry ≡ false → Ahead base before l.initial.updater l.initial.session l.initial.made.items g
     → LedOn base before l.updater l.session l.made.items g l.initial.updates l.updates
 
 abbrev pub decreases-updates : goal.decreases-updates
-decreases-updates l = length l.updates.run.updates
+decreases-updates met l = length l.updates.run.updates

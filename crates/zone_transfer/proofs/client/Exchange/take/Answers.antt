@@ -10,7 +10,7 @@ use Rattle.zone_transfer.proofs.Taking.{message_fails, message_reads, updates_st
 use Rattle.zone_transfer.proofs.client.Exchange.take.Goals as goal
 
 pub returns-in_err-updates : goal.returns-in_err-updates
-returns-in_err-updates c a taken before at whole x =
+returns-in_err-updates g c a taken before at whole x =
     let cl = client_so_far a taken in
     let o = c.checked.ensures.others in
     let ck = c.in_ok-message.ensures.answers a taken at x.key x.sequence in
@@ -19,7 +19,7 @@ returns-in_err-updates c a taken before at whole x =
     rw (p.1, p.2) (message_fails a c.args.self.now c.args.session.now before c.args.made.now.items taken c.args.octets.items c.in_ok-message.message c.checked.new.self.sequence c.read.new.self.interpreter c.in_err-updates.field-0.0 x ck tests)
 
 pub returns-in_err-apply_all : goal.returns-in_err-apply_all
-returns-in_err-apply_all c a taken before at whole x =
+returns-in_err-apply_all g c a taken before at whole x =
     let cl = client_so_far a taken in
     let o = c.checked.ensures.others in
     let r = c.read.ensures.others in
@@ -33,7 +33,7 @@ returns-in_err-apply_all c a taken before at whole x =
     ck rd (c.in_err-apply_all.ensures a.base before cl.progress rd.no_retry ahead))
 
 pub returns-then-is_finished : goal.returns-then-is_finished
-returns-then-is_finished c a taken before at whole x =
+returns-then-is_finished g c a taken before at whole x =
     let cl = client_so_far a taken in
     let o = c.checked.ensures.others in
     let r = c.read.ensures.others in
@@ -47,7 +47,7 @@ returns-then-is_finished c a taken before at whole x =
     (sym (ap is_over rd.stands) ∙ sym c.is_finished.ensures ∙ c.if-is_finished.true)
 
 pub returns : goal.returns
-returns c a taken before at whole x =
+returns g c a taken before at whole x =
     let cl = client_so_far a taken in
     let o = c.checked.ensures.others in
     let r = c.read.ensures.others in

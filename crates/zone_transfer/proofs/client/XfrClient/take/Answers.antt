@@ -6,7 +6,7 @@ use Rattle.zone_transfer.proofs.Clients.{mode_whole, stands_by, takes_outcome, t
 use Rattle.zone_transfer.proofs.client.XfrClient.take.Goals as goal
 
 pub returns-in-Ok-None-clause-takes : goal.returns-in-Ok-None-clause-takes
-returns-in-Ok-None-clause-takes c base taken before st =
+returns-in-Ok-None-clause-takes g c base taken before st =
     let v = c.self.view_is in
     let a = asking_of c.args.self.now base in
     let x = stands_by c.args.self.now c.args.session.now a taken before c.args.made.now.items c.in-Some.exchange st (sym (ap (λ s. s.exchange) v) ∙ sym c.in-Some.ensures.value) in
@@ -20,7 +20,7 @@ returns-in-Ok-None-clause-takes c base taken before st =
     }
 
 pub returns-in-Ok-Some-clause-takes : goal.returns-in-Ok-Some-clause-takes
-returns-in-Ok-Some-clause-takes c base taken before st =
+returns-in-Ok-Some-clause-takes g c base taken before st =
     let v = c.self.view_is in
     let a = asking_of c.args.self.now base in
     let x = stands_by c.args.self.now c.args.session.now a taken before c.args.made.now.items c.in-Some.exchange st (sym (ap (λ s. s.exchange) v) ∙ sym c.in-Some.ensures.value) in
@@ -29,7 +29,7 @@ returns-in-Ok-Some-clause-takes c base taken before st =
     takes_outcome a c.args.self.now c.take-2.new.self c.rollback.new.self c.take-2.new.session before c.take-2.new.made.items taken c.args.octets.items c.in-Ok-Some.outcome c.rollback.ensures (rw c.in-Ok-Some.field-0-is at k)
 
 pub returns-in-Err-clause-takes : goal.returns-in-Err-clause-takes
-returns-in-Err-clause-takes c base taken before st =
+returns-in-Err-clause-takes g c base taken before st =
     let v = c.self.view_is in
     let a = asking_of c.args.self.now base in
     let x = stands_by c.args.self.now c.args.session.now a taken before c.args.made.now.items c.in-Some.exchange st (sym (ap (λ s. s.exchange) v) ∙ sym c.in-Some.ensures.value) in
