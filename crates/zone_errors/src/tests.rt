@@ -32,7 +32,13 @@ fn text<R: Abort, T: fmt::Display>(rt: &R, alloc: Global, value: &T) -> String {
 
 /// Checks a refusal's text, and whether it is about `a.example`.
 fn check<R: Abort>(rt: &R, alloc: Global, refusal: RecordError, wanted: &str, owned: bool) {
-    assert_eq!(rt; text(rt, alloc, &refusal).as_str(), wanted);
+    check_lent(rt, alloc, &refusal, wanted, owned);
+    drop(refusal);
+}
+
+fn check_lent<R: Abort>(rt: &R, alloc: Global, refusal: &RecordError, wanted: &str, owned: bool) {
+    let said = text(rt, alloc, refusal);
+    assert_eq!(rt; said.as_str(), wanted);
     assert_eq!(rt; refusal.owner().is_some(), owned);
 }
 

@@ -51,6 +51,7 @@ fn a_set_takes_the_lower_ttl(rt: HostRuntime) {
     assert_eq!(rt; set.ttl(), Ttl::from_int(60));
     set.set_ttl(Ttl::from_int(90));
     assert_eq!(rt; set.ttl(), Ttl::from_int(90));
+    drop(set);
 }
 
 #[test]
@@ -67,10 +68,16 @@ fn the_first_record_of_a_set(rt: HostRuntime) {
     let same = SharedRr::from(address(&rt, alloc, 60, 1));
     let other = SharedRr::from(address(&rt, alloc, 61, 1));
     assert!(rt; first == same);
-    assert!(rt; first.clone().expect(&rt, "memory") != other);
+    let copy = first.clone().expect(&rt, "memory");
+    assert!(rt; copy != other);
+    drop(copy);
+    drop(other);
     assert_eq!(rt; first.rtype(), Rtype::A);
     assert_eq!(rt; first.ttl(), Ttl::from_int(60));
     assert!(rt; first.data() == same.data());
+    drop(first);
+    drop(same);
+    drop(set);
 }
 
 #[test]
@@ -87,6 +94,7 @@ fn shared_sets_are_compared_by_fields(rt: HostRuntime) {
     let lent: &Rrset = copy.as_ref();
     let owned = lent.clone().expect(&rt, "memory");
     assert!(rt; *set.as_rrset() == owned);
+    drop(owned);
 }
 
 #[test]
@@ -192,4 +200,5 @@ fn a_record_is_shown_by_its_fields(rt: HostRuntime) {
         text.as_str(),
         "SharedRr { ttl: Ttl { seconds: 60 }, data: A(A { octets: [192, 0, 2, 1] }) }"
     );
+    drop(first);
 }
