@@ -12,7 +12,7 @@ use Rattle.zone_model.specs.Commits.{Commit, CommitList, Zone, latest, Event, Ed
 use Rattle.zone_model.proofs.Handles.{handles_keep}
 use Rattle.zone_reading.specs.declared.steps.Step.{Step}
 use Rattle.zone_reading.specs.declared.steps.Step.TheVariants.{Commit as CommitStep, Read as ReadStep, Copy}
-use Rattle.zone_reading.specs.Steps.{HandlesStand, StandFor, counted_on, read_at, events_of, events_of_all, Leads, Stays, new_session, OpensSo, DropAbandons, LeaveNoTrace, HandlesStay}
+use Rattle.zone_reading.specs.Steps.{HandlesStand, StandFor, counted_on, read_at, events_of, events_of_all, wish_after, wish_after_all, Leads, Stays, new_session, OpensSo, DropAbandons, LeaveNoTrace, HandlesStay}
 
 -- lists
 last_more : {A : Type 0} (o : Option A) (xs : List A) (x : A) → last_or o (xs ++ x ∷ []) ≡ Some x
@@ -180,6 +180,10 @@ one_step_more xs x s t u handles then_handles later f g z h =
       may_both (events_of_all xs z) (events_of x (after_all (events_of_all xs z) z)) z first.0 second.0,
       subst (λ y. StandFor u later y) (sym (after_both (events_of_all xs z) (events_of x (after_all (events_of_all xs z) z)) z)) second.1,
     )
+
+pub wish_more : (xs : List Step) (x : Step) (wish : Bool) → wish_after_all (xs ++ x ∷ []) wish ≡ wish_after x (wish_after_all xs wish)
+wish_more [] x wish = refl
+wish_more (y ∷ xs) x wish = wish_more xs x (wish_after y wish)
 
 pub stays_then : (events : Zone → List Event) (s t u : Session) (handles then_handles later : CommitList) → Leads events s handles t then_handles → Stays t then_handles u later → Leads events s handles u later
 stays_then events s t u handles then_handles later f g z h = ((f z h).0, g (after_all (events z) z) (f z h).1)

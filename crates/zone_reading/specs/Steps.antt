@@ -80,6 +80,11 @@ wish_after Rollback wish = false
 wish_after ReadStep wish = wish
 wish_after (Copy handle) wish = wish
 
+-- the same behind steps in a row
+abbrev pub wish_after_all : List Step → Bool → Bool
+wish_after_all [] wish = wish
+wish_after_all (s ∷ more) wish = wish_after_all more (wish_after s wish)
+
 -- what a version answers to a question
 abbrev pub Answers : Version → Name → ℕ → Result AnsweredBy AskError → Type 0
 Answers v name rtype (Ok a) = (in_zone v name ≡ true) × (a ≡ answered_by v (answer v name rtype))

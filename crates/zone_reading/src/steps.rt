@@ -3,7 +3,7 @@ ghost use Rattle.std.specs.Prelude.{◌≡◌, ◌↔◌, ◌≤◌, ◌<◌, �
 ghost use Rattle.zone_model.specs.Version.{Version};
 ghost use Rattle.zone_model.specs.Session.{Session, committed};
 ghost use Rattle.zone_model.specs.Commits.{CommitList, Zone, Event, after_all, version_of};
-ghost use Rattle.zone_reading.specs.Steps.{HandlesStand, Leads, Stays, Refuses, Answers, events_of, events_of_all, wish_after, new_session};
+ghost use Rattle.zone_reading.specs.Steps.{HandlesStand, Leads, Stays, Refuses, Answers, events_of, events_of_all, wish_after, wish_after_all, new_session};
 ghost use Rattle.zone_reading.specs.declared.steps.Step.{Step};
 
 use crate::errors::AskError;
@@ -63,6 +63,7 @@ pub fn make_steps<R>(
     steps: &[Step],
 ) -> (usize, Result<(), CommitError>)
     ensures made { Leads (events_of_all (take result.0 steps.now)) session.old handles.old.items session.new handles.new.items }
+    ensures wish { session.new.compares ≡ wish_after_all (take result.0 steps.now) session.old.compares }
     ensures all { OnOk result.1 (result.0 ≡ length steps.now) }
     ensures refused { OnErr result.1 (result.0 < length steps.now) }
     ensures cause { IfErr result.1 (λ e. IfSome (slice_get steps.now result.0) (λ s. Refuses s session.new e)) }

@@ -5,7 +5,6 @@ use crate::stores::ReadableZone;
 use dns_name::{Class, StoredName};
 use std::alloc::{AllocError, Global};
 use std::marker::Model;
-use std::sync::Wait;
 use zone_store::{ReadZone, WriteZone, ZoneApex};
 
 /// What keeps a zone: it knows its class and apex, and gives read handles.
@@ -27,8 +26,8 @@ pub trait ZoneStore {
     fn apex_name(&self) -> &StoredName
         ensures { (v : Version) → MayGive self.now v → v.apex ≡ result.now };
 
-    /// A read handle. A store may wait for one.
-    fn read<R: Wait>(&self, rt: &R) -> Result<Self::Read, AllocError>
+    /// A read handle. It doesn't wait, so nothing is asked of `rt`.
+    fn read<R>(&self, rt: &R) -> Result<Self::Read, AllocError>
         ensures { IfOk result (λ z. MayGive self.now (Self.Read.version_of z)) };
 }
 
@@ -48,7 +47,7 @@ impl ZoneStore for ZoneApex {
         self.name()
     }
 
-    fn read<R: Wait>(&self, rt: &R) -> Result<ReadZone, AllocError> {
+    fn read<R>(&self, rt: &R) -> Result<ReadZone, AllocError> {
         ZoneApex::read(self, rt)
     }
 }
@@ -101,7 +100,7 @@ impl<S: ZoneStore + Drop> ZoneStore for Zone<S> {
         self.store.apex_name()
     }
 
-    fn read<R: Wait>(&self, rt: &R) -> Result<S::Read, AllocError> {
+    fn read<R>(&self, rt: &R) -> Result<S::Read, AllocError> {
         self.store.read(rt)
     }
 }
