@@ -176,10 +176,14 @@ impl Clone for Record<StoredName, StoredRecordData> {
 
 /// What is sent as a record.
 pub trait ComposeRecord {
-    ghost use Rattle.std.specs.Prelude.{◌≡◌, ◌++◌, OnOk, OnErr};
+    ghost use Rattle.std.specs.Prelude.{◌≡◌, ◌++◌, OnOk, OnErr, length};
     ghost use Rattle.rdata_types.specs.Records.{Record as RecordOf, record_wire};
 
     ghost record_of: { Self → RecordOf };
+
+    /// How many octets the record has as it is sent, without compression.
+    fn record_len(&self) -> u32
+        ensures len { result ≡ length (record_wire (record_of self.now)) };
 
     /// The record at the end of `out`, without compression (RFC 1035, 3.2.1). Without memory `out` stays as it was.
     fn compose_record(&self, out: &mut Vec<u8>) -> Result<(), AllocError>
@@ -189,6 +193,10 @@ pub trait ComposeRecord {
 
 impl<N: Labelled + Drop, D: RecordData + Drop> ComposeRecord for Record<N, D> {
     ghost record_of = { λ r. r };
+
+    fn record_len(&self) -> u32 {
+        self.compose_len()
+    }
 
     fn compose_record(&self, out: &mut Vec<u8>) -> Result<(), AllocError> {
         let start = out.as_slice().len();

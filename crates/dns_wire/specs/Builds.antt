@@ -1,5 +1,5 @@
 -- What adding to a message under construction, or taking back from it, leaves, and what is refused.
-use Rattle.std.specs.Prelude.{◌≡◌, ◌≢◌, ℕ, ◌+◌, ◌<◌, ◌==◌, Bool, true, false, List, [], ◌∷◌, length, take, Option, Some, None, Result, Ok, Err}
+use Rattle.std.specs.Prelude.{◌≡◌, ◌≢◌, ℕ, ◌+◌, ◌<◌, ◌==◌, nat_le, min, Bool, true, false, List, [], ◌∷◌, length, take, Option, Some, None, Result, Ok, Err}
 use Rattle.dns_rdata.specs.Records.{Record, record_wire}
 use Rattle.dns_message.specs.Wire.{Building, Question, with_item, with_question, header_number, fits}
 use Rattle.dns_message.specs.Numbers.{with_number}
@@ -16,12 +16,20 @@ abbrev pub pushed : ℕ → Building → List ℕ → Building
 pushed k old item = record old { octets = with_item k old.octets item }
 
 -- One case for each answer: added where it fits and the count has room; ShortBuf where it doesn't fit; CountOverflow where it
--- fits and the count is full. So but for want of memory the answer is determined. Where nothing was added, nothing has changed.
+-- fits and the count is full; Memory only where it could be added. So but for want of memory the answer is determined, and want
+-- of room is never told as want of memory. Where nothing was added, nothing has changed.
 abbrev pub Adds : {A : Type 0} → ℕ → List ℕ → Building → Result A PushError → Building → Type 0
 Adds k item old (Ok a) new = (fits old.limit (with_item k old.octets item) ≡ true) × (header_number k old.octets ≢ 65535) × (new ≡ pushed k old item)
 Adds k item old (Err ShortBuf) new = (fits old.limit (with_item k old.octets item) ≡ false) × (new ≡ old)
 Adds k item old (Err CountOverflow) new = (fits old.limit (with_item k old.octets item) ≡ true) × (header_number k old.octets ≡ 65535) × (new ≡ old)
-Adds k item old (Err Memory) new = new ≡ old
+Adds k item old (Err Memory) new = (fits old.limit (with_item k old.octets item) ≡ true) × (header_number k old.octets ≢ 65535) × (new ≡ old)
+
+-- One case for each answer to whether an item of so many octets can be added, counted at place k: the count so far, or why it can't.
+abbrev pub HasRoom : ℕ → ℕ → Building → Result ℕ PushError → Type 0
+HasRoom k len old (Ok count) = (nat_le (length old.octets + len) (min old.limit 65535) ≡ true) × (count ≡ header_number k old.octets) × (count ≢ 65535)
+HasRoom k len old (Err ShortBuf) = nat_le (length old.octets + len) (min old.limit 65535) ≡ false
+HasRoom k len old (Err CountOverflow) = (nat_le (length old.octets + len) (min old.limit 65535) ≡ true) × (header_number k old.octets ≡ 65535)
+HasRoom k len old (Err Memory) = ⊥
 
 -- the same of a record
 abbrev pub Pushes : ℕ → Record → Building → Result (Unit {0}) PushError → Building → Type 0

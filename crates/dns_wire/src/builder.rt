@@ -5,7 +5,7 @@ ghost use Rattle.std.specs.List.{filter_map};
 ghost use Rattle.dns_rdata.specs.Records.{record_wire};
 ghost use Rattle.dns_message.specs.Wire.{header_in, header_wire, header_number, question_wire, message_wire, fits, Message as MessageOf};
 ghost use Rattle.dns_message.specs.Numbers.{counts_in};
-ghost use Rattle.dns_wire.specs.Builds.{Adds, AddsFitting, AddsQuestions, Builds, building, cut_at, rewound};
+ghost use Rattle.dns_wire.specs.Builds.{Adds, AddsFitting, AddsQuestions, Builds, HasRoom, cut_at, rewound};
 ghost use Rattle.dns_message.specs.Reply.{answer_header, empty_answer, error_answer};
 ghost use Rattle.dns_message.specs.Parse.{parsed, answers_start, authority_start, additional_start};
 ghost use Rattle.dns_message.specs.Written.{IsMessage, parsed_of};
@@ -116,6 +116,22 @@ impl MessageBuilder {
         self.limit = MAX_LEN;
     }
 
+    /// The count in the two octets at `place` of the header, where an item of `len` octets has room and can be counted there.
+    fn count_for(&self, place: usize, len: usize) -> Result<u16, PushError>
+        requires header { place + 2 ≤ 12 }
+        requires item { length self.now.octets + len < 2 ^ 63 }
+        ensures { HasRoom place len self.now result }
+    {
+        if self.octets.len() + len > self.limit.min(MAX_LEN) {
+            return Err(PushError::ShortBuf);
+        }
+        let count = number_at(self.octets.as_slice(), place);
+        if count == u16::MAX {
+            return Err(PushError::CountOverflow);
+        }
+        Ok(count)
+    }
+
     /// Adds a question at the end.
     pub(crate) fn push_question<N: Labelled>(
         &mut self,
@@ -123,11 +139,16 @@ impl MessageBuilder {
     ) -> Result<(), PushError>
         ensures { Adds 4 (question_wire question.now) self.old result self.new }
     {
-        let before = self.octets.len();
+        let len = usize::from(question.qname().compose_len()) + 4;
+        let count = match self.count_for(4, len) {
+            Ok(count) => count,
+            Err(error) => return Err(error),
+        };
         let Ok(()) = question.compose(&mut self.octets) else {
             return Err(PushError::Memory);
         };
-        count_item(&mut self.octets, before, 4, self.limit)
+        set_number(&mut self.octets, 4, count + 1);
+        Ok(())
     }
 
     /// Adds a record at the end, counted in the two octets at `place` of the header.
@@ -139,11 +160,15 @@ impl MessageBuilder {
         requires { place + 2 ≤ 12 }
         ensures { Adds place (record_wire (R.record_of item.now)) self.old result self.new }
     {
-        let before = self.octets.len();
+        let count = match self.count_for(place, item.record_len() as usize) {
+            Ok(count) => count,
+            Err(error) => return Err(error),
+        };
         let Ok(()) = item.compose_record(&mut self.octets) else {
             return Err(PushError::Memory);
         };
-        count_item(&mut self.octets, before, place, self.limit)
+        set_number(&mut self.octets, place, count + 1);
+        Ok(())
     }
 
     /// The message so far, lent for reading.
@@ -329,30 +354,4 @@ impl MessageBuilder {
     {
         MessageBuf::from_whole(self.octets)
     }
-}
-
-/// Counts the item behind the first `before` octets, in the two octets at `place` of the header, or takes it off again.
-fn count_item(
-    octets: &mut Vec<u8>,
-    before: usize,
-    place: usize,
-    limit: usize,
-) -> Result<(), PushError>
-    requires header { place + 2 ≤ 12 }
-    requires start { 12 ≤ before }
-    requires item { before ≤ vec_len octets.old }
-    ensures { Adds place (drop before octets.old.items) (building (take before octets.old.items) limit) result
-        (building octets.new.items limit) }
-{
-    if octets.len() > limit.min(MAX_LEN) {
-        octets.truncate(before);
-        return Err(PushError::ShortBuf);
-    }
-    let count = number_at(octets.as_slice(), place);
-    if count == u16::MAX {
-        octets.truncate(before);
-        return Err(PushError::CountOverflow);
-    }
-    set_number(octets, place, count + 1);
-    Ok(())
 }

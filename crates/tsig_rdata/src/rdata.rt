@@ -349,6 +349,10 @@ impl TsigRecord {
 impl ComposeRecord for TsigRecord {
     ghost record_of = { λ r. tsig_record r.owner r.tsig };
 
+    fn record_len(&self) -> u32 {
+        u32::from(self.owner.compose_len()) + 10 + u32::from(self.tsig.rdlen())
+    }
+
     fn compose_record(&self, out: &mut Vec<u8>) -> Result<(), AllocError> {
         let start = out.len();
         let composed = self.compose_parts(out);

@@ -110,6 +110,10 @@ impl<'v> AnswerRecord<'v> {
 impl ComposeRecord for AnswerRecord<'_> {
     ghost record_of = { λ r. r };
 
+    fn record_len(&self) -> u32 {
+        u32::from(self.owner.compose_len()) + 10 + u32::from(self.rdata.rdlen())
+    }
+
     fn compose_record(&self, out: &mut Vec<u8>) -> Result<(), AllocError> {
         let start = out.as_slice().len();
         let composed = self.compose_parts(out);
