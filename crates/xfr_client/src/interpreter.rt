@@ -187,7 +187,7 @@ fn behind_first(message: &MessageBuf) -> Result<RecordSection<'_>, Error>
     ensures { (m : ReadMessage) (x : Option Record) (xs : List (Option Record)) → IsReadAs message.now m → m.answers ≡ x ∷ xs → IsOkAnd result (λ s. items_left s ≡ map record_item xs) }
 {
     let mut section = answers(message)?;
-    let _ = next_found(&mut section);
+    drop(next_found(&mut section));
     Ok(section)
 }
 
@@ -235,7 +235,11 @@ fn first_place(message: &MessageBuf) -> Result<Place, Error>
     let mut section = answers(message)?;
     let asks_changes = asks_changes(message)?;
     match next_found(&mut section) {
-        Some(Ok(found)) => place_at(asks_changes, &found),
+        Some(Ok(found)) => {
+            let place = place_at(asks_changes, &found);
+            drop(found);
+            place
+        }
         Some(Err(_)) => Err(Error::Malformed),
         None => Err(Error::NotValidXfrResponse),
     }
@@ -281,7 +285,8 @@ fn run_over(mut place: Place, mut section: RecordSection<'_>) -> (Place, bool)
         let Ok(found) = next else {
             return (place, true);
         };
-        let (behind, _) = step(place, found);
+        let (behind, told) = step(place, found);
+        drop(told);
         place = behind;
     }
     (place, false)

@@ -78,7 +78,7 @@ impl<'m> XfrZoneUpdateIterator<'m> {
         match told {
             Told::One(update) => Some(Ok(update)),
             Told::Whole(found) => {
-                self.in_hand = Some(ZoneUpdate::AddRecord(found));
+                drop(self.in_hand.replace(ZoneUpdate::AddRecord(found)));
                 Some(Ok(ZoneUpdate::DeleteAllRecords))
             }
             Told::AfterEnd => {

@@ -11,8 +11,6 @@ mod iterator;
 mod place;
 pub mod protocol;
 mod section;
-#[cfg(test)]
-mod tests;
 pub mod update;
 mod updater;
 

@@ -95,7 +95,10 @@ pub fn step<'m>(place: Place, found: ReadRecord<'m>) -> (Place, Told<'m>)
         Place::InWhole(first) => in_whole(first, found),
         Place::InDeletes(first) => in_deletes(first, found),
         Place::InAdds(first) => in_adds(first, found),
-        Place::AtEnd => (Place::AtEnd, Told::AfterEnd),
+        Place::AtEnd => {
+            drop(found);
+            (Place::AtEnd, Told::AfterEnd)
+        }
     }
 }
 

@@ -95,6 +95,7 @@ impl ZoneUpdater {
         ensures unchanged { IfErr result (λ e. update_fault_of e ≡ None → self.new ≡ self.old) }
     {
         if self.is_finished {
+            drop(update);
             return Err(Error::Finished);
         }
         match update {
@@ -103,15 +104,30 @@ impl ZoneUpdater {
                 self.is_replacing = true;
                 Ok(false)
             }
-            ZoneUpdate::DeleteRecord(deleted) => self.delete(session, &deleted),
-            ZoneUpdate::AddRecord(added) => self.add(session, &added),
-            ZoneUpdate::BeginBatchDelete(_) => self.publish(rt, session),
+            ZoneUpdate::DeleteRecord(deleted) => {
+                let told = self.delete(session, &deleted);
+                drop(deleted);
+                told
+            }
+            ZoneUpdate::AddRecord(added) => {
+                let told = self.add(session, &added);
+                drop(added);
+                told
+            }
+            ZoneUpdate::BeginBatchDelete(soa) => {
+                drop(soa);
+                self.publish(rt, session)
+            }
             ZoneUpdate::BeginBatchAdd(soa) => {
-                put_soa(self.alloc, session, &soa)?;
+                let put = put_soa(self.alloc, session, &soa);
+                drop(soa);
+                put?;
                 Ok(false)
             }
             ZoneUpdate::Finished(soa) => {
-                put_soa(self.alloc, session, &soa)?;
+                let put = put_soa(self.alloc, session, &soa);
+                drop(soa);
+                put?;
                 self.publish(rt, session)?;
                 self.is_finished = true;
                 Ok(true)
@@ -147,7 +163,9 @@ impl ZoneUpdater {
         ensures unchanged { IfErr result (λ e. update_fault_of e ≡ None → self.new ≡ self.old) }
     {
         let stored = stored(self.alloc, deleted)?;
-        match session.delete_record(&stored) {
+        let removed = session.delete_record(&stored);
+        drop(stored);
+        match removed {
             Ok(()) => Ok(false),
             Err(EditError::Incompatible) => {
                 self.is_finished = true;
@@ -248,7 +266,10 @@ fn commit<R>(rt: &R, session: &mut WriteZone<'_>) -> Result<(), Error>
     ensures exhausted { (result ≡ Err VersionsExhausted) ↔ (session.old.current.number ≡ 2 ^ 64 - 1) }
 {
     match session.commit(rt, false) {
-        Ok(_) => Ok(()),
+        Ok(told) => {
+            drop(told);
+            Ok(())
+        }
         Err(CommitError::VersionsExhausted) => Err(Error::VersionsExhausted),
         Err(CommitError::Memory) => Err(Error::Memory),
     }

@@ -3,5 +3,4 @@ pub mod Covering
 pub mod SoundSets
 mod Changing
 mod Lacking
-mod TestEdits
 pub mod Drafting

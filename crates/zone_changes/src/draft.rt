@@ -72,9 +72,14 @@ impl Draft {
         ensures ok { OnOk result (self.new ≡ with_version self.old (appended self.old.version added)) }
         ensures err { OnErr result (self.new ≡ self.old) }
     {
-        self.touched
-            .note(SetKey::new(added.owner(), added.rtype()))?;
-        append(&mut self.version, alloc, added)
+        let key = SetKey::new(added.owner(), added.rtype());
+        match self.touched.note(key) {
+            Ok(()) => append(&mut self.version, alloc, added),
+            Err(error) => {
+                drop(added);
+                Err(error)
+            }
+        }
     }
 
     /// Takes the data of a record that isn't refused out of its set.
@@ -143,9 +148,14 @@ impl Draft {
         ensures ok { OnOk result (self.new ≡ with_version self.old (edits.add_glue self.old.version added)) }
         ensures err { OnErr result (self.new ≡ self.old) }
     {
-        self.touched
-            .note(SetKey::new(added.owner(), added.rtype()))?;
-        add_glue(&mut self.version, alloc, added)
+        let key = SetKey::new(added.owner(), added.rtype());
+        match self.touched.note(key) {
+            Ok(()) => add_glue(&mut self.version, alloc, added),
+            Err(error) => {
+                drop(added);
+                Err(error)
+            }
+        }
     }
 
     /// Removes the sets of a name and of all names below it.
@@ -225,8 +235,13 @@ fn append(
     ensures ok { OnOk result (arc_value pending.new ≡ appended (arc_value pending.old) added) }
     ensures err { OnErr result (arc_value pending.new ≡ arc_value pending.old) }
 {
-    let version = Arc::make_mut(pending)?;
-    version.append(alloc, added)
+    match Arc::make_mut(pending) {
+        Ok(version) => version.append(alloc, added),
+        Err(error) => {
+            drop(added);
+            Err(error)
+        }
+    }
 }
 
 /// Takes a record's data out of its set.
@@ -315,8 +330,13 @@ fn add_glue(
     ensures ok { OnOk result (arc_value pending.new ≡ edits.add_glue (arc_value pending.old) added) }
     ensures err { OnErr result (arc_value pending.new ≡ arc_value pending.old) }
 {
-    let version = Arc::make_mut(pending)?;
-    version.add_glue(alloc, added)
+    match Arc::make_mut(pending) {
+        Ok(version) => version.add_glue(alloc, added),
+        Err(error) => {
+            drop(added);
+            Err(error)
+        }
+    }
 }
 
 /// Counts the serial on from the published one.

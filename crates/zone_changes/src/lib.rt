@@ -5,8 +5,6 @@ mod changes;
 mod draft;
 mod examples;
 mod laws;
-#[cfg(test)]
-mod tests;
 mod touched;
 
 pub use changes::difference;

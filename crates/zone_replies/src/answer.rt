@@ -7,6 +7,7 @@ use crate::content::AnswerContent;
 use crate::parts::{AnswerAdditional, AnswerAuthority};
 use dns_name::Rcode;
 use std::marker::Model;
+use std::mem;
 use zone_types::{SharedRr, SharedRrset};
 
 /// The answer of a zone to a question: its rcode, whether it is authoritative, and its records (RFC 1034, 4.3.2).
@@ -61,28 +62,28 @@ impl Answer {
     pub fn add_cname(&mut self, cname: SharedRr)
         ensures { self.new ≡ record self.old { content = Cname cname } }
     {
-        self.content = AnswerContent::Cname(cname);
+        drop(mem::replace(&mut self.content, AnswerContent::Cname(cname)));
     }
 
     /// Makes a record set the content.
     pub fn add_answer(&mut self, answer: SharedRrset)
         ensures { self.new ≡ record self.old { content = Data answer } }
     {
-        self.content = AnswerContent::Data(answer);
+        drop(mem::replace(&mut self.content, AnswerContent::Data(answer)));
     }
 
     /// Puts these additional records in place of those there.
     pub fn set_additional(&mut self, additional: AnswerAdditional)
         ensures { self.new ≡ record self.old { additional = Some additional } }
     {
-        self.additional = Some(additional);
+        drop(self.additional.replace(additional));
     }
 
     /// Puts these authority records in place of those there.
     pub fn set_authority(&mut self, authority: AnswerAuthority)
         ensures { self.new ≡ record self.old { authority = Some authority } }
     {
-        self.authority = Some(authority);
+        drop(self.authority.replace(authority));
     }
 
     /// Says whether the answer is authoritative.

@@ -8,8 +8,6 @@ mod lent;
 mod parts;
 mod sections;
 mod sending;
-#[cfg(test)]
-mod tests;
 
 pub use answer::Answer;
 pub use content::AnswerContent;

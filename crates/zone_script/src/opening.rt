@@ -37,6 +37,7 @@ impl OpeningZone {
         ensures bad { IfErr result (λ e. IfSome (line_in e) (λ n. keeping.take_record self.old number found ≡ Err n)) }
     {
         if !self.is_taken(&found) {
+            drop(found);
             return Err(ScriptError::Line(number));
         }
         match self.builder.insert(found) {

@@ -95,6 +95,7 @@ impl Reading {
         ensures bad { IfErr result (λ e. IfSome (line_in e) (λ n. keeping.take_line self.old number (line_of line) ≡ Err n)) }
     {
         if let Some(refused) = self.refused_at(number, line.stage()) {
+            drop(line);
             return Err(ScriptError::Line(refused));
         }
         self.put(alloc, number, line)
@@ -190,7 +191,10 @@ fn put_primary(
 {
     match zones {
         Some(both) => both.primary.take(found, number),
-        None => Err(ScriptError::Line(number)),
+        None => {
+            drop(found);
+            Err(ScriptError::Line(number))
+        }
     }
 }
 
@@ -205,7 +209,10 @@ fn put_secondary(
 {
     match zones {
         Some(both) => both.secondary.take(found, number),
-        None => Err(ScriptError::Line(number)),
+        None => {
+            drop(found);
+            Err(ScriptError::Line(number))
+        }
     }
 }
 

@@ -40,6 +40,7 @@ fn drop_key(keys: &mut BTreeSet<DataKey>, item: &StoredRecordData) -> Result<(),
 {
     let key = DataKey::of(item)?;
     let _ = keys.remove(&key);
+    drop(key);
     Ok(())
 }
 
@@ -57,6 +58,7 @@ pub(crate) fn note_last(
     match seen {
         Some(keys) => put_key(keys, last),
         None => {
+            drop(last);
             *seen = Some(index_of(alloc, items)?);
             Ok(())
         }
@@ -83,5 +85,7 @@ pub(crate) fn is_noted(
     ensures { IfOk result (λ found. (items : List (List Field)) → Indexes items keys.now → found ≡ list_any (same_data (data_fields item.now)) items) }
 {
     let key = DataKey::of(item)?;
-    Ok(keys.contains(&key))
+    let found = keys.contains(&key);
+    drop(key);
+    Ok(found)
 }

@@ -127,7 +127,7 @@ impl KeyedSets {
         ensures err { OnErr result (self.new ≡ self.old) }
         ensures ready { IsSome (set_in self.old key) → IsOk result }
     {
-        self.entries.insert(key, set)?;
+        drop(self.entries.insert(key, set)?);
         Ok(())
     }
 
@@ -135,7 +135,7 @@ impl KeyedSets {
     pub fn remove(&mut self, key: &SetKey)
         ensures { self.new ≡ remove_entry (has_key key.now) self.old }
     {
-        let _ = self.entries.remove(key);
+        drop(self.entries.remove(key));
     }
 
     /// Keeps the sets at whose keys a test says yes. The test is asked once at each key, in order.
@@ -216,7 +216,7 @@ fn put_last(
     match sets.get_mut(&key) {
         Some(set) => set.append(alloc, ttl, item),
         None => {
-            sets.insert(key, RecordSet::of_one(alloc, ttl, item)?)?;
+            drop(sets.insert(key, RecordSet::of_one(alloc, ttl, item)?)?);
             Ok(())
         }
     }
@@ -239,7 +239,7 @@ fn put_opening(
     match sets.get_mut(&key) {
         Some(set) => set.open_with(alloc, ttl, item, had),
         None => {
-            sets.insert(key, RecordSet::of_one(alloc, ttl, item)?)?;
+            drop(sets.insert(key, RecordSet::of_one(alloc, ttl, item)?)?);
             Ok(())
         }
     }

@@ -149,7 +149,9 @@ impl RecordSet {
         ensures ok { OnOk result (self.new ≡ set_of self.old.rtype (min self.old.contents.ttl ttl) (if had then self.old.contents.items else self.old.contents.items ++ data_fields item ∷ [])) }
         ensures err { OnErr result (self.new ≡ self.old) }
     {
-        if !had {
+        if had {
+            drop(item);
+        } else {
             push_noted(&mut self.items, &mut self.seen, alloc, item)?;
         }
         if ttl.to_int() < self.ttl.to_int() {
@@ -174,9 +176,21 @@ fn push_noted(
         items.push(item)?;
         return Ok(());
     }
-    let key = DataKey::of(&item)?;
+    let key = match DataKey::of(&item) {
+        Ok(key) => key,
+        Err(error) => {
+            drop(item);
+            return Err(error);
+        }
+    };
     let len = items.len();
-    items.push(item)?;
+    match items.push(item) {
+        Ok(()) => {}
+        Err(error) => {
+            drop(key);
+            return Err(error.into());
+        }
+    }
     let noted = note_last(seen, alloc, items, key);
     if noted.is_err() {
         items.truncate(len);

@@ -86,9 +86,11 @@ impl ZoneBuilder {
         ensures err { OnErr result (self.new ≡ self.old) }
     {
         if self.version.is_outside(&added) {
+            drop(added);
             return Err(InsertError::OutOfZone);
         }
         if self.version.adds_alias(&added) {
+            drop(added);
             return Err(InsertError::InvalidData);
         }
         self.version.open_with(self.alloc, added)?;

@@ -71,7 +71,13 @@ impl<'z> WriteZone<'z> {
         ensures err { OnErr result (self.new ≡ self.old) }
     {
         let alloc = self.memory();
-        let mut pending = self.take_pending()?;
+        let mut pending = match self.take_pending() {
+            Ok(pending) => pending,
+            Err(error) => {
+                drop(added);
+                return Err(error);
+            }
+        };
         let put = pending.add_glue(alloc, added);
         self.keep(pending);
         put

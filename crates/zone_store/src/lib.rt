@@ -4,15 +4,9 @@
 mod apex;
 mod builder;
 mod child;
-#[cfg(test)]
-mod diff_tests;
 mod edits;
 mod node;
-#[cfg(test)]
-mod node_tests;
 mod read;
-#[cfg(test)]
-mod tests;
 mod write;
 
 pub use apex::ZoneApex;

@@ -133,9 +133,12 @@ impl<'s, 'z> WriteNode<'s, 'z> {
         ensures err { OnErr result (self.new ≡ self.old) }
     {
         if !self.is_below_apex() {
+            drop(alias);
             return Err(NodeError::NotAllowed);
         }
-        self.session.make_alias(&self.name, &alias)?;
+        let made = self.session.make_alias(&self.name, &alias);
+        drop(alias);
+        made?;
         Ok(())
     }
 
@@ -149,6 +152,7 @@ impl<'s, 'z> WriteNode<'s, 'z> {
         ensures err { OnErr result (self.new ≡ self.old) }
     {
         if !self.is_below_apex() {
+            drop(cut);
             return Err(NodeError::NotAllowed);
         }
         self.session.make_cut(&self.name, cut)?;

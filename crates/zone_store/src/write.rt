@@ -117,10 +117,17 @@ impl<'z> WriteZone<'z> {
         ensures err { OnErr result (self.new ≡ self.old) }
     {
         if let Some(error) = self.shown().refusal(&added) {
+            drop(added);
             return Err(error);
         }
         let alloc = self.alloc;
-        let mut pending = self.take_pending()?;
+        let mut pending = match self.take_pending() {
+            Ok(pending) => pending,
+            Err(error) => {
+                drop(added);
+                return Err(EditError::from(error));
+            }
+        };
         let appended = pending.append(alloc, added);
         self.keep(pending);
         Ok(appended?)

@@ -69,6 +69,7 @@ impl ZoneVersion {
         ensures err { OnErr result (self.new ≡ self.old) }
     {
         if self.is_passed_over(&added) {
+            drop(added);
             return Ok(());
         }
         self.put_glue(alloc, added)
@@ -203,6 +204,7 @@ fn put_at(sets: &mut KeyedSets, key: SetKey, set: RecordSet) -> Result<(), Alloc
     ensures err { OnErr result (sets.new ≡ sets.old) }
 {
     if set.items().is_empty() {
+        drop(set);
         sets.remove(&key);
         return Ok(());
     }

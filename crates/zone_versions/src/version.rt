@@ -370,7 +370,9 @@ impl ZoneVersion {
         ensures valid { IfOk result (λ v. IsValid v) }
     {
         if self.has_stray() {
-            return self.closed();
+            let closed = self.closed();
+            drop(self);
+            return closed;
         }
         Ok(self)
     }

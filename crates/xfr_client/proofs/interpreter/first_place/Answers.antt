@@ -16,4 +16,4 @@ returns-in-Some-Ok-clause-read c m h =
     let head : is_transfer_head true m ≡ true = sym (c.is_transfer_head.ensures.read m h) ∙ c.if-not-is_transfer_head.false in
     let asks = c.in_ok-asks_changes.ensures m h (head_one m head) in
     let read = rw c.in-Some-Ok.field-0-is at c.in-Some-Ok.ensures in
-    begins_good m c.in_ok-asks_changes.asks_changes c.in-Some-Ok.found _ c.place_at.result head asks.0 asks.1 (sym (c.in_ok-section.ensures.read m h) ∙ read) c.place_at.ensures
+    begins_good m c.in_ok-asks_changes.asks_changes c.in-Some-Ok.found _ c.place_at-place.result head asks.0 asks.1 (sym (c.in_ok-section.ensures.read m h) ∙ read) c.place_at-place.ensures
