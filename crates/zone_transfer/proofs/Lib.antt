@@ -20,3 +20,4 @@ pub mod HonestReplies
 pub mod HonestCourses
 pub mod Delivery
 pub mod Grants
+pub mod Honesty

@@ -163,6 +163,8 @@ impl XfrClient {
         ensures closed { result ≢ Ok None → self.new.exchange ≡ None }
         ensures open { result ≡ Ok None → IsSome self.new.exchange }
         ensures pending { result ≢ Ok None → session.new.pending ≡ session.new.current.version }
+        // .. and no difference is wanted of the next commit.
+        ensures wish { result ≢ Ok None → session.new.compares ≡ false }
     {
         let Some(mut exchange) = self.exchange.take() else {
             unreachable!()
@@ -318,6 +320,7 @@ fn apply_one<R>(
         → TakesOne base before updater.new session.new made.new.items g (update_of update.entry) result }
 {
     if made.reserve(1).is_err() {
+        drop(update);
         return Err(update::Error::Memory);
     }
     if updater.apply(rt, session, update)? {

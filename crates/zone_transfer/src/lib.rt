@@ -9,7 +9,5 @@ pub mod memory_link;
 pub mod outcome;
 mod queue;
 pub mod sync;
-#[cfg(test)]
-mod tests;
 
 pub use outside_calls::failures;

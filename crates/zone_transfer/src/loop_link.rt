@@ -1,6 +1,7 @@
 //! A link that hands on all that it took.
-ghost use Rattle.std.specs.Prelude.{◌≡◌};
-ghost use Rattle.zone_transfer.specs.Links.{IsHonest, no_lists};
+ghost use Rattle.std.specs.Prelude.{◌≡◌, List, ℕ};
+ghost use Rattle.zone_transfer.specs.Links.{HasHandedAll, IsHonest, LinkLists, no_lists};
+ghost use Rattle.zone_transfer.specs.Transfers.{BothWentOn};
 
 use crate::links::{Link, LinkError};
 use crate::queue::Queue;
@@ -43,6 +44,13 @@ impl LoopLink {
     {
         self.requests.honesty();
         self.replies.honesty();
+    }
+
+    /// That it was honest since any state in which it had nothing left to hand on, whatever went over it since. It does nothing.
+    pub fn honesty_since(&self)
+        ensures { (old : LinkLists) (asked heard sent handed : List (List ℕ)) → HasHandedAll old → BothWentOn old self.now asked heard sent handed → IsHonest old self.now 0 0 }
+    {
+        self.honesty();
     }
 }
 

@@ -1,5 +1,5 @@
 //! A transfer whole: both halves, and the link between them.
-ghost use Rattle.std.specs.Prelude.{◌≡◌, ◌≢◌, ◌⊎◌, [], ◌∷◌, ℕ, List, IsSome, IsOk, IfOk, OnOk, OnErr, option_map};
+ghost use Rattle.std.specs.Prelude.{◌≡◌, ◌≢◌, ◌⊎◌, [], ◌∷◌, ℕ, List, false, IsSome, IsOk, IfOk, OnOk, OnErr, option_map};
 ghost use Rattle.zone_model.specs.Commits.{Commit};
 ghost use Rattle.zone_transfer.specs.Links.{Rose};
 ghost use Rattle.zone_transfer.specs.Modes.{mode_of};
@@ -51,6 +51,8 @@ pub fn sync_zone<R, P: Service<()>, L: Link>(
     // version is current.
     ensures headline { Synchronizes (λ m. P.Sends primary.now (request_at m moments.at_primary)) (asks_with key.now (mode_of mode) moments.at_secondary session.old.current)
         moments.at_primary (L.longest link.old) (L.lists link.old) (L.lists link.new) (L.faults link.old) (L.faults link.new) made.old.items made.new.items session.new result }
+    // No difference is wanted of the next commit.
+    ensures wish { session.new.compares ≡ false }
     // The causes by the link.
     ensures failed { result ≡ Err SyncError.LinkFault → Rose (L.faults link.old) (L.faults link.new) }
     ensures steady { result ≢ Err SyncError.LinkFault → L.faults link.new ≡ L.faults link.old }
