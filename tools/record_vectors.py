@@ -6,7 +6,7 @@ usage: tools/record_vectors.py
 It needs dnspython, by Debian's package for Debian's own Python: apt-get update && apt-get install -y python3-dnspython
 
 Each line has the name of the type, its number in four hexadecimal digits, and the record in hexadecimal digits: owner `example.`, class IN, TTL 3600,
-no compression. `\\n\\` ends each, so that the lines can be pasted into the constant RECORDS of crates/dns_rdata/src/vector_tests.rt,
+no compression. `\\n\\` ends each, so that the lines can be pasted into the constant RECORDS of crates/dns_tests/src/dns_rdata_vector_tests.rt,
 whose tests compare the fields with the values that stand here.
 """
 

@@ -5,7 +5,7 @@ usage: tools/signed_message_vectors.py
 
 It needs dnspython, by Debian's package for Debian's own Python: apt-get update && apt-get install -y python3-dnspython
 
-What it prints is pasted into the constants of crates/tsig_port/src/vector_tests.rt, whose names stand above their lines:
+What it prints is pasted into the constants of crates/tsig_tests/src/tsig_port_vector_tests.rt, whose names stand above their lines:
 
 UNSIGNED: the request for the whole zone `example.` with id 1000, an answer with the zone's SOA, and one with an A record, all without a TSIG.
 EXCHANGES: in each line an algorithm, how many octets of each MAC are sent, in two digits, and those three messages signed: the request at the moment

@@ -14,6 +14,3 @@ mod text;
 pub use error::NameError;
 pub use label::Label;
 pub use owned::OwnedLabel;
-
-#[cfg(test)]
-mod tests;

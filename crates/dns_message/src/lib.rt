@@ -13,8 +13,6 @@ mod message;
 mod numbers;
 mod question;
 mod sections;
-#[cfg(test)]
-mod tests;
 
 pub use header::{Header, HeaderCounts};
 pub use message::{Message, MessageBuf, ShortMessage};

@@ -10,6 +10,3 @@ mod serial;
 pub use codes::{Class, Opcode, Rcode, Rtype, TsigRcode, Ttl};
 pub use octets::{ParseError, parse_octets, parse_u16, parse_u32, parse_u48};
 pub use serial::Serial;
-
-#[cfg(test)]
-mod tests;

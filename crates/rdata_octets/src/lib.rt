@@ -13,8 +13,6 @@ mod fields;
 mod laws;
 mod octets;
 mod spelling;
-#[cfg(test)]
-mod tests;
 mod text;
 mod unknown;
 

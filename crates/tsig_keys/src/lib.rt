@@ -13,10 +13,6 @@ mod keys;
 mod laws;
 mod sources;
 mod stores;
-#[cfg(test)]
-mod tests;
-#[cfg(test)]
-mod vector_tests;
 
 pub use algorithms::Algorithm;
 pub use digests::{Hmac, Mac};

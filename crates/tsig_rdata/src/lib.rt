@@ -5,8 +5,6 @@
 pub mod examples;
 pub mod laws;
 mod rdata;
-#[cfg(test)]
-mod tests;
 mod time;
 mod tsig_canonical;
 mod tsig_order;

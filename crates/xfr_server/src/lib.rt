@@ -6,8 +6,6 @@ mod examples;
 mod laws;
 mod replies;
 mod set_records;
-#[cfg(test)]
-mod tests;
 mod texts;
 pub mod transfer;
 

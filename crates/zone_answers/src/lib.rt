@@ -13,8 +13,6 @@ mod owning;
 mod question;
 mod records;
 mod sections;
-#[cfg(test)]
-mod tests;
 
 pub use answer_ref::AnswerRef;
 pub use question::look_up;

@@ -7,8 +7,6 @@ mod errors;
 mod examples;
 mod rrsets;
 mod sets;
-#[cfg(test)]
-mod tests;
 mod traits;
 
 pub use builder::{InMemoryZoneDiffBuilder, is_upto};

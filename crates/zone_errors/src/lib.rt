@@ -5,8 +5,6 @@
 mod edits;
 mod errors;
 mod list;
-#[cfg(test)]
-mod tests;
 
 pub use edits::{CommitError, InsertError, NodeError, UpdateError};
 pub use errors::{ContextError, RecordError};

@@ -7,12 +7,8 @@ mod comparing;
 mod errors;
 mod laws;
 mod querying;
-#[cfg(test)]
-mod step_tests;
 mod steps;
 mod stores;
-#[cfg(test)]
-mod tests;
 mod walking;
 mod zones;
 

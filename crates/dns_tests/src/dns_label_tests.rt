@@ -1,0 +1,85 @@
+// Each kind of call once.
+
+use crate::common::{hash_of, prints};
+use dns_label::{Label, NameError, OwnedLabel};
+use dns_numbers::ParseError;
+use std::cmp::Ordering;
+use std::process::Abort;
+
+#[test]
+fn labels(rt: HostRuntime) {
+    let long = Label::from_slice(&[b'a'; 64]);
+    let upper = Label::from_slice(b"NS").expect(&rt, "a label");
+    let lower = Label::from_slice(b"ns").expect(&rt, "a label");
+    let truths = [
+        long.is_err(),
+        upper == lower,
+        !lower.is_wildcard(),
+        !lower.is_root(),
+        hash_of(&upper) == hash_of(&lower),
+        upper.to_canonical().as_slice() == b"ns".as_slice(),
+        Label::root().is_root(),
+        Label::wildcard().is_wildcard(),
+    ];
+    assert_eq!(rt; truths, [true; 8]);
+}
+
+#[test]
+fn labels_in_place(rt: HostRuntime) {
+    let long = OwnedLabel::from_slice(&[b'a'; 64]);
+    let longest = OwnedLabel::from_slice(&[b'Z'; 63]).expect(&rt, "a label");
+    let mut copy = longest.duplicate();
+    copy.make_canonical();
+    let truths = [
+        long.is_err(),
+        longest.as_slice() == [b'Z'; 63].as_slice(),
+        longest.to_canonical().as_slice() == [b'z'; 63].as_slice(),
+        copy == longest,
+        copy.as_label() == longest.as_label(),
+        hash_of(&copy) == hash_of(&longest),
+        OwnedLabel::root().is_root(),
+        !OwnedLabel::root().is_wildcard(),
+        OwnedLabel::wildcard().is_wildcard(),
+        !OwnedLabel::wildcard().is_root(),
+    ];
+    assert_eq!(rt; truths, [true; 10]);
+}
+
+fn order_of<R: Abort>(rt: &R, a: &[u8], b: &[u8]) -> Ordering {
+    let a = OwnedLabel::from_slice(a).expect(rt, "a label");
+    let b = OwnedLabel::from_slice(b).expect(rt, "a label");
+    a.cmp(&b)
+}
+
+/// Labels in ascending order, without case; the octets behind `Z` in ASCII stay where they are.
+#[test]
+fn order(rt: HostRuntime) {
+    let labels = [
+        b"".as_slice(),
+        b"*".as_slice(),
+        b"[".as_slice(),
+        b"A".as_slice(),
+        b"aa".as_slice(),
+        b"B".as_slice(),
+        b"yljkjljk".as_slice(),
+        b"Z".as_slice(),
+        b"{".as_slice(),
+        b"\xc8".as_slice(),
+    ];
+    for (i, a) in labels.iter().enumerate() {
+        for (j, b) in labels.iter().enumerate() {
+            let order = order_of(&rt, *a, *b);
+            assert!(rt; order == i.cmp(&j), "at {i} and {j}");
+        }
+    }
+}
+
+#[test]
+fn texts(rt: HostRuntime) {
+    let label = Label::from_slice(b"a.b c\\\x07\xff").expect(&rt, "a label");
+    let text = "a\\.b\\ c\\\\\\007\\255";
+    prints(&rt, rt.alloc(), &label, text);
+    prints(&rt, rt.alloc(), &OwnedLabel::from_label(&label), text);
+    prints(&rt, rt.alloc(), &NameError, "not a domain name");
+    assert_eq!(rt; ParseError::from(NameError), ParseError);
+}

@@ -1,0 +1,111 @@
+// The keys of edits, and what two versions differ in at them.
+
+use crate::common::{APEX, HOST, address, is, name, shown, soa};
+use dns_name::{Class, Rtype, Serial, Ttl};
+use dns_rdata::StoredRecord;
+use std::alloc::Global;
+use std::process::Abort;
+use std::sync::Arc;
+use zone_changes::{Draft, TouchedKeys};
+use zone_diffs::{InMemoryZoneDiff, ZoneDiff};
+use zone_versions::ZoneVersion;
+
+fn add<R: Abort>(rt: &R, alloc: Global, draft: &mut Draft, added: StoredRecord) {
+    assert!(rt; draft.shown().refusal(&added).is_none());
+    draft.append(alloc, added).expect(rt, "memory");
+}
+
+fn delete<R: Abort>(rt: &R, draft: &mut Draft, deleted: StoredRecord) {
+    assert!(rt; draft.shown().deletion_refusal(&deleted).is_none());
+    draft.remove(&deleted).expect(rt, "memory");
+    drop(deleted);
+}
+
+/// Makes the apex SOA set one of this serial.
+fn set_serial<R: Abort>(rt: &R, alloc: Global, draft: &mut Draft, serial: u32) {
+    let soa = soa(rt, alloc, serial);
+    draft
+        .set_soa(alloc, Ttl::from_int(3600), soa)
+        .expect(rt, "memory");
+}
+
+/// The zone of serial 1 with three addresses of the TTL 3600.
+fn zone<R: Abort>(rt: &R, alloc: Global) -> Arc<ZoneVersion> {
+    let empty = ZoneVersion::empty(alloc, name(rt, alloc, APEX), Class::IN);
+    let base = Arc::new(alloc, empty).expect(rt, "memory");
+    let mut draft = Draft::of(alloc, base).expect(rt, "memory");
+    set_serial(rt, alloc, &mut draft, 1);
+    add(rt, alloc, &mut draft, address(rt, alloc, HOST, 3600, 1));
+    add(rt, alloc, &mut draft, address(rt, alloc, HOST, 3600, 2));
+    add(rt, alloc, &mut draft, address(rt, alloc, HOST, 3600, 3));
+    draft.into_version()
+}
+
+/// The difference from the zone to the one of a serial in which the addresses have the TTL 60.
+fn told<R: Abort>(rt: &R, alloc: Global, serial: u32) -> Option<InMemoryZoneDiff> {
+    let mut draft = Draft::of(alloc, zone(rt, alloc)).expect(rt, "memory");
+    delete(rt, &mut draft, address(rt, alloc, HOST, 60, 3));
+    add(rt, alloc, &mut draft, address(rt, alloc, HOST, 60, 3));
+    set_serial(rt, alloc, &mut draft, serial);
+    let told = draft.difference(alloc).expect(rt, "memory");
+    drop(draft);
+    told
+}
+
+#[test]
+fn three_addresses_change_their_ttl(rt: HostRuntime) {
+    let alloc = rt.alloc();
+    let diff = told(&rt, alloc, 2).expect(&rt, "a difference");
+    is(&rt, diff.start_serial(), Serial::from(1));
+    is(&rt, diff.end_serial(), Serial::from(2));
+    is(&rt, diff.removed_len(), 2);
+    is(&rt, diff.added_len(), 2);
+    is(&rt, shown(&rt, diff.removed_at(0)), (1, Rtype::SOA));
+    is(&rt, shown(&rt, diff.removed_at(1)), (3, Rtype::A));
+    is(&rt, shown(&rt, diff.added_at(0)), (1, Rtype::SOA));
+    is(&rt, shown(&rt, diff.added_at(1)), (3, Rtype::A));
+    let owner = name(&rt, alloc, HOST);
+    let set = diff.get_added(&owner, Rtype::A).expect(&rt, "a set");
+    is(&rt, set.as_rrset().ttl(), Ttl::from_int(60));
+    let set = diff.get_removed(&owner, Rtype::A).expect(&rt, "a set");
+    is(&rt, set.as_rrset().ttl(), Ttl::from_int(3600));
+    drop(owner);
+    drop(diff);
+}
+
+/// Asserts that nothing is told of a change from the serial 1 to this one.
+fn tells_nothing<R: Abort>(rt: &R, alloc: Global, serial: u32) {
+    let told = told(rt, alloc, serial);
+    assert!(rt; told.is_none());
+    drop(told);
+}
+
+#[test]
+fn no_later_serial_no_difference(rt: HostRuntime) {
+    let alloc = rt.alloc();
+    tells_nothing(&rt, alloc, 1);
+    tells_nothing(&rt, alloc, 0);
+    tells_nothing(&rt, alloc, 0x8000_0002);
+}
+
+#[test]
+fn keys_at_and_below_a_name(rt: HostRuntime) {
+    let alloc = rt.alloc();
+    let zone = zone(&rt, alloc);
+    let mut touched = TouchedKeys::new(alloc);
+    assert!(rt; touched.is_empty());
+    touched.note_strays(&zone).expect(&rt, "memory");
+    is(&rt, touched.len(), 0);
+    let owner = name(&rt, alloc, HOST);
+    touched.note_below(&zone, &owner).expect(&rt, "memory");
+    drop(owner);
+    is(&rt, touched.len(), 1);
+    let first = touched.iter().next().expect(&rt, "a key").rtype();
+    is(&rt, first, Rtype::A);
+    touched.note_below(&zone, zone.apex()).expect(&rt, "memory");
+    is(&rt, touched.len(), 2);
+    touched.clear();
+    assert!(rt; touched.is_empty());
+    drop(touched);
+    drop(zone);
+}

@@ -1,0 +1,90 @@
+// Steps of readers and one writer, and what their handles answer.
+
+use crate::common::{address, is, name};
+use crate::zone_reading_tests::zone;
+use dns_name::{Rcode, Rtype};
+use std::alloc::Global;
+use std::process::Abort;
+use zone_reading::{AskError, Step, ask, begin_again, make_steps};
+use zone_store::{ReadZone, WriteZone};
+
+fn then<R: Abort>(rt: &R, steps: &mut Vec<Step>, step: Step) {
+    steps.push(step).ok().expect(rt, "memory");
+}
+
+/// Two steps: an address is added, and what is pending is committed or dropped.
+fn write<R: Abort>(rt: &R, alloc: Global, steps: &mut Vec<Step>, owner: &[u8], last: Step) {
+    then(rt, steps, Step::Add(address(rt, alloc, owner, 60, 1)));
+    then(rt, steps, last);
+}
+
+/// Makes all steps.
+fn make<R: Abort>(
+    rt: &R,
+    session: &mut WriteZone<'_>,
+    handles: &mut Vec<ReadZone>,
+    steps: Vec<Step>,
+) {
+    let (made, outcome) = make_steps(rt, session, handles, steps.as_slice());
+    outcome.expect(rt, "memory");
+    is(rt, made, steps.len());
+    drop(steps);
+}
+
+/// Asserts that a handle's answer to A of a name has this rcode, or that there is none for this reason.
+fn answers<R: Abort>(
+    rt: &R,
+    alloc: Global,
+    handles: &[ReadZone],
+    handle: usize,
+    qname: &[u8],
+    wanted: Result<Rcode, AskError>,
+) {
+    let qname = name(rt, alloc, qname);
+    let told = match ask(handles, handle, &qname, Rtype::A) {
+        Ok(answer) => Ok(answer.rcode()),
+        Err(error) => Err(error),
+    };
+    assert_eq!(rt; told, wanted, "{handle}");
+    drop(qname);
+}
+
+#[test]
+fn handles_answer_from_their_positions(rt: HostRuntime) {
+    let alloc = rt.alloc();
+    let mut zone = zone(&rt, alloc);
+    let mut session = zone.write(alloc);
+    let mut handles = Vec::new(alloc);
+    let mut steps = Vec::new(alloc);
+    write(&rt, alloc, &mut steps, b"\x01a\x01c\0", Step::Commit(false));
+    then(&rt, &mut steps, Step::Read);
+    write(&rt, alloc, &mut steps, b"\x01b\x01c\0", Step::Rollback);
+    then(&rt, &mut steps, Step::Read);
+    write(&rt, alloc, &mut steps, b"\x01a\x01c\0", Step::Commit(true));
+    then(&rt, &mut steps, Step::Read);
+    make(&rt, &mut session, &mut handles, steps);
+    let b = b"\x01B\x01c\0";
+    let absent = Ok(Rcode::NXDOMAIN);
+    answers(&rt, alloc, handles.as_slice(), 2, b, absent);
+    let mut steps = Vec::new(alloc);
+    write(&rt, alloc, &mut steps, b, Step::Commit(false));
+    then(&rt, &mut steps, Step::Read);
+    then(&rt, &mut steps, Step::Copy(0));
+    then(&rt, &mut steps, Step::Copy(9));
+    make(&rt, &mut session, &mut handles, steps);
+    answers(&rt, alloc, handles.as_slice(), 0, b, absent);
+    answers(&rt, alloc, handles.as_slice(), 3, b, Ok(Rcode::NOERROR));
+    answers(&rt, alloc, handles.as_slice(), 4, b, absent);
+    let lacking = Err(AskError::NoHandle);
+    answers(&rt, alloc, handles.as_slice(), 5, b, lacking);
+    let outside = Err(AskError::OutOfZone);
+    answers(&rt, alloc, handles.as_slice(), 0, b"\x01d\0", outside);
+    let mut session = begin_again(session, alloc);
+    let mut steps = Vec::new(alloc);
+    then(&rt, &mut steps, Step::Read);
+    make(&rt, &mut session, &mut handles, steps);
+    answers(&rt, alloc, handles.as_slice(), 5, b, Ok(Rcode::NOERROR));
+    drop(handles);
+    drop(session);
+    drop(zone);
+}

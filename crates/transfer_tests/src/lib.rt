@@ -1,0 +1,13 @@
+//! Tests of both halves of a transfer, of whole transfers and of the program: each kind of call once, and values from outside.
+#![tactic(auto)]
+
+#[cfg(test)]
+mod common;
+#[cfg(test)]
+mod xfr_client_tests;
+#[cfg(test)]
+mod xfr_server_tests;
+#[cfg(test)]
+mod zone_sync_tests;
+#[cfg(test)]
+mod zone_transfer_tests;

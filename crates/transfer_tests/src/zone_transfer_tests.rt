@@ -1,0 +1,476 @@
+//! Transfers whose replies are made here: what is committed, and the answer, as RFC 5936, 2.2 has it.
+ghost use Rattle.std.specs.Prelude.{◌≡◌};
+ghost use Rattle.xfr_server.specs.Items.{Calls, all_given};
+
+use crate::common::{KEY, assert_texts, empty_zone, octets_of, shared_key};
+use dns_name::{Class, Labelled};
+use dns_rdata::{RecordData, StoredRecord, record_from_octets};
+use dns_wire::{
+    AdditionalBuilder, AnswerBuilder, Header, MessageBuilder, PushError, Question, ShortMessage,
+};
+use hex::FromHexError;
+use std::alloc::Global;
+use std::process::Abort;
+use tsig_port::{Key, Time48, ValidationError};
+use xfr_client::{protocol, update};
+use xfr_server::{
+    CallResult, Replies, Request, Service, ServiceError, ServiceFeedback, TsigMiddlewareSvc,
+};
+use zone_store::{ReadZone, WalkItem, WriteZone};
+use zone_transfer::client::XfrMode;
+use zone_transfer::memory_link::MemoryLink;
+use zone_transfer::outcome::{SyncError, SyncOk};
+use zone_transfer::sync::{Moments, sync_zone};
+
+/// Words, and the octets that they stand for: the question for the whole of `example.`, none, and those of another name, type and class;
+/// the numbers of versions, as they stand before their records; the zone's SOA records with serials 1 and 2, both names the root; the
+/// addresses 192.0.2.1 and 192.0.2.2 of `host.example.`, and one of `another.`; two aliases of `host.example.`; records of `example.` of
+/// each known type, as dnspython makes them, and one of an unknown type.
+const WORDS: &str = "\
+asked 076578616d706c650000fc0001
+none \n\
+other-name 07616e6f746865720000fc0001
+other-type 076578616d706c650000fb0001
+other-class 076578616d706c650000fc0003
+version-0 76657273696f6e20303a
+version-1 76657273696f6e20313a
+version-2 76657273696f6e20323a
+soa 076578616d706c65000006000100000e10001600000000000100000000000000000000000000000000
+next-soa 076578616d706c65000006000100000e10001600000000000200000000000000000000000000000000
+first 04686f7374076578616d706c65000001000100000e100004c0000201
+second 04686f7374076578616d706c65000001000100000e100004c0000202
+outside 07616e6f74686572000001000100000e100004c0000201
+alias 04686f7374076578616d706c65000005000100000e100009076578616d706c6500
+other-alias 04686f7374076578616d706c65000005000100000e10000100
+a 076578616d706c65000001000100000e100004c0000201
+ns 076578616d706c65000002000100000e10000c026e73076578616d706c6500
+md 076578616d706c65000003000100000e10000c026d64076578616d706c6500
+mf 076578616d706c65000004000100000e10000c026d66076578616d706c6500
+cname 076578616d706c65000005000100000e10000f05616c696173076578616d706c6500
+mb 076578616d706c65000007000100000e10000c026d62076578616d706c6500
+mg 076578616d706c65000008000100000e10000c026d67076578616d706c6500
+mr 076578616d706c65000009000100000e10000c026d72076578616d706c6500
+ptr 076578616d706c6500000c000100000e10000e04486f7374076558616d706c6500
+minfo 076578616d706c6500000e000100000e10001f056f776e6572076578616d706c6500066572726f7273076578616d706c6500
+mx 076578616d706c6500000f000100000e100010010a046d61696c076578616d706c6500
+txt 076578616d706c65000010000100000e1000130a6f6e6520737472696e6707616e6f74686572
+aaaa 076578616d706c6500001c000100000e10001020010db8000000000000000000000001
+srv 076578616d706c65000021000100000e1000160201040314e906736572766572076578616d706c6500
+ds 076578616d706c6500002b000100000e100018ec4505012bb183af5f22588179a53b0a98631fad1a292118
+unknown 076578616d706c6500ff00000100000e1000040a00ff01";
+
+/// What a secondary without records answers and commits. Each row has: what it shows; the replies of a primary with `|` between them, each
+/// its question and its answers; the answer; and what is committed, each version's number and its records in the order of its walk.
+const CASES: &str = "\
+records between;asked soa first second soa;Ok(Updated);version-1 soa first second
+nothing between;asked soa soa;Ok(Updated);version-1 soa
+equal data are one (RFC 2181, 5);asked soa first first soa;Ok(Updated);version-1 soa first
+two messages;asked soa first|asked second soa;Ok(Updated);version-1 soa first second
+four messages, later ones without a question;asked soa|none first|none second|none soa;Ok(Updated);version-1 soa first second
+a message behind the end isn't taken;asked soa first soa|other-name second;Ok(Updated);version-1 soa first
+a record behind the end, in its message;asked soa first soa second;Err(Iteration(AlreadyFinished));version-1 soa first
+no end;asked soa first;Err(Ended);
+an SOA of another serial isn't the end;asked soa first next-soa;Err(Ended);
+the first record is no SOA;asked first soa soa;Err(Xfr(NotValidXfrResponse));
+no record;asked;Err(Xfr(NotValidXfrResponse));
+a question of another name;other-name soa first soa;Err(OtherAnswer);
+a question of another type;other-type soa first soa;Err(OtherAnswer);
+a question of another class;other-class soa first soa;Err(OtherAnswer);
+another name in a later message;asked soa first|other-name second soa;Err(OtherAnswer);
+an owner outside the zone;asked soa first outside soa;Err(Update(OutOfZone));
+every type, each read by its own grammar, and walked by type;\
+asked soa unknown ds srv aaaa txt mx minfo ptr mr mg mb cname mf md ns a soa;Ok(Updated);\
+version-1 a ns md mf cname soa mb mg mr ptr minfo mx txt aaaa srv ds unknown
+one alias;asked soa alias soa;Ok(Updated);version-1 soa alias
+two aliases of a name (RFC 2181, 10.1);asked soa alias other-alias soa;Err(Update(InvalidData));";
+
+/// A row of the cases.
+#[derive(Clone, Copy)]
+struct Case {
+    title: &'static str,
+    replies: &'static str,
+    answer: &'static str,
+    committed: &'static str,
+}
+
+/// The case in the row of this number, from 0.
+fn case_at(number: usize) -> Option<Case> {
+    let row = CASES.split('\n').nth(number)?;
+    let (title, row) = row.split_once(';')?;
+    let (replies, row) = row.split_once(';')?;
+    let (answer, committed) = row.split_once(';')?;
+    Some(Case {
+        title,
+        replies,
+        answer,
+        committed,
+    })
+}
+
+/// The digits that a word stands for.
+fn word_digits(word: &str) -> Option<&'static str> {
+    for row in WORDS.split('\n') {
+        let (name, digits) = row.split_once(' ')?;
+        if name == word {
+            return Some(digits);
+        }
+    }
+    None
+}
+
+/// A primary that sends the replies of a case, whatever it is asked.
+#[derive(Clone, Copy, Debug)]
+struct Sender {
+    case: usize,
+}
+
+impl Service<Option<Key>> for Sender {
+    type Stream = Replies;
+
+    ghost Sends = { λ s request sent. Unit {0} };
+
+    fn call(&self, alloc: Global, request: Request<Option<Key>>) -> Result<Replies, ServiceError>
+        ensures { Calls (λ sent. Unit {0}) (λ s items. items ≡ all_given s) result }
+    {
+        let id = request.message().header().id;
+        drop(request);
+        replies_of(alloc, id, replies_in(self.case))
+    }
+}
+
+/// The replies of the case in this row.
+fn replies_in(number: usize) -> &'static str {
+    match case_at(number) {
+        Some(case) => case.replies,
+        None => "",
+    }
+}
+
+/// Replies that aren't signed yet, as one transaction.
+fn replies_of(alloc: Global, id: u16, list: &str) -> Result<Replies, ServiceError> {
+    let mut replies = Replies::new(alloc);
+    replies.push(CallResult::feedback_only(ServiceFeedback::BeginTransaction))?;
+    for words in list.split('|') {
+        push_reply(&mut replies, alloc, id, words)?;
+    }
+    Ok(replies)
+}
+
+fn push_reply(
+    replies: &mut Replies,
+    alloc: Global,
+    id: u16,
+    words: &str,
+) -> Result<(), ServiceError> {
+    let message = reply(alloc, id, words)?;
+    replies.push(CallResult::new(message))?;
+    Ok(())
+}
+
+/// One of them.
+fn reply(alloc: Global, id: u16, words: &str) -> Result<AdditionalBuilder, ServiceError> {
+    let (question, answers) = match words.split_once(' ') {
+        Some(parts) => parts,
+        None => (words, ""),
+    };
+    let mut section = asked(alloc, id, question)?;
+    for word in answers.split_ascii_whitespace() {
+        push_record(&mut section, alloc, word)?;
+    }
+    Ok(section.additional())
+}
+
+/// Header and question of a reply.
+fn asked(alloc: Global, id: u16, word: &str) -> Result<AnswerBuilder, ServiceError> {
+    let octets = spelt(alloc, word)?;
+    let mut builder = MessageBuilder::new(alloc)?;
+    let mut header = Header::new(id);
+    header.qr = true;
+    header.aa = true;
+    builder.set_header(header);
+    let mut questions = builder.question();
+    if let Ok((question, _)) = Question::parse(octets.as_slice(), 0) {
+        questions.push(&question)?;
+    }
+    Ok(questions.answer())
+}
+
+/// Pushes the record of a word.
+fn push_record(section: &mut AnswerBuilder, alloc: Global, word: &str) -> Result<(), ServiceError> {
+    let octets = spelt(alloc, word)?;
+    let Ok(found) = record_from_octets(octets.as_slice()) else {
+        return Err(ServiceError::InternalError);
+    };
+    section.push(&found)?;
+    Ok(())
+}
+
+/// The octets of a word.
+fn spelt(alloc: Global, word: &str) -> Result<Vec<u8>, ServiceError> {
+    let Some(digits) = word_digits(word) else {
+        return Err(ServiceError::InternalError);
+    };
+    match hex::decode(alloc, digits.as_bytes()) {
+        Ok(octets) => Ok(octets),
+        Err(FromHexError::OutOfMemory) => Err(ServiceError::Memory),
+        Err(_) => Err(ServiceError::InternalError),
+    }
+}
+
+/// Appends the octets of words, one behind another.
+fn append_words<R: Abort>(rt: &R, alloc: Global, all: &mut Vec<u8>, words: &str) {
+    for word in words.split_ascii_whitespace() {
+        let octets = spelt(alloc, word).expect(rt, "memory, or a word");
+        let appended = all.extend_from_slice(octets.as_slice());
+        drop(octets);
+        appended.expect(rt, "memory");
+    }
+}
+
+/// The numbers and the records of versions.
+fn walks_of<R: Abort>(rt: &R, alloc: Global, versions: &[ReadZone]) -> Vec<u8> {
+    let mut all = Vec::new(alloc);
+    for version in versions {
+        append_number(rt, alloc, &mut all, version.version());
+        for stop in version.iter_rrsets() {
+            append_set(rt, &mut all, version.class(), &stop);
+        }
+    }
+    all
+}
+
+fn append_number<R: Abort>(rt: &R, alloc: Global, all: &mut Vec<u8>, number: u64) {
+    let text = format!(in alloc; "version {number}:").expect(rt, "memory");
+    all.extend_from_slice(text.as_bytes()).expect(rt, "memory");
+    drop(text);
+}
+
+/// The records of a set in wire form.
+fn append_set<R: Abort>(rt: &R, all: &mut Vec<u8>, class: Class, stop: &WalkItem<'_>) {
+    for item in stop.items() {
+        stop.owner().compose(all).expect(rt, "memory");
+        append_u16(rt, all, stop.rtype().to_int());
+        append_u16(rt, all, class.to_int());
+        let ttl = stop.ttl().to_int().to_be_bytes();
+        all.extend_from_slice(&ttl).expect(rt, "memory");
+        append_u16(rt, all, item.rdlen());
+        item.compose_rdata(all).expect(rt, "memory");
+    }
+}
+
+fn append_u16<R: Abort>(rt: &R, all: &mut Vec<u8>, number: u16) {
+    all.extend_from_slice(&number.to_be_bytes())
+        .expect(rt, "memory");
+}
+
+/// What a secondary without records answers to the replies of a case over a link that takes requests of up to so many octets; the
+/// versions are added to `made`.
+fn answer_to<R: Abort>(
+    rt: &R,
+    alloc: Global,
+    case: usize,
+    max_len: usize,
+    made: &mut Vec<ReadZone>,
+) -> Result<SyncOk, SyncError> {
+    let mut zone = empty_zone(rt, alloc);
+    let mut session = zone.write(alloc);
+    let answer = answer_in(rt, alloc, case, max_len, &mut session, made);
+    drop(session);
+    drop(zone);
+    answer
+}
+
+/// The same of the secondary that a session is of.
+fn answer_in<R: Abort>(
+    rt: &R,
+    alloc: Global,
+    case: usize,
+    max_len: usize,
+    session: &mut WriteZone<'_>,
+    made: &mut Vec<ReadZone>,
+) -> Result<SyncOk, SyncError> {
+    let key = shared_key(rt, KEY);
+    let primary = TsigMiddlewareSvc::new(Sender { case }, key.duplicate());
+    let mut link = MemoryLink::new(alloc, max_len, Vec::new(alloc));
+    let moments = Moments {
+        at_primary: Time48::from_u64(1000),
+        at_secondary: Time48::from_u64(1000),
+    };
+    let answer = sync_zone(
+        rt,
+        alloc,
+        &primary,
+        session,
+        &key,
+        XfrMode::Axfr,
+        &mut link,
+        moments,
+        made,
+    );
+    drop(link);
+    drop(primary);
+    drop(key);
+    answer
+}
+
+/// Asserts what a case says.
+fn is_so<R: Abort>(rt: &R, alloc: Global, number: usize, case: Case) {
+    let mut made = Vec::new(alloc);
+    let answer = answer_to(rt, alloc, number, 65_535, &mut made);
+    let answer = format!(in alloc; "{answer:?}").expect(rt, "memory");
+    let told = answer.as_str();
+    assert_eq!(rt; told, case.answer, "{}", case.title);
+    drop(answer);
+    let walks = walks_of(rt, alloc, made.as_slice());
+    drop(made);
+    let mut committed = Vec::new(alloc);
+    append_words(rt, alloc, &mut committed, case.committed);
+    assert_eq!(rt; walks, committed, "{}", case.title);
+    drop(committed);
+    drop(walks);
+}
+
+#[test]
+fn what_is_committed_and_answered(rt: HostRuntime) {
+    for number in 0..19usize {
+        let case = case_at(number).expect(&rt, "a case");
+        is_so(&rt, rt.alloc(), number, case);
+    }
+    let no_more = case_at(19).is_none();
+    assert!(rt; no_more);
+}
+
+/// A request of 101 octets over a link that takes 100 is too long, which isn't want of memory.
+#[test]
+fn a_request_that_the_link_has_no_room_for(rt: HostRuntime) {
+    let alloc = rt.alloc();
+    let mut made = Vec::new(alloc);
+    let answer = answer_to(&rt, alloc, 0, 100, &mut made);
+    assert_eq!(rt; answer, Err(SyncError::Request(PushError::ShortBuf)));
+    let count = made.len();
+    assert_eq!(rt; count, 0);
+    let answer = answer_to(&rt, alloc, 0, 101, &mut made);
+    assert_eq!(rt; answer, Ok(SyncOk::Updated));
+    drop(made);
+}
+
+/// The versions of a zone without records that gets the first case, and behind it the second.
+const VERSIONS: &str = "\
+version-0
+version-1 soa first second
+version-2 soa";
+
+/// The versions from the first up to the second of these numbers.
+fn versions<R: Abort>(rt: &R, alloc: Global, first: usize, last: usize) -> Vec<u8> {
+    let mut all = Vec::new(alloc);
+    for number in 0..3usize {
+        if first <= number && number <= last {
+            let words = VERSIONS.split('\n').nth(number).expect(rt, "a version");
+            append_words(rt, alloc, &mut all, words);
+        }
+    }
+    all
+}
+
+/// The answer to the replies of the first case, and where it is Ok to those of the second.
+fn answers<R: Abort>(
+    rt: &R,
+    alloc: Global,
+    session: &mut WriteZone<'_>,
+    made: &mut Vec<ReadZone>,
+) -> Result<SyncOk, SyncError> {
+    match answer_in(rt, alloc, 0, 65_535, session, made) {
+        Ok(_) => answer_in(rt, alloc, 1, 65_535, session, made),
+        Err(error) => Err(error),
+    }
+}
+
+/// The number and the records of the current version.
+fn current_of<R: Abort>(rt: &R, alloc: Global, session: &mut WriteZone<'_>) -> Vec<u8> {
+    let mut handles = Vec::new(alloc);
+    let handle = session.handle().expect(rt, "memory");
+    handles.push(handle).expect(rt, "memory");
+    let walks = walks_of(rt, alloc, handles.as_slice());
+    drop(handles);
+    walks
+}
+
+/// A record, stored.
+fn stored<R: Abort>(rt: &R, alloc: Global, digits: &str) -> StoredRecord {
+    let octets = octets_of(rt, alloc, digits);
+    let found = record_from_octets(octets.as_slice()).expect(rt, "a record");
+    let record = found.flatten(alloc).expect(rt, "memory");
+    drop(octets);
+    record
+}
+
+/// With memory two versions are made. Where an allocation is refused (`tools/refused-memory`), a first part of them is, whose last one
+/// is current, and nothing is pending.
+#[test]
+fn makes_a_first_part_in_want_of_memory(rt: HostRuntime) {
+    let alloc = rt.alloc();
+    let first = word_digits("first").expect(&rt, "a word");
+    let first = stored(&rt, alloc, first);
+    let mut zone = empty_zone(&rt, alloc);
+    let mut session = zone.write(alloc);
+    let mut made = Vec::new(alloc);
+    let answer = answers(&rt, alloc, &mut session, &mut made);
+    let count = made.len();
+    if answer != Err(SyncError::Memory) {
+        assert_eq!(rt; answer, Ok(SyncOk::Updated));
+        assert_eq!(rt; count, 2);
+    }
+    let walks = walks_of(&rt, alloc, made.as_slice());
+    drop(made);
+    let expected = versions(&rt, alloc, 1, count);
+    assert_eq!(rt; walks, expected);
+    drop(walks);
+    drop(expected);
+    let current = current_of(&rt, alloc, &mut session);
+    let expected = versions(&rt, alloc, count, count);
+    assert_eq!(rt; current, expected);
+    drop(current);
+    drop(expected);
+    let has_first = session.has_data(&first);
+    assert_eq!(rt; has_first, count == 1);
+    drop(session);
+    drop(zone);
+    drop(first);
+}
+
+#[test]
+fn what_errors_print(rt: HostRuntime) {
+    let errors = [
+        SyncError::NoSoa,
+        SyncError::Request(PushError::ShortBuf),
+        SyncError::LinkFault,
+        SyncError::Ended,
+        SyncError::Short(ShortMessage),
+        SyncError::Primary(ServiceError::InternalError),
+        SyncError::TooManyMessages,
+        SyncError::Tsig(ValidationError::BadSig),
+        SyncError::OtherAnswer,
+        SyncError::Xfr(protocol::Error::Malformed),
+        SyncError::Iteration(protocol::IterationError::ParseError),
+        SyncError::Update(update::Error::OutOfZone),
+        SyncError::VersionsExhausted,
+        SyncError::Memory,
+    ];
+    let texts = "\
+the zone has no SOA
+the request is too long
+the link failed
+the link ended before the transfer
+a message is too short
+the primary failed
+too many messages
+the signature was refused
+the reply answers another question
+the reply isn't one of a transfer
+a record can't be read where it stands
+an update doesn't fit the zone
+there is no further version number
+out of memory
+";
+    assert_texts(&rt, rt.alloc(), &errors, texts);
+}

@@ -1,0 +1,118 @@
+// TSIG data: text, equality, order, hash, memory of their own.
+use crate::common::{name, says};
+use dns_name::KeyName;
+use std::cmp::Ordering;
+use std::hash::{DefaultHasher, Hash, Hasher};
+use std::process::Abort;
+use tsig_rdata::{Time48, Tsig};
+
+/// Fudge, original id and error of a request.
+const REQUEST: [u16; 3] = [300, 7, 0];
+
+/// Data by the algorithm of that wire form; the numbers are fudge, original id and error.
+fn tsig<R: Abort>(
+    rt: &R,
+    algorithm: &[u8],
+    time_signed: Time48,
+    numbers: [u16; 3],
+    mac: &'static [u8],
+    other: &'static [u8],
+) -> Tsig<&'static [u8], KeyName> {
+    let name = name(rt, algorithm);
+    let [fudge, original_id, error] = numbers;
+    Tsig::new(name, time_signed, fudge, mac, original_id, error, other).expect(rt, "short data")
+}
+
+/// The hash of the data.
+fn hash_of(tsig: &Tsig<&'static [u8], KeyName>) -> u64 {
+    let mut state = DefaultHasher::new();
+    tsig.hash(&mut state);
+    state.finish()
+}
+
+/// Whether the first is lower, with another hash.
+fn is_before(a: &Tsig<&'static [u8], KeyName>, b: &Tsig<&'static [u8], KeyName>) -> bool {
+    a != b && a.cmp(b) == Ordering::Less && hash_of(a) != hash_of(b)
+}
+
+#[test]
+fn text_of_data(rt: HostRuntime) {
+    let alloc = rt.alloc();
+    let time = Time48::from_u64(1000);
+    let data = tsig(&rt, b"\x0bhmac-sha256\0", time, REQUEST, &[0, 1, 2], &[]);
+    says(
+        &rt,
+        alloc,
+        &data,
+        "hmac-sha256. 1000 300 AAEC 7 NOERROR \"\"",
+    );
+    let data = tsig(&rt, b"\0", time, REQUEST, &[0], &[0, 0, 0, 0, 3, 0xe8]);
+    says(&rt, alloc, &data, ". 1000 300 AA== 7 NOERROR \"AAAAAAPo\"");
+    assert_eq!(rt; data.other_time(), Some(time));
+}
+
+#[test]
+fn case_of_the_algorithm(rt: HostRuntime) {
+    let time = Time48::from_u64(1000);
+    let data = tsig(&rt, b"\x09hmac-sha1\0", time, REQUEST, &[1], &[2]);
+    let upper = tsig(&rt, b"\x09HMAC-SHA1\0", time, REQUEST, &[1], &[2]);
+    let same = data == upper;
+    assert!(rt; same);
+    let order = data.cmp(&upper);
+    assert_eq!(rt; order, Ordering::Equal);
+    let hash = hash_of(&data);
+    let other = hash_of(&upper);
+    assert_eq!(rt; hash, other);
+}
+
+/// The second, once it is asserted that the first is lower, with another hash.
+fn higher<R: Abort>(
+    rt: &R,
+    low: Tsig<&'static [u8], KeyName>,
+    high: Tsig<&'static [u8], KeyName>,
+) -> Tsig<&'static [u8], KeyName> {
+    let in_order = is_before(&low, &high);
+    assert!(rt; in_order);
+    high
+}
+
+#[test]
+fn each_field_counts(rt: HostRuntime) {
+    let time = Time48::from_u64(1000);
+    let before = Time48::from_u64(0);
+    let after = Time48::from_u64(1001);
+    let sha1 = b"\x09hmac-sha1\0";
+    let data = tsig(&rt, sha1, time, REQUEST, &[1], &[2]);
+    let data = higher(&rt, data, tsig(&rt, sha1, time, REQUEST, &[1], &[2, 0]));
+    let data = higher(&rt, data, tsig(&rt, sha1, time, [300, 7, 1], &[1], &[]));
+    let data = higher(&rt, data, tsig(&rt, sha1, time, [300, 8, 0], &[1], &[]));
+    let data = higher(&rt, data, tsig(&rt, sha1, time, REQUEST, &[2], &[]));
+    let data = higher(&rt, data, tsig(&rt, sha1, time, [301, 0, 0], &[0], &[]));
+    let data = higher(&rt, data, tsig(&rt, sha1, after, REQUEST, &[0], &[]));
+    let stronger = tsig(&rt, b"\x0bhmac-sha256\0", before, REQUEST, &[0], &[]);
+    let data = higher(&rt, data, stronger);
+    drop(data);
+}
+
+#[test]
+fn flattened_data(rt: HostRuntime) {
+    let alloc = rt.alloc();
+    let data = tsig(
+        &rt,
+        b"\x09hmac-sha1\0",
+        Time48::from_u64(1000),
+        REQUEST,
+        &[1],
+        &[2],
+    );
+    let stored = data.flatten(alloc).expect(&rt, "memory");
+    let same = stored.data_eq(&data);
+    assert!(rt; same);
+    let order = stored.data_cmp(&data);
+    assert_eq!(rt; order, Ordering::Equal);
+    let len = stored.rdlen();
+    assert_eq!(rt; len, 29);
+    let mac = stored.into_mac();
+    assert_eq!(rt; mac.as_slice(), [1].as_slice());
+    drop(mac);
+}
