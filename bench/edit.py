@@ -3,7 +3,7 @@
 
 usage: python3 bench/edit.py [--program FILE] [--runs N] [--edits N]
 
-It runs the program that `rt run` built in crates/zone_edits, on zones of 1,000, 10,000 and 100,000 sets beside the SOA, without edits and with
+It runs the program that `rt run` built in crates/bench_edits, on zones of 1,000, 10,000 and 100,000 sets beside the SOA, without edits and with
 so many. An edit adds one address, at an old name and at a new one in turn; its commit counts the SOA's serial on and tells the difference.
 
 It prints, for each size of zone:
@@ -52,12 +52,12 @@ def measured(program, sets, edits, runs):
 
 def main():
     parser = argparse.ArgumentParser(description=__doc__, formatter_class=argparse.RawDescriptionHelpFormatter)
-    parser.add_argument("--program", default=f"{TOP}/crates/zone_edits/out/zone_edits")
+    parser.add_argument("--program", default=f"{TOP}/crates/bench_edits/out/bench_edits")
     parser.add_argument("--runs", type=int, default=5, help="runs for each number, of which the least time counts")
     parser.add_argument("--edits", type=int, default=20)
     asked = parser.parse_args()
     if not os.path.exists(asked.program):
-        sys.exit(f"no {asked.program}: run rt run in crates/zone_edits first")
+        sys.exit(f"no {asked.program}: run rt run in crates/bench_edits first")
     if not os.path.exists("/usr/bin/time"):
         sys.exit("no /usr/bin/time")
     rows = []

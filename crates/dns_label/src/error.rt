@@ -1,5 +1,5 @@
 // The error of labels and names.
-use dns_numbers::ParseError;
+use crate::octets::ParseError;
 use thiserror::Error;
 
 /// The octets are no label or no name, or the labels of a name are too long together.

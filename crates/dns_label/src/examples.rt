@@ -1,6 +1,7 @@
 // Worked examples, proved by computation.
 ghost use Rattle.std.specs.Prelude.{◌≡◌, ◌∷◌, ◌++◌, [], codes, flat_map, true, false};
 ghost use Rattle.std.specs.declared.cmp.Ordering.TheVariants.{Less, Greater};
+ghost use Rattle.dns_label.specs.Octets.{u48_octets};
 ghost use Rattle.dns_label.specs.LabelOrder.{same_label, label_cmp};
 ghost use Rattle.dns_label.specs.LabelText.{octet_text};
 
@@ -13,4 +14,9 @@ pub fn labels()
     ensures shorter { label_cmp (codes "B") (codes "aa") ≡ Greater }
     ensures prefix { label_cmp (codes "ns") (codes "NS1") ≡ Less }
     ensures escaped { flat_map octet_text (codes "a.b" ++ 7 ∷ []) ≡ codes "a\\.b\\007" }
+{}
+
+/// A time of six octets (RFC 8945, 4.2).
+pub fn wire_forms()
+    ensures time { u48_octets 1000 ≡ 0x00 ∷ 0x00 ∷ 0x00 ∷ 0x00 ∷ 0x03 ∷ 0xe8 ∷ [] }
 {}

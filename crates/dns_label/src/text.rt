@@ -6,7 +6,7 @@ use crate::label::Label;
 use crate::owned::OwnedLabel;
 use std::fmt;
 
-/// An octet of a label: space, dot and backslash behind a backslash, and what doesn't print as three digits.
+/// An octet of a label: space, dot and backslash after a backslash, and what doesn't print as three digits.
 #[derive(Clone, Copy)]
 struct Octet {
     value: u8,

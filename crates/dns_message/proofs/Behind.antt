@@ -1,4 +1,4 @@
--- Octets behind a message that parses change nothing of it.
+-- Octets after a message that parses change nothing of it.
 use Rattle.std.proofs.Common.{◌≡◌, ℕ, zero, suc, ◌+◌, ◌-◌, ◌<◌, ◌≤◌, Bool, true, false, List, [], ◌∷◌, ◌++◌, length, take, drop, Some, None, refl, ap, ◌∙◌, arith, le-leb, leb-true, lt-ltb, ltb-true, nat_le, nat_lt}
 use Rattle.std.specs.Prelude.{Option, ◌==◌, slice_get, slice_range, option_and_then, if◌then◌else◌}
 use Rattle.std.proofs.lemmas.Option.{cond_some}

@@ -139,7 +139,7 @@ records_read m p (r ∷ rs) before after e eb ok =
 
 -- ---- messages
 
--- a built message, whatever stands behind it, parses to its items
+-- a built message, whatever stands after it, parses to its items
 pub parsed-message_wire : (m : Message) (after : List ℕ) → IsMessage m → parsed (message_wire m ++ after) ≡ Some (parsed_of m)
 unfolding parsed
 parsed-message_wire m after ok =

@@ -52,7 +52,7 @@ unfolding items_at readings
 all_read item zero p xs q e = ap (λ ys. map (λ y. Some y) ys) (ap found_items e)
 all_read item (suc n) p xs q e = read_then item n (item p) xs q (all_read item n) e
 
--- ---- one section behind the other
+-- ---- one section after the other
 
 regroup : (found : Option ℕ) (next last : ℕ → Option ℕ) → (found >>= next) >>= last ≡ found >>= (λ p. next p >>= last)
 regroup None next last = refl
@@ -62,7 +62,7 @@ regroup (Some p) next last = refl
 abbrev end_of : {X : Type 0} → Option (List X × ℕ) → Option ℕ
 end_of {X} found = option_map {T = List X × ℕ} (λ r. r.1) found
 
--- a section that has no end isn't read, nor is one that has none behind it
+-- a section that has no end isn't read, nor is one that has none after it
 without : {X Y : Type 0} (found : Option (List X × ℕ)) (next : ℕ → Option ℕ) (result : List X × ℕ → Option Y)
     → ((r : List X × ℕ) → next r.1 ≡ None → result r ≡ None) → end_of found >>= next ≡ None → found >>= result ≡ None
 without None next result rest e = refl
@@ -72,7 +72,7 @@ without_last : {X Y : Type 0} (found : Option (List X × ℕ)) (result : List X 
 without_last None result e = refl
 without_last (Some r) result e = absurd (cc)
 
--- a section behind which an end was reached was read
+-- a section after which an end was reached was read
 record Ends {X : Type 0} (found : Option (List X × ℕ)) (next : ℕ → Option ℕ) (end : ℕ) : Type 0 where
   items : List X
   after : ℕ

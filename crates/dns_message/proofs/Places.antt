@@ -1,4 +1,4 @@
--- Where items of a message end: behind where they begin; so each section begins behind the header.
+-- Where items of a message end: after where they begin; so each section begins after the header.
 use Rattle.std.proofs.Common.{◌≡◌, ℕ, zero, suc, ◌+◌, ◌<◌, ◌≤◌, Bool, true, false, List, [], ◌∷◌, length, refl, sym, ap, arith, nat_le, Option, Some, None}
 use Rattle.std.specs.Prelude.{option_map, unwrap_or, slice_range, if◌then◌else◌}
 use Rattle.std.specs.Int.{w16, w32, from_be_bytes}

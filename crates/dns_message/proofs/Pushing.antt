@@ -106,7 +106,7 @@ message_wire-more_additional m r fits =
     ap (λ k. built_additional m k (front ++ flat_map record_wire (m.additional ++ r ∷ []))) more
     ∙ ap (λ rest. built_additional m n rest) (additional_more front m.additional r)
 
--- and where the last one is taken back, the octets are those of the others, its own being left behind them
+-- and where the last one is taken back, the octets are those of the others, its own being left after them
 pub removed_last : (m : Message) (r : Record) (after : List ℕ) → length m.additional < 65535
     → without_last_additional (message_wire (with_more m r) ++ after) ≡ message_wire m ++ (record_wire r ++ after)
 removed_last m r after few =

@@ -13,7 +13,7 @@ header_at message p = do
   (word, p) ← u16_at message p
   Some (header_of id word, p)
 
--- the counts behind it
+-- the counts after it
 abbrev pub counts_at : List ℕ → ℕ → Option (Counts × ℕ)
 counts_at message p = do
   (qdcount, p) ← u16_at message p
@@ -38,7 +38,7 @@ items_at item (suc n) p = do
   (others, p) ← items_at item n p
   Some (first ∷ others, p)
 
--- what received octets parse to: header and items of the four sections; octets behind the last counted item aren't read
+-- what received octets parse to: header and items of the four sections; octets after the last counted item aren't read
 pub record Parsed : Type 0 where
   pub header : Header
   pub questions : List Question
@@ -83,11 +83,11 @@ authority_start message = answers_start message >>= after_items (raw_record_at m
 abbrev pub additional_start : List ℕ → Option ℕ
 additional_start message = authority_start message >>= after_items (raw_record_at message) (nscount_in message)
 
--- the place behind the last counted item, if all counted items parse
+-- the place after the last counted item, if all counted items parse
 abbrev pub message_end : List ℕ → Option ℕ
 message_end message = additional_start message >>= after_items (raw_record_at message) (arcount_in message)
 
--- whether the octets are a message that parses, with nothing behind its last counted item
+-- whether the octets are a message that parses, with nothing after its last counted item
 abbrev pub is_whole : List ℕ → Bool
 is_whole message = option_map_or (λ end. end == length message) (message_end message) false
 

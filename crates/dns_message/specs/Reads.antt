@@ -4,7 +4,7 @@ use Rattle.dns_rdata.specs.Heads.{RecordIn}
 use Rattle.dns_message.specs.Wire.{Question, header_in, qdcount_in}
 use Rattle.dns_message.specs.Parse.{SectionIn, Parsed, parsed, question_at, readings, answer_readings, authority_readings, additional_readings}
 
--- nothing is left; the next reading, a record of the same message; or the error, behind which nothing is left
+-- nothing is left; the next reading, a record of the same message; or the error, after which nothing is left
 abbrev pub NextReading : {E : Type 0} → SectionIn → Option (Result RecordIn E) → SectionIn → Type 0
 NextReading old None new = (old.left ≡ []) × (new ≡ old)
 NextReading old (Some (Ok r)) new = (old.left ≡ Some r.raw ∷ new.left) × (r.message ≡ old.message) × (new.message ≡ old.message)
@@ -15,7 +15,7 @@ pub record QuestionsIn : Type 0 where
   pub message : List ℕ
   pub left : List (Option Question)
 
--- nothing is left; the next question; or the error, behind which nothing is left
+-- nothing is left; the next question; or the error, after which nothing is left
 abbrev pub NextQuestion : {E : Type 0} → QuestionsIn → Option (Result Question E) → QuestionsIn → Type 0
 NextQuestion old None new = (old.left ≡ []) × (new ≡ old)
 NextQuestion old (Some (Ok q)) new = (old.left ≡ Some q ∷ new.left) × (new.message ≡ old.message)

@@ -45,7 +45,7 @@ head_at p r = record {
   rdlength = length (data_wire r.fields);
 }
 
--- the heads of records one after another from place p on, and the place behind them
+-- the heads of records one after another from place p on, and the place after them
 abbrev pub heads_from : ℕ → List Record → List RawRecord
 heads_from p [] = []
 heads_from p (r ∷ rs) = head_at p r ∷ heads_from (p + length (record_wire r)) rs

@@ -90,7 +90,7 @@ impl Header {
         }
     }
 
-    /// The number in the two octets of flags, behind the id (RFC 1035, 4.1.1; RFC 4035, 3.2 for AD and CD).
+    /// The number in the two octets of flags, after the id (RFC 1035, 4.1.1; RFC 4035, 3.2 for AD and CD).
     pub fn to_word(&self) -> u16
         ensures { result ≡ flags_word self.now }
     {

@@ -35,7 +35,7 @@ pub fn pushed_additional_is_listed()
         → message_wire (record m { additional = m.additional ++ r ∷ [] }) ≡ with_additional (message_wire m) r }
 {}
 
-/// A last additional record that is taken back is one fewer in the list, and its octets stand unread behind the others. Where there is
+/// A last additional record that is taken back is one fewer in the list, and its octets stand unread after the others. Where there is
 /// none, nothing changes.
 pub fn removed_is_unlisted()
     ensures octets { (m : Message) (r : Record) (after : List ℕ) → length m.additional < 65535
@@ -62,7 +62,7 @@ pub fn messages_written_are_read()
     ensures { (m : Message) (after : List ℕ) → IsMessage m → parsed (message_wire m ++ after) ≡ Some (parsed_of m) }
 {}
 
-/// Octets behind a message that parses aren't read: it parses to the same items with any octets behind it.
+/// Octets after a message that parses aren't read: it parses to the same items with any octets after it.
 pub fn octets_behind_are_unread()
     ensures { (message after : List ℕ) (p : Parsed) → parsed message ≡ Some p → parsed (message ++ after) ≡ Some p }
 {}

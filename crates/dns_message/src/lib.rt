@@ -2,7 +2,7 @@
 //!
 //! `MessageBuf` owns its octets and `Message` borrows them; both are made by `from_octets`, of at least 12 octets, and give the
 //! header, the counts, the questions, and the records of each section one at a time. An item is read only where it is asked for;
-//! one that can't be read is an error in its place, behind which its section has no other. `end` tells whether the whole message
+//! one that can't be read is an error in its place, after which its section has no other. `end` tells whether the whole message
 //! can be read. Messages are built in the crate `dns_wire`.
 #![tactic(auto)]
 

@@ -153,8 +153,8 @@ impl<'m> Message<'m> {
         Ok(RecordSection::new(self.octets, pos, self.counts().arcount))
     }
 
-    /// The place behind the last counted item, refused where a counted item can't be read. So this tells whether the message
-    /// parses; octets behind that place are not read.
+    /// The place after the last counted item, refused where a counted item can't be read. So this tells whether the message
+    /// parses; octets after that place are not read.
     pub fn end(&self) -> Result<usize, ParseError>
         ensures found { IfOk result (λ place. message_end self.now ≡ Some place) }
         ensures none { OnErr result (message_end self.now ≡ None) }
@@ -165,7 +165,7 @@ impl<'m> Message<'m> {
         Ok(place)
     }
 
-    /// The place behind the last counted item.
+    /// The place after the last counted item.
     fn end_place(&self) -> Result<usize, ParseError>
         ensures found { IfOk result (λ place. message_end self.now ≡ Some place) }
         ensures none { OnErr result (message_end self.now ≡ None) }
@@ -334,8 +334,8 @@ impl MessageBuf {
         self.as_message().additional()
     }
 
-    /// The place behind the last counted item, refused where a counted item can't be read. So this tells whether the message
-    /// parses; octets behind that place are not read.
+    /// The place after the last counted item, refused where a counted item can't be read. So this tells whether the message
+    /// parses; octets after that place are not read.
     pub fn end(&self) -> Result<usize, ParseError>
         ensures found { IfOk result (λ place. message_end self.now ≡ Some place) }
         ensures none { OnErr result (message_end self.now ≡ None) }
@@ -361,7 +361,7 @@ impl MessageBuf {
         set_number(&mut self.octets, 2, header.to_word());
     }
 
-    /// ARCOUNT one less, and nothing where it is 0. No octet is cut off: what stands behind the last counted item isn't read.
+    /// ARCOUNT one less, and nothing where it is 0. No octet is cut off: what stands after the last counted item isn't read.
     pub fn remove_last_additional(&mut self)
         ensures { self.new ≡ without_last_additional self.old }
     {

@@ -76,7 +76,7 @@ impl<N: Labelled> Question<N> {
 }
 
 impl<'m> Question<ParsedName<'m>> {
-    /// The question at place `pos` of a message, and the place behind it (RFC 1035, 4.1.2).
+    /// The question at place `pos` of a message, and the place after it (RFC 1035, 4.1.2).
     #[tactic(auto, unfolding(crate::specs::Parse::question_at))]
     pub fn parse(
         message: &'m [u8],

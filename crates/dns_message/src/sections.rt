@@ -10,7 +10,7 @@ use dns_name::{ParseError, ParsedName};
 use dns_rdata::ParsedRecord;
 use std::marker::Model;
 
-/// The questions of a message that are left to read. Behind one that can't be read nothing is left.
+/// The questions of a message that are left to read. After one that can't be read nothing is left.
 #[derive(Drop)]
 pub struct QuestionSection<'m> {
     message: &'m [u8],
@@ -35,7 +35,7 @@ impl<'m> QuestionSection<'m> {
         QuestionSection { message, pos, left }
     }
 
-    /// The next question; `None` where none is left; or the error, behind which none is left.
+    /// The next question; `None` where none is left; or the error, after which none is left.
     #[tactic(auto, using(crate::proofs::Items::readings_zero, crate::proofs::Items::readings_more, crate::proofs::Items::readings_none))]
     pub fn next_question(&mut self) -> Option<Result<Question<ParsedName<'m>>, ParseError>>
         ensures { NextQuestion self.old result self.new }
@@ -73,7 +73,7 @@ impl<'m> Iterator for QuestionSection<'m> {
     }
 }
 
-/// The records of a section that are left to read, each by its head and RDLENGTH alone. Behind one that can't be read
+/// The records of a section that are left to read, each by its head and RDLENGTH alone. After one that can't be read
 /// nothing is left.
 #[derive(Drop)]
 pub struct RecordSection<'m> {
@@ -101,7 +101,7 @@ impl<'m> RecordSection<'m> {
         RecordSection { message, pos, left }
     }
 
-    /// The next record; `None` where none is left; or the error, behind which none is left.
+    /// The next record; `None` where none is left; or the error, after which none is left.
     #[tactic(auto, using(crate::proofs::Items::readings_zero, crate::proofs::Items::readings_more, crate::proofs::Items::readings_none))]
     pub fn next_record(&mut self) -> Option<Result<ParsedRecord<'m>, ParseError>>
         ensures { NextReading self.old result self.new }
@@ -139,7 +139,7 @@ impl<'m> Iterator for RecordSection<'m> {
     }
 }
 
-/// The place behind `count` questions that stand one after another from place `pos` on.
+/// The place after `count` questions that stand one after another from place `pos` on.
 #[tactic(auto, using(crate::proofs::Items::after_items_zero, crate::proofs::Items::after_items_more, crate::proofs::Items::after_items_none))]
 pub(crate) fn after_questions(message: &[u8], count: u16, pos: usize) -> Result<usize, ParseError>
     ensures found { IfOk result (λ p. after_items (question_at message.now) count pos ≡ Some p) }
@@ -155,7 +155,7 @@ pub(crate) fn after_questions(message: &[u8], count: u16, pos: usize) -> Result<
     Ok(place)
 }
 
-/// The place behind `count` records that stand one after another from place `pos` on.
+/// The place after `count` records that stand one after another from place `pos` on.
 #[tactic(auto, using(crate::proofs::Items::after_items_zero, crate::proofs::Items::after_items_more, crate::proofs::Items::after_items_none))]
 pub(crate) fn after_records(message: &[u8], count: u16, pos: usize) -> Result<usize, ParseError>
     ensures found { IfOk result (λ p. after_items (raw_record_at message.now) count pos ≡ Some p) }

@@ -50,7 +50,7 @@ split_fits i m h =
     let whole = ap (list_all (λ c. nat_lt c 256)) (take-append-drop i m) ∙ h in
     and_parts _ _ (sym (list_all-append (λ c. nat_lt c 256) (take i m) (drop i m)) ∙ whole)
 
--- the octets behind a length octet are a label
+-- the octets after a length octet are a label
 pub label_within : (m : List ℕ) (p a b c : ℕ) → ((k : ℕ) → get_or m k 0 < 256) → c < 64 → (c ≡ 0 → ⊥) → p + c < length m → a ≡ p + 1 → b ≡ c
     → (p + length (take b (drop a m)) < length m) × (is_label (take b (drop a m)) ≡ true)
 label_within m p a b c fit short some inside ea eb =

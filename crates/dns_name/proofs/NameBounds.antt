@@ -1,4 +1,4 @@
--- Names in messages: what stands at a place, where it ends, and that octets behind the message change nothing.
+-- Names in messages: what stands at a place, where it ends, and that octets after the message change nothing.
 use Rattle.std.proofs.Common.{◌≡◌, ℕ, zero, suc, ◌+◌, ◌-◌, ◌*◌, ◌<◌, ◌≤◌, Bool, true, false, List, [], ◌∷◌, ◌++◌, length, length-append, take, drop, refl, ap, subst, ◌∙◌, arith, lt-ltb, ltb-true, ltb-false, eqb-true, nat_lt, ◌==◌, Option, Some, None, ◌⊎◌, inl, inr, ne_eqb}
 use Rattle.std.specs.Prelude.{IsTrue, slice_get, slice_range, option_and_then, unwrap_or, if◌then◌else◌}
 use Rattle.std.specs.List.{list_all}
@@ -70,7 +70,7 @@ ends_within m (at_pointer p q k to n e rest) = let inside = past_pointer m p to 
 pub name_ends_within : (m : List ℕ) (p : ℕ) (n : Name) (q : ℕ) → name_at m p ≡ Some (n, q) → (p < q) × (q ≤ length m)
 name_ends_within m p n q e = let (k, grammar, few, short) = name_at-NameAt m p n q e in ends_within m grammar
 
--- ---- octets behind the message
+-- ---- octets after the message
 
 get_before : (m more : List ℕ) (p c : ℕ) → slice_get m p ≡ Some c → slice_get (m ++ more) p ≡ Some c
 get_before [] more p c e = absurd (cc e)

@@ -53,7 +53,7 @@ by_pointer m (at_pointer p q k to n e rest) offset h few short =
 pub at_its_pointer : (m : List ℕ) (p offset : ℕ) (n : Name) → Stands m p n → element_at m p ≡ Some (Pointer offset) → Stands m offset n
 at_its_pointer m p offset n s h = let t = spelt m p n s in by_pointer m t.grammar offset h t.few t.short
 
--- a name that begins with this label, and the name behind it
+-- a name that begins with this label, and the name after it
 pub record Begins (m : List ℕ) (place : ℕ) (label : List ℕ) (n : Name) : Type 0 where
   pub rest : Name
   pub labels : n ≡ label ∷ rest

@@ -44,7 +44,7 @@ label_octets l e = (and_parts (nat_lt 0 (length l) && nat_lt (length l) 64) (lis
 pub first_wire : (l : List ℕ) (m : Name) → name_wire (l ∷ m) ≡ length l ∷ (l ++ name_wire m)
 first_wire l m = ap (λ r. length l ∷ r) (append_assoc l (flat_map label_wire m) (0 ∷ []))
 
--- what is behind the first label is a name
+-- what is after the first label is a name
 pub rest_is_name : (l : List ℕ) (m : Name) → is_name (l ∷ m) ≡ true → is_name m ≡ true
 rest_is_name l m h =
     let labels = (and_parts (is_label l) (list_all is_label m) (name_labels (l ∷ m) h)).1 in
@@ -109,7 +109,7 @@ octets_short octets h =
     let same = ap length h.1 in
     omega (arith, short, same)
 
--- ---- a name split behind its first label
+-- ---- a name split after its first label
 
 pub record Split (octets : List ℕ) (n : Name) : Type 0 where
   pub label : List ℕ

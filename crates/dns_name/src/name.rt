@@ -142,7 +142,7 @@ impl<'a> Name<&'a [u8]> {
         rest
     }
 
-    /// The first label and the name behind it, if this isn't the root.
+    /// The first label and the name after it, if this isn't the root.
     pub fn split_first(&self) -> Option<(Label<'a>, NameRef<'a>)>
         ensures { MatchOption result (self.now ≡ []) (λ r. self.now ≡ r.0 ∷ r.1) }
     {

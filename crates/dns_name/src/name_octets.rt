@@ -81,7 +81,7 @@ impl NameOctets {
         Ok(())
     }
 
-    /// Puts a label at the end, behind its length, if there is room for both.
+    /// Puts a label at the end, after its length, if there is room for both.
     pub fn append_label(&mut self, label: &[u8]) -> Result<(), NameError>
         requires { length label.now ≤ 63 }
         ensures ok { OnOk result (self.new ≡ self.old ++ length label.now ∷ label.now) }

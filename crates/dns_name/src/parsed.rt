@@ -8,8 +8,7 @@ use crate::labels::Labels;
 use crate::name::{KeyName, StoredName};
 use crate::name_octets::NameOctets;
 use crate::to_name::{Labelled, ToName};
-use dns_label::Label;
-use dns_numbers::ParseError;
+use dns_label::{Label, ParseError};
 use std::alloc::{AllocError, Global};
 use std::marker::Model;
 
@@ -55,7 +54,7 @@ pub fn piece_at<'m>(message: &'m [u8], pos: usize) -> Result<Piece<'m>, ParseErr
     }
 }
 
-/// The place after a name: behind its first pointer, or else where it ends.
+/// The place after a name: after its first pointer, or else where it ends.
 fn first_end(pointers: u16, after: usize, end: usize) -> usize
     ensures { result ≡ (if pointers == 0 then end else after) }
 {
@@ -135,7 +134,7 @@ impl<'m> ParsedName<'m> {
         }
     }
 
-    /// The first label and the name behind it, if this isn't the root.
+    /// The first label and the name after it, if this isn't the root.
     pub fn split_first(&self) -> Option<(Label<'m>, ParsedName<'m>)>
         ensures { MatchOption result (self.now ≡ []) (λ r. self.now ≡ r.0 ∷ r.1) }
     {

@@ -1,4 +1,3 @@
-pub mod Octets
 pub mod Codes
 pub mod Serial
 pub mod CodeTexts

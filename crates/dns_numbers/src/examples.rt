@@ -1,12 +1,6 @@
 // Worked examples, proved by computation.
-ghost use Rattle.std.specs.Prelude.{◌≡◌, ◌∷◌, [], true, false, None};
-ghost use Rattle.dns_numbers.specs.Octets.{u48_octets};
+ghost use Rattle.std.specs.Prelude.{◌≡◌, true, false, None};
 ghost use Rattle.dns_numbers.specs.Serial.{serial_lt, serial_cmp, serial_add, serial_upto};
-
-/// A time of six octets.
-pub fn wire_forms()
-    ensures time { u48_octets 1000 ≡ 0x00 ∷ 0x00 ∷ 0x00 ∷ 0x00 ∷ 0x03 ∷ 0xe8 ∷ [] }
-{}
 
 /// At distance 2^31 neither serial is less.
 pub fn serials()

@@ -1,8 +1,7 @@
 // Each kind of call once.
 
 use crate::common::{hash_of, prints};
-use dns_label::{Label, NameError, OwnedLabel};
-use dns_numbers::ParseError;
+use dns_name::{Label, NameError, OwnedLabel, ParseError};
 use std::cmp::Ordering;
 use std::process::Abort;
 
@@ -51,7 +50,7 @@ fn order_of<R: Abort>(rt: &R, a: &[u8], b: &[u8]) -> Ordering {
     a.cmp(&b)
 }
 
-/// Labels in ascending order, without case; the octets behind `Z` in ASCII stay where they are.
+/// Labels in ascending order, without case; the octets after `Z` in ASCII stay where they are.
 #[test]
 fn order(rt: HostRuntime) {
     let labels = [

@@ -56,7 +56,7 @@ fn sections_end_at_an_error(rt: HostRuntime) {
     drop(message);
 }
 
-/// A question for `e`, an answer record whose owner points to it, and two octets behind the last counted item.
+/// A question for `e`, an answer record whose owner points to it, and two octets after the last counted item.
 const COMPRESSED: &[u8] = b"\x00\x07\x80\x00\x00\x01\x00\x01\x00\x00\x00\x00\
 \x01e\x00\x00\x01\x00\x01\
 \xc0\x0c\x00\x01\x00\x01\x00\x00\x0e\x10\x00\x04\xc0\x00\x02\x01\

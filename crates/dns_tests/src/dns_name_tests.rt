@@ -116,7 +116,7 @@ fn flattened(rt: HostRuntime) {
     drop(flat);
 }
 
-/// The labels of `ns.example`, the second one behind a pointer.
+/// The labels of `ns.example`, the second one after a pointer.
 #[test]
 fn labels_in_a_message(rt: HostRuntime) {
     let server = name_at(&rt, 27);

@@ -1,7 +1,7 @@
 // Vectors from outside, and each kind of call once.
 
 use crate::common::prints;
-use dns_numbers::{
+use dns_name::{
     Class, Opcode, ParseError, Rcode, Rtype, Serial, TsigRcode, Ttl, parse_octets, parse_u16,
     parse_u32, parse_u48,
 };

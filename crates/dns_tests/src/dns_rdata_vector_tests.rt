@@ -127,7 +127,7 @@ const OWNER: &str = "076578616d706c6500";
 /// Class IN and the TTL 3600.
 const CLASS_AND_TTL: &str = "000100000e10";
 
-/// Asserts whether data are read in a message that goes on with `behind`, and in a record alone.
+/// Asserts whether data are read in a message that goes on with `after`, and in a record alone.
 fn reads<R: Abort>(
     rt: &R,
     alloc: Global,
@@ -286,7 +286,7 @@ fn reads_names<R: Abort>(rt: &R, alloc: Global, rtype: &str, ends: (&str, &str))
 }
 
 /// Asserts that of pointers between these octets the one to the owner is read in a message, and neither the one to itself nor the one to the name
-/// behind it; and that none is read in a record alone.
+/// after it; and that none is read in a record alone.
 fn reads_pointers<R: Abort>(rt: &R, alloc: Global, rtype: &str, ends: (&str, &str)) {
     let (front, back) = ends;
     let here = front.len() / 2 + 19;
@@ -332,7 +332,7 @@ fn compares<R: Abort>(rt: &R, alloc: Global, first: &str, second: &str, wanted: 
     assert_eq!(rt; truths, [true; 2], "{first} {second}");
 }
 
-/// Asserts whether data of so many octets are refused: empty strings of a text, octets of an unknown type, and a digest behind four octets.
+/// Asserts whether data of so many octets are refused: empty strings of a text, octets of an unknown type, and a digest after four octets.
 fn are_refused<R: Abort>(rt: &R, alloc: Global, len: usize, refusal: Option<LongRecordData>) {
     let octets = vec![in alloc; 0; len].expect(rt, "memory");
     let octets = octets.as_slice();

@@ -56,7 +56,7 @@ error_fits limit rcode request room small =
     let P : List ℕ → Type 0 = λ m. fits limit m ≡ true in
     subst P listed (fitting_fits limit start (questions_in request) begins)
 
--- the questions that fit, and the rcode behind them, are the error answer
+-- the questions that fit, and the rcode after them, are the error answer
 pub error_built : (request : List ℕ) (rcode limit : ℕ) (all : Bool) (old now new : Building) (questions : List Question)
     → old ≡ building (header_wire (answer_header (header_in request) 0) ++ replicate 8 0) limit
     → questions ≡ questions_in request → length questions < 2 ^ 16 → length old.octets ≤ old.limit

@@ -31,7 +31,7 @@ questions_longer message [] = omega arith
 questions_longer message (q ∷ questions) =
     omega (arith, item_longer 4 message (question_wire q), questions_longer (with_question message q) questions)
 
--- what doesn't fit still doesn't with more behind it
+-- what doesn't fit still doesn't with more after it
 pub not_fitting : (limit : ℕ) (message longer : List ℕ) → length message ≤ length longer → fits limit message ≡ false → fits limit longer ≡ false
 not_fitting limit message longer more out = grind (arith, nat_tests)
 

@@ -1,4 +1,4 @@
-// A message that is being built, section by section: items are added at its end, so that no section comes behind a later one.
+// A message that is being built, section by section: items are added at its end, so that no section comes after a later one.
 
 ghost use Rattle.std.specs.Prelude.{◌≡◌, ◌≤◌, ◌<◌, ◌^◌, ◌++◌, List, [], ◌∷◌, drop, length, Some, OnOk};
 ghost use Rattle.dns_message.specs.Wire.{header_in, header_wire, question_wire, message_wire, in_answer, in_authority, Header as HeaderOf, Question as QuestionOf, Message as MessageOf};

@@ -10,7 +10,7 @@ then_assoc Less b c = refl
 then_assoc Equal b c = refl
 then_assoc Greater b c = refl
 
--- where the other ends within the front, what stands behind doesn't count
+-- where the other ends within the front, what stands after doesn't count
 pub cut_order : (h d o : List ℕ) → length o < length h → slice_cmp nat_cmp (h ++ d) o ≡ slice_cmp nat_cmp h o
 cut_order [] d o short = absurd (omega (arith, short))
 cut_order (x ∷ h) d [] short = refl

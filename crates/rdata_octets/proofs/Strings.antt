@@ -7,7 +7,7 @@ use Rattle.std.proofs.lemmas.List.{length-drop, length-take, length-take-le, tak
 use Rattle.dns_name.proofs.Elements.{split_fits}
 use Rattle.rdata_octets.specs.Records.{are_strings, are_strings_after, strings_from, strings_in}
 
--- a string that is all there leaves what stands behind it
+-- a string that is all there leaves what stands after it
 pub string_left : (n : ℕ) (o : List ℕ) → n ≤ length o → are_strings_after n o ≡ are_strings_after 0 (drop n o)
 string_left zero o h = refl
 string_left (suc n) [] h = absurd (omega (arith, h))
@@ -37,7 +37,7 @@ bounds_alike (suc n) (suc m) (len ∷ rest) h k =
     let left = length-drop len rest in
     ap (λ ss. take len rest ∷ ss) (bounds_alike n m (drop len rest) (omega (arith, h, left)) (omega (arith, k, left)))
 
--- the first string, and those behind it
+-- the first string, and those after it
 pub strings_more : (len : ℕ) (rest : List ℕ) → strings_in (len ∷ rest) ≡ take len rest ∷ strings_in (drop len rest)
 strings_more len rest =
     ap (λ ss. take len rest ∷ ss) (bounds_alike (length rest) (length (drop len rest)) (drop len rest) (omega (arith, length-drop len rest)) (omega arith))

@@ -89,7 +89,7 @@ head_and_rest : (n : ℕ) (t : List ℕ) → n ≡ length t / 255 + 1 → 255 < 
 head_and_rest zero t e h = absurd (omega (arith, e))
 head_and_rest (suc n) t e h = text_more n t h ∙ ap (λ k. 255 ∷ take 255 t ++ strings_within k (drop 255 t)) (rest_long t n e h)
 
--- one more full string of the text t is written behind a
+-- one more full string of the text t is written after a
 pub text_step : (a c t f r whole : List ℕ) → 255 < length t → c ≡ a ++ (length f ∷ f) → f ≡ take 255 t → r ≡ drop 255 t
     → a ++ text_strings t ≡ whole → c ++ text_strings r ≡ whole
 text_step a c t f r whole h pushed front back so_far =
@@ -101,6 +101,6 @@ last_only : (n : ℕ) (t : List ℕ) → n ≡ length t / 255 + 1 → length t �
 last_only zero t e h = absurd (omega (arith, e))
 last_only (suc n) t e h = text_last n t h
 
--- the last string of the text t is written behind a
+-- the last string of the text t is written after a
 pub text_end : (a c t : List ℕ) → length t ≤ 255 → c ≡ a ++ (length t ∷ t) → c ≡ a ++ text_strings t
 text_end a c t h pushed = pushed ∙ ap (λ x. a ++ x) (sym (last_only (length t / 255 + 1) t refl h))

@@ -4,7 +4,7 @@ ghost use Rattle.dns_name.specs.Names.{name_wire};
 
 use dns_name::Labelled;
 
-/// What is left of the octets behind `front`, if they begin with it.
+/// What is left of the octets after `front`, if they begin with it.
 #[tactic(auto, using(crate::proofs::Fronts::too_short, crate::proofs::Fronts::other_start))]
 pub fn after_front<'o>(octets: &'o [u8], front: &[u8]) -> Option<&'o [u8]>
     ensures { MatchOption result ((rest : List ℕ) → octets.now ≡ front.now ++ rest → ⊥) (λ rest. octets.now ≡ front.now ++ rest.now) }
@@ -16,7 +16,7 @@ pub fn after_front<'o>(octets: &'o [u8], front: &[u8]) -> Option<&'o [u8]>
     if start == front { Some(rest) } else { None }
 }
 
-/// What is left of the octets behind the name as it is sent without compression, if they begin with it.
+/// What is left of the octets after the name as it is sent without compression, if they begin with it.
 pub fn after_name<'o, N: Labelled>(octets: &'o [u8], name: &N) -> Option<&'o [u8]>
     ensures { MatchOption result
         ((rest : List ℕ) → octets.now ≡ name_wire (N.labels name.now) ++ rest → ⊥)

@@ -9,8 +9,8 @@ use std::alloc::Global;
 use std::fmt::Debug;
 use std::process::Abort;
 use zone_diffs::ZoneDiffItem;
-use zone_store::{WriteZone, ZoneApex};
-use zone_types::{Rrset, SharedRrset};
+use zone_sessions::{WriteZone, ZoneApex};
+use zone_values::{Rrset, SharedRrset};
 
 pub(crate) const APEX: &[u8] = b"\x07example\x00";
 

@@ -6,8 +6,8 @@ use dns_rdata::ComposeRecord;
 use dns_wire::{Message, MessageBuf};
 use std::alloc::Global;
 use std::process::Abort;
-use zone_answers::{AnswerRecords, OutOfZone, look_up};
-use zone_store::{ReadZone, ZoneBuilder};
+use zone_lookup::{AnswerRecords, OutOfZone, look_up};
+use zone_sessions::{ReadZone, ZoneBuilder};
 
 /// The zone of RFC 4592, section 2.2.1, a record a line, with SOA data `ns.example.com. host.example. 1 2 3 4 5`, SRV data `0 0 22` and the
 /// owner's host, and TXT data "this is a wildcard" and "this is not a wildcard".
@@ -26,7 +26,7 @@ const WILDCARDS: &str = "\
 ";
 
 /// Questions to it: in each line a name, a type, and what is answered: the rcode, the AA bit, and the records of the answer, authority and additional
-/// sections, the number of each section's records behind them. The first eight are those of RFC 4592, 2.2.1: MX and A of host3, TXT of foo.bar, MX of
+/// sections, the number of each section's records after them. The first eight are those of RFC 4592, 2.2.1: MX and A of host3, TXT of foo.bar, MX of
 /// host1 and of sub.*, SRV of _telnet._tcp.host1, A of host.subdel, MX of ghost.*. Then follow A of _tcp.host2, which has no record and a name below
 /// it, A of a._tcp.host2, and MX of HOST3 in the zone Example.
 const OF_WILDCARDS: &str = "\

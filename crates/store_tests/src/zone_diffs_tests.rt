@@ -5,7 +5,7 @@ use dns_name::{NameRef, Rtype, Serial, Ttl};
 use std::alloc::Global;
 use std::process::Abort;
 use zone_diffs::{EmptyZoneDiff, InMemoryZoneDiffBuilder, ZoneDiff, ZoneDiffError};
-use zone_types::SharedRrset;
+use zone_values::SharedRrset;
 
 fn add<R: Abort>(
     rt: &R,

@@ -9,8 +9,8 @@ use zone_diffs::ZoneDiffError;
 use zone_errors::{
     CommitError, ContextError, InsertError, NodeError, RecordError, UpdateError, ZoneErrors,
 };
-use zone_reading::{AskError, QueryError};
-use zone_types::{CnameError, OutOfZone, WriteApexError, ZoneCutError, ZoneTreeModificationError};
+use zone_handles::{AskError, QueryError};
+use zone_values::{CnameError, OutOfZone, WriteApexError, ZoneCutError, ZoneTreeModificationError};
 use zone_versions::EditError;
 
 /// Asserts that a value says this.

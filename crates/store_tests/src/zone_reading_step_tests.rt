@@ -5,8 +5,8 @@ use crate::zone_reading_tests::zone;
 use dns_name::{Rcode, Rtype};
 use std::alloc::Global;
 use std::process::Abort;
-use zone_reading::{AskError, Step, ask, begin_again, make_steps};
-use zone_store::{ReadZone, WriteZone};
+use zone_handles::{AskError, Step, ask, begin_again, make_steps};
+use zone_sessions::{ReadZone, WriteZone};
 
 fn then<R: Abort>(rt: &R, steps: &mut Vec<Step>, step: Step) {
     steps.push(step).ok().expect(rt, "memory");

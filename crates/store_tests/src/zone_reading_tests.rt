@@ -5,8 +5,8 @@ use dns_name::{Class, Labelled, Rcode, Rtype, ToName};
 use dns_rdata::RecordData;
 use std::alloc::Global;
 use std::process::Abort;
-use zone_reading::{QueryError, ReadableZone, Zone, ZoneStore, is_same};
-use zone_store::{ReadZone, ZoneApex};
+use zone_handles::{QueryError, ReadableZone, Zone, ZoneStore, is_same};
+use zone_sessions::{ReadZone, ZoneApex};
 
 pub(crate) fn zone<R: Abort>(rt: &R, alloc: Global) -> Zone<ZoneApex> {
     let apex = name(rt, alloc, b"\x01c\0");
@@ -44,7 +44,7 @@ fn commit_two<R: Abort>(
     drop(session);
 }
 
-/// The owners that a walk visits, one behind the other.
+/// The owners that a walk visits, one after the other.
 fn owners<R: Abort>(rt: &R, alloc: Global, zone: &ReadZone) -> Vec<u8> {
     let mut owners = Vec::new(alloc);
     zone.walk(&mut |stop| {

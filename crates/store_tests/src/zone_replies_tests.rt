@@ -6,8 +6,8 @@ use dns_rdata::StoredRecord;
 use dns_wire::Message;
 use std::alloc::Global;
 use std::process::Abort;
-use zone_replies::{Answer, AnswerAdditional, AnswerAuthority};
-use zone_types::{SharedRr, SharedRrset};
+use zone_answer::{Answer, AnswerAdditional, AnswerAuthority};
+use zone_values::{SharedRr, SharedRrset};
 
 /// A request with id 1234 in hexadecimal digits, RD, and one question, A of `example.` in IN, that ends at octet 25.
 const REQUEST: &str = "123401000001000000000000 076578616d706c650000010001";
@@ -40,7 +40,7 @@ const SENT_OF_THREE: &str = "\
 ";
 
 /// The same with an address as the answer, 23 octets at `example.`, NS at the root, 14, and a required additional record, 15: the first section that
-/// isn't whole and those behind it are left out.
+/// isn't whole and those after it are left out.
 const SENT_OF_SECTIONS: &str = "\
 004d 123481000001000100010001 076578616d706c650000010001 076578616d706c650000010001 0000003c0004c0000201 00000200010000003c0003016100 00000100010000003c0004c0000201\n\
 004c 123483000001000100010000 076578616d706c650000010001 076578616d706c650000010001 0000003c0004c0000201 00000200010000003c0003016100\n\

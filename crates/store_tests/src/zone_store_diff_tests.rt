@@ -6,7 +6,7 @@ use dns_rdata::ZoneRecordData;
 use std::alloc::Global;
 use std::process::Abort;
 use zone_diffs::{InMemoryZoneDiff, ZoneDiff};
-use zone_store::{ReadZone, WriteZone, ZoneApex};
+use zone_sessions::{ReadZone, WriteZone, ZoneApex};
 
 /// Puts the three addresses at t.
 fn put<R: Abort>(rt: &R, alloc: Global, session: &mut WriteZone<'_>, ttl: u32) {

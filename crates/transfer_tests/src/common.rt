@@ -6,7 +6,7 @@ use std::alloc::Global;
 use std::fmt;
 use std::process::Abort;
 use tsig_port::{Algorithm, Key};
-use zone_store::ZoneApex;
+use zone_sessions::ZoneApex;
 
 /// `example.`
 pub(crate) const EXAMPLE: &[u8] = b"\x07example\0";
@@ -46,7 +46,7 @@ pub(crate) fn empty_zone<R: Abort>(rt: &R, alloc: Global) -> ZoneApex {
     ZoneApex::new(alloc, apex, Class::IN).expect(rt, "memory")
 }
 
-/// Asserts what values print, each with a line's end behind it.
+/// Asserts what values print, each with a line's end after it.
 pub(crate) fn assert_texts<R: Abort, T: fmt::Display>(
     rt: &R,
     alloc: Global,

@@ -14,7 +14,7 @@ use xfr_server::{
     ServiceError, ServiceFeedback, TransportSpecificContext, TsigMiddlewareSvc,
     XfrDataProviderError, XfrMiddlewareSvc,
 };
-use zone_store::{ReadZone, WriteZone};
+use zone_sessions::{ReadZone, WriteZone};
 
 type Primary = PrimaryStack<RefuseSvc, HistoryProvider, Key>;
 
@@ -217,7 +217,7 @@ fn unknown_key_is_told_so(rt: HostRuntime) {
     drop(client);
 }
 
-/// Asserts that a signed question's reply has these first octets, and its signature behind them, which is good.
+/// Asserts that a signed question's reply has these first octets, and its signature after them, which is good.
 fn is_refused<R: Abort>(rt: &R, alloc: Global, grants: bool, class: Class, first: &str) {
     let (items, mut client) = signed_items(rt, alloc, grants, class, KEY);
     let reply = only_reply(rt, alloc, items);

@@ -16,7 +16,7 @@ use xfr_client::{protocol, update};
 use xfr_server::{
     CallResult, Replies, Request, Service, ServiceError, ServiceFeedback, TsigMiddlewareSvc,
 };
-use zone_store::{ReadZone, WalkItem, WriteZone};
+use zone_sessions::{ReadZone, WalkItem, WriteZone};
 use zone_transfer::client::XfrMode;
 use zone_transfer::memory_link::MemoryLink;
 use zone_transfer::outcome::{SyncError, SyncOk};
@@ -217,7 +217,7 @@ fn spelt(alloc: Global, word: &str) -> Result<Vec<u8>, ServiceError> {
     }
 }
 
-/// Appends the octets of words, one behind another.
+/// Appends the octets of words, one after another.
 fn append_words<R: Abort>(rt: &R, alloc: Global, all: &mut Vec<u8>, words: &str) {
     for word in words.split_ascii_whitespace() {
         let octets = spelt(alloc, word).expect(rt, "memory, or a word");
@@ -354,7 +354,7 @@ fn a_request_that_the_link_has_no_room_for(rt: HostRuntime) {
     drop(made);
 }
 
-/// The versions of a zone without records that gets the first case, and behind it the second.
+/// The versions of a zone without records that gets the first case, and after it the second.
 const VERSIONS: &str = "\
 version-0
 version-1 soa first second

@@ -128,7 +128,7 @@ impl Hasher {
     }
 }
 
-/// Up to 128 octets in a block, with zeros behind them.
+/// Up to 128 octets in a block, with zeros after them.
 fn filled_up(octets: &[u8]) -> [u8; 128]
     requires { length octets.now ≤ 128 }
     ensures { result ≡ octets.now ++ replicate (128 - length octets.now) 0 }
@@ -138,7 +138,7 @@ fn filled_up(octets: &[u8]) -> [u8; 128]
     block
 }
 
-/// The key filled up to a block of the algorithm's digest, with zeros behind it (RFC 2104, 2).
+/// The key filled up to a block of the algorithm's digest, with zeros after it (RFC 2104, 2).
 pub fn block_of(algorithm: Algorithm, key: &[u8]) -> [u8; 128]
     ensures { take (block_len algorithm) result ≡ block_key algorithm key.now }
 {

@@ -12,7 +12,7 @@ use std::marker::Model;
 pub trait KeySource {
     ghost use Rattle.std.specs.Prelude.{ℕ, List};
 
-    /// The octets stand next in the first state's stream, and what is left behind them is the second state's.
+    /// The octets stand next in the first state's stream, and what is left after them is the second state's.
     ghost Gives: { Self → List ℕ → Self → Type 0 };
 
     /// How often a call failed.

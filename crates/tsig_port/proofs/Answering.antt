@@ -9,7 +9,7 @@ use Rattle.tsig_keys.specs.declared.digests.Hmac.{Hmac}
 use Rattle.tsig_port.specs.Signers.{later_tsig}
 use Rattle.tsig_port.specs.States.{digested_before}
 
--- the last of some items, and one behind them
+-- the last of some items, and one after them
 pub last_of-append : {A : Type 0} (o : Option A) (xs : List A) (x : A) → last_or o (xs ++ x ∷ []) ≡ Some x
 last_of-append o [] x = refl
 last_of-append o (y ∷ xs) x = last_of-append (Some y) xs x
@@ -36,7 +36,7 @@ later_is false key request_mac (m ∷ ms) message now fudge e is =
     rw last (later_by key request_mac prior message now fudge)
 later_is true key request_mac macs message now fudge e is = absurd (cc e)
 
--- the MAC under way behind a signed answer
+-- the MAC under way after a signed answer
 pub next_chained : (key k : TsigKey) (context : Hmac) (request_mac : List ℕ) (macs : List (List ℕ)) (mac : List ℕ) (made t : Tsig)
     → k ≡ key → mac ≡ made.mac → made ≡ t → HoldsHmac context k.algorithm k.secret (with_len mac)
     → HoldsHmac context key.algorithm key.secret (digested_before request_mac (last_or None (macs ++ t.mac ∷ [])) [])

@@ -1,4 +1,4 @@
--- Lists of answers, each judged behind those before it.
+-- Lists of answers, each judged after those before it.
 use Rattle.std.proofs.Common.{◌≡◌, ℕ, ◌-◌, true, List, [], ◌∷◌, ◌++◌, length, take, refl, sym, ap, ◌∙◌, subst, arith, Option, Some, None, le-ltb}
 use Rattle.std.specs.Prelude.{is_some, if◌then◌else◌}
 use Rattle.std.specs.Option.{option_or}
@@ -12,7 +12,7 @@ use Rattle.tsig_port.specs.declared.errors.ValidationError.TheVariants.{TooManyU
 use Rattle.tsig_port.proofs.Sequences.{unsigned_after}
 
 module _ (fault : List (List ℕ) → List ℕ → Option ValidationError) where
-  -- each passes, behind these and those before it
+  -- each passes, after these and those before it
   abbrev pub Each : List (List ℕ) → List (List ℕ) → Type 0
   Each behind taken = (before after : List (List ℕ)) (message : List ℕ) → taken ≡ before ++ message ∷ after → fault (behind ++ before) message ≡ None
 
@@ -42,7 +42,7 @@ module _ (fault : List (List ℕ) → List ℕ → Option ValidationError) where
       joined behind x (xs ++ m ∷ []) (first_of behind x xs each)
       (one_more (behind ++ x ∷ []) xs m (rest_of behind x xs each) (ap (λ b. fault b m) (append_assoc behind (x ∷ []) xs) ∙ none))
 
-  -- ---- what passes, with more behind it
+  -- ---- what passes, with more after it
 
   pub passing-append : (behind xs ys : List (List ℕ)) → Each behind xs → passing fault behind (xs ++ ys) ≡ xs ++ passing fault (behind ++ xs) ys
   unfolding passing

@@ -35,14 +35,14 @@ answer_taken true request_mac (m ∷ ms) message owner t is begun = absurd (cc (
 answer_taken false request_mac (m ∷ ms) message owner t is begun =
     by_prior request_mac (prior_mac (m ∷ ms)) (unsigned_since (m ∷ ms)) message owner t (begun (λ e. cc e))
 
--- a signed message behind others
+-- a signed message after others
 pub prior_after : (taken : List (List ℕ)) (m : List ℕ) → is_signed m ≡ true → prior_mac (taken ++ m ∷ []) ≡ Some (mac_in m)
 prior_after taken m signed = rw (reverse-append taken (m ∷ []), signed) refl
 
 pub unsigned_after : (taken : List (List ℕ)) (m : List ℕ) → is_signed m ≡ true → unsigned_since (taken ++ m ∷ []) ≡ []
 unsigned_after taken m signed = rw (reverse-append taken (m ∷ []), signed) refl
 
--- an unsigned message behind others
+-- an unsigned message after others
 prior_stays : (taken : List (List ℕ)) (m : List ℕ) → is_signed m ≡ false → prior_mac (taken ++ m ∷ []) ≡ prior_mac taken
 prior_stays taken m bare = rw (reverse-append taken (m ∷ []), bare) refl
 

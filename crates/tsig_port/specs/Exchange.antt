@@ -15,7 +15,7 @@ pub record IsInStep (taken macs : List (List ℕ)) : Type 0 where
   pub all_signed : AllByRecursion (λ m. IsTrue (is_signed m)) taken
   pub same_macs : macs ≡ map mac_in taken
 
--- the TSIG of the server's next answer, behind answers with these MACs
+-- the TSIG of the server's next answer, after answers with these MACs
 abbrev pub next_tsig : TsigKey → List ℕ → List (List ℕ) → Message → ℕ → ℕ → Tsig
 next_tsig key request macs m at fudge = answer_tsig key (mac_in request) (last_or None macs) (message_wire m) at fudge
 
@@ -41,7 +41,7 @@ abbrev pub AnswerIsKept : Type 0
 AnswerIsKept = (key : TsigKey) (request : List ℕ) (macs : List (List ℕ)) (m : Message) (at now fudge : ℕ) → IsExchange key m at now fudge
     → parsed (taken_message (next_answer key request macs m at fudge)) ≡ Some (parsed_of m)
 
--- its octets are those from before it was signed, and the TSIG behind the last counted item, where it isn't read
+-- its octets are those from before it was signed, and the TSIG after the last counted item, where it isn't read
 abbrev pub AnswerKeepsOctets : Type 0
 AnswerKeepsOctets = (key : TsigKey) (request : List ℕ) (macs : List (List ℕ)) (m : Message) (at now fudge : ℕ) → IsExchange key m at now fudge
     → taken_message (next_answer key request macs m at fudge) ≡ message_wire m ++ record_wire (tsig_record key.name (next_tsig key request macs m at fudge))

@@ -1,16 +1,16 @@
--- Answers that are taken one by one, each judged behind those before it (RFC 8945, 5.3.1 and 5.4).
+-- Answers that are taken one by one, each judged after those before it (RFC 8945, 5.3.1 and 5.4).
 use Rattle.std.specs.Prelude.{◌≡◌, ◌↔◌, ◌<◌, ℕ, List, [], ◌∷◌, ◌++◌, length, Some, None}
 use Rattle.tsig_port.specs.Tsig.{TsigKey, mac_in}
 use Rattle.tsig_port.specs.Checked.{unsigned_since, answer_fault, passing, first_fault, strictly_checked, strict_fault, checked, check_fault}
 use Rattle.tsig_port.specs.declared.errors.ValidationError.{ValidationError}
 use Rattle.tsig_port.specs.declared.errors.ValidationError.TheVariants.{TooManyUnsigned}
 
--- each of the answers passes every test behind those before it, where no unsigned one may follow
+-- each of the answers passes every test after those before it, where no unsigned one may follow
 abbrev pub EachPasses : TsigKey → List ℕ → ℕ → List (List ℕ) → Type 0
 EachPasses key request_mac now taken = (before after : List (List ℕ)) (message : List ℕ) → taken ≡ before ++ message ∷ after
     → answer_fault 0 key request_mac now before message ≡ None
 
--- so do no answers, and one more that passes behind them
+-- so do no answers, and one more that passes after them
 abbrev pub PassesOneMore : Type 0
 PassesOneMore = (key : TsigKey) (request_mac : List ℕ) (now : ℕ) (taken : List (List ℕ)) (message : List ℕ) → EachPasses key request_mac now taken
     → answer_fault 0 key request_mac now taken message ≡ None → EachPasses key request_mac now (taken ++ message ∷ [])
@@ -37,13 +37,13 @@ RefusalEndsTheChecked = (key : TsigKey) (request : List ℕ) (now : ℕ) (taken 
     → EachPasses key (mac_in request) now taken → answer_fault 0 key (mac_in request) now taken message ≡ Some e
     → strictly_checked key request now (taken ++ message ∷ more) ≡ taken
 
--- a strict fault is that of the answer behind the strictly checked ones
+-- a strict fault is that of the answer after the strictly checked ones
 abbrev pub FaultIsARefusal : Type 0
 FaultIsARefusal = (key : TsigKey) (request : List ℕ) (now : ℕ) (answers : List (List ℕ)) (e : ValidationError) → strict_fault key request now answers ≡ Some e
     → (message : List ℕ) × ((more : List (List ℕ)) × ((answers ≡ strictly_checked key request now answers ++ message ∷ more)
     × (answer_fault 0 key (mac_in request) now (strictly_checked key request now answers) message ≡ Some e)))
 
--- checked answers stay checked where more follow, which are judged behind them
+-- checked answers stay checked where more follow, which are judged after them
 abbrev pub PrefixStays : Type 0
 PrefixStays = (key : TsigKey) (request : List ℕ) (now : ℕ) (taken more : List (List ℕ)) → EachPasses key (mac_in request) now taken
     → strictly_checked key request now (taken ++ more) ≡ taken ++ passing (answer_fault 0 key (mac_in request) now) taken more
@@ -72,7 +72,7 @@ abbrev pub RefusedStrictly : Type 0
 RefusedStrictly = (key : TsigKey) (request_mac : List ℕ) (now : ℕ) (taken : List (List ℕ)) (message : List ℕ) (e : ValidationError)
     → answer_fault 99 key request_mac now taken message ≡ Some e → answer_fault 0 key request_mac now taken message ≡ Some e
 
--- what passes there passes here if none is unsigned behind the last signed one,
+-- what passes there passes here if none is unsigned after the last signed one,
 abbrev pub PassesStrictly : Type 0
 PassesStrictly = (key : TsigKey) (request_mac : List ℕ) (now : ℕ) (taken : List (List ℕ)) (message : List ℕ)
     → answer_fault 99 key request_mac now taken message ≡ None → length (unsigned_since (taken ++ message ∷ [])) ≡ 0

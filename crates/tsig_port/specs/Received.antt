@@ -15,7 +15,7 @@ signature_left message [] = Unsigned
 signature_left message (None ∷ rest) = Malformed
 signature_left message (Some raw ∷ rest) = if is_tsig raw then signature_last message raw rest else signature_left message rest
 
--- a record that is read begins behind the header, and within the message
+-- a record that is read begins after the header, and within the message
 abbrev pub IsBehindHeader : List ℕ → Option RawRecord → Type 0
 IsBehindHeader message None = Unit {0}
 IsBehindHeader message (Some raw) = (12 ≤ raw.start) × (raw.start < length message)

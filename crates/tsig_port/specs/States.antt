@@ -31,7 +31,7 @@ abbrev pub Answers : ℕ → TsigKey → List ℕ → ℕ → List (List ℕ) �
 Answers most key request_mac now taken old (Ok u) new = (answer_fault most key request_mac now taken old ≡ None) × (new ≡ taken_message old)
 Answers most key request_mac now taken old (Err e) new = (answer_fault most key request_mac now taken old ≡ Some e) × (new ≡ old)
 
--- the fault of an answer whose TSIG isn't there to be checked: the first answer or a later one, behind so many unsigned ones since the
+-- the fault of an answer whose TSIG isn't there to be checked: the first answer or a later one, after so many unsigned ones since the
 -- last signed one, of which at most so many may follow each other (RFC 8945, 5.3.1)
 abbrev pub bare_fault : ℕ → Bool → ℕ → Signature → Option ValidationError
 bare_fault most first unsigned Malformed = Some FormErr

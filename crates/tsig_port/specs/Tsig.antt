@@ -87,7 +87,7 @@ variables owner t = name_wire (fold owner) ++ u16_octets class_any ++ u32_octets
 abbrev pub timers : Tsig → List ℕ
 timers t = u48_octets t.time_signed ++ u16_octets t.fudge
 
--- a MAC behind its length in two octets (RFC 8945, 4.3.1 and 5.3.1)
+-- a MAC after its length in two octets (RFC 8945, 4.3.1 and 5.3.1)
 abbrev pub with_len : List ℕ → List ℕ
 with_len mac = u16_octets (length mac) ++ mac
 
@@ -147,7 +147,7 @@ request_tsig key message time_signed fudge =
     let t = blank_tsig key time_signed fudge (id_in message) noerror [] in
     with_mac key t (request_input message key.name t)
 
--- the TSIG that signs an answer to a request with this MAC, behind signed answers the last of which had that MAC (RFC 8945, 5.3 and 5.3.1)
+-- the TSIG that signs an answer to a request with this MAC, after signed answers the last of which had that MAC (RFC 8945, 5.3 and 5.3.1)
 abbrev pub answer_tsig : TsigKey → List ℕ → Option (List ℕ) → List ℕ → ℕ → ℕ → Tsig
 answer_tsig key request_mac prior_mac message time_signed fudge =
     let t = blank_tsig key time_signed fudge (id_in message) noerror [] in
@@ -171,7 +171,7 @@ abbrev pub signed_answer : TsigKey → List ℕ → Option (List ℕ) → List �
 signed_answer key request_mac prior_mac message time_signed fudge =
     signed_by key message (answer_tsig key request_mac prior_mac message time_signed fudge)
 
--- answers signed one after another at one moment, behind signed answers the last of which had that MAC (RFC 8945, 5.3.1)
+-- answers signed one after another at one moment, after signed answers the last of which had that MAC (RFC 8945, 5.3.1)
 unfoldable pub signed_from : TsigKey → List ℕ → ℕ → ℕ → Option (List ℕ) → List (List ℕ) → List (List ℕ)
 signed_from key request_mac time_signed fudge prior_mac [] = []
 signed_from key request_mac time_signed fudge prior_mac (message ∷ messages) =

@@ -68,10 +68,10 @@ impl<K: KeyRef> ClientSequence<K> {
         })
     }
 
-    /// Takes the next answer: its TSIG is taken off, and its id is set to the original one. Behind a signed answer up to 99 in a row may
+    /// Takes the next answer: its TSIG is taken off, and its id is set to the original one. After a signed answer up to 99 in a row may
     /// have no TSIG: such a one stays as it came, and is not to be trusted before the next signed one, which covers it, was taken.
     /// The first test that an answer fails is the refusal, and leaves state and message as before: `FormErr` where it doesn't parse
-    /// or its TSIG isn't the last record; `ServerUnsigned` for a first answer without TSIG, `TooManyUnsigned` for one behind 99
+    /// or its TSIG isn't the last record; `ServerUnsigned` for a first answer without TSIG, `TooManyUnsigned` for one after 99
     /// unsigned ones; `ServerBadKey` and `ServerBadSig` as the server says; `BadKey` where the TSIG is of another key; `BadTrunc`
     /// where its MAC is too short; `BadSig` where the MAC is another; `ServerBadTime` as the server says; `BadTime` where the moment
     /// isn't within the fudge (RFC 8945, 5.3, 5.3.1 and 5.4).
@@ -173,7 +173,7 @@ impl<K: KeyRef> ClientSequence<K> {
     }
 }
 
-/// The MAC of an answer under way, all of it taken: behind what was digested before, the message and its TSIG variables, or in a
+/// The MAC of an answer under way, all of it taken: after what was digested before, the message and its TSIG variables, or in a
 /// later answer the timers (RFC 8945, 5.3 and 5.3.1).
 fn answer_context(
     mut context: Hmac,

@@ -67,7 +67,7 @@ fn start_refusal(
     empty_reply(request, message, Rcode::NOTAUTH)
 }
 
-/// The reply with this TSIG record behind it.
+/// The reply with this TSIG record after it.
 fn put_tsig(reply: AdditionalBuilder, tsig: TsigRecord) -> Result<AdditionalBuilder, PushError>
     ensures { arcount_in reply.octets ≡ 0 → Builds (with_additional reply.octets (tsig_record tsig.owner tsig.tsig)) reply.limit result }
 {

@@ -104,7 +104,7 @@ pub fn update_timers<O: AsSlice<u8> + Drop, N: Labelled + Drop>(
     context.update(&tsig.fudge().to_be_bytes());
 }
 
-/// Takes octets behind their number in two octets, as a prior MAC (RFC 8945, 4.3.1 and 5.3.1).
+/// Takes octets after their number in two octets, as a prior MAC (RFC 8945, 4.3.1 and 5.3.1).
 pub fn update_counted(context: &mut Hmac, octets: &[u8])
     requires { length octets.now < 65536 }
     ensures { (algorithm : Algorithm) (key text : List ℕ) → HoldsHmac context.old algorithm key text → HoldsHmac context.new algorithm key (text ++ with_len octets.now) }

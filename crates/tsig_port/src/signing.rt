@@ -69,7 +69,7 @@ pub fn sign_later(
     tsig.with_mac(sent_mac(key, context))
 }
 
-/// A MAC by the key that has taken this MAC behind its length, as the MAC of the next message begins.
+/// A MAC by the key that has taken this MAC after its length, as the MAC of the next message begins.
 pub fn chained(key: &Key, mac: &[u8]) -> Hmac
     requires { length mac.now < 65536 }
     ensures { HoldsHmac result key.now.algorithm key.now.secret (with_len mac.now) }

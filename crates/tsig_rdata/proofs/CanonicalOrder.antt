@@ -19,7 +19,7 @@ use Rattle.tsig_rdata.specs.CanonicalTsig.{canonical_wire, canonical_tsig_cmp, t
 abbrev cmp : List ℕ → List ℕ → Ordering
 cmp a b = slice_cmp nat_cmp a b
 
--- what stands behind the two lists counts only where they are equal
+-- what stands after the two lists counts only where they are equal
 abbrev Splits : List ℕ → List ℕ → Type 0
 Splits a b = (x y : List ℕ) → cmp (a ++ x) (b ++ y) ≡ ordering_then (cmp a b) (cmp x y)
 
@@ -31,7 +31,7 @@ behind Greater p q r e = refl
 pub tied : (h f : List ℕ) → cmp h f ≡ Equal → h ≡ f
 tied h f e = (bytes_decides h f).0 (texts_ties h f ∙ ap is_eq e)
 
--- parts that split, one behind the other, where the second ones need to split only behind equal first ones
+-- parts that split, one after the other, where the second ones need to split only after equal first ones
 joined : (h f a b : List ℕ) → Splits h f → (h ≡ f → Splits a b) → Splits (h ++ a) (f ++ b)
 joined h f a b s t x y =
     let first : cmp (h ++ a ++ x) (f ++ b ++ y) ≡ ordering_then (cmp h f) (cmp (a ++ x) (b ++ y)) = rw (append_assoc h a x, append_assoc f b y) (s (a ++ x) (b ++ y)) in

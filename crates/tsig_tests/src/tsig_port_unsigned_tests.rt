@@ -5,7 +5,7 @@ use std::alloc::Global;
 use std::process::Abort;
 use tsig_port::{Algorithm, ClientSequence, Key, Mac, Time48, Tsig, TsigRecord, ValidationError};
 
-/// The MAC of an answer behind a signed one and 99 unsigned ones, computed by another program.
+/// The MAC of an answer after a signed one and 99 unsigned ones, computed by another program.
 const LAST_MAC: &str = "e5e3ba90166ec3991b6acd9c229791dfba44c890aa9e205aef871e877a7b65f7";
 
 /// A client that has taken one answer, a signed one.

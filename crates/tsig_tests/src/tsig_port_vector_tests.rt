@@ -46,7 +46,7 @@ const TIME: u64 = 0x01_0203_0405;
 
 const SECRET: &str = "0102030405060708090a0b0c0d0e0f101112131415161718191a1b1c1d1e1f20";
 
-/// The word before the first space of a row, and what stands behind that.
+/// The word before the first space of a row, and what stands after that.
 fn word<'a, R: Abort>(rt: &R, row: &'a str) -> (&'a str, &'a str) {
     row.split_once(' ').expect(rt, "a word")
 }
@@ -85,7 +85,7 @@ fn sha256_key<R: Abort>(rt: &R, alloc: Global) -> Key {
     key_of_len(rt, alloc, Algorithm::Sha256, 32, b"\x07Xfr-Key\0")
 }
 
-/// Asserts that the message is that line of `UNSIGNED`, with octets behind it that no section counts.
+/// Asserts that the message is that line of `UNSIGNED`, with octets after it that no section counts.
 fn is_unsigned<R: Abort>(rt: &R, alloc: Global, message: &MessageBuf, place: usize) {
     let bare = unsigned(rt, alloc, place);
     let counted = message.as_slice().starts_with(bare.as_slice());

@@ -24,7 +24,7 @@ pub bind_some : {A B : Type 0} (o : Option A) (f : A → Option B) (y : B) → (
 bind_some (Some x) f y e = record { found = x; first = refl; then_so = e }
 bind_some None f y e = absurd (cc)
 
--- the first of items, and those behind it
+-- the first of items, and those after it
 pub record Items {X : Type 0} (item : ℕ → Option (X × ℕ)) (n p : ℕ) (xs : List X) (q : ℕ) : Type 0 where
   pub head : X
   pub place : ℕ
@@ -72,7 +72,7 @@ if_some : {A : Type 0} (b : Bool) (x y : A) → (if b then Some x else None) ≡
 if_some true x y e = cc e
 if_some false x y e = absurd (cc e)
 
--- a number of two octets, and the place behind it
+-- a number of two octets, and the place after it
 pub number_read : (m : List ℕ) (p n q : ℕ) → u16_at m p ≡ Some (n, q) → (n ≡ header_number p m) × (q ≡ p + 2)
 number_read m p n q e =
     let a = bind_some (octets_at 2 m p) _ _ e in

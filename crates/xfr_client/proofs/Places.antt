@@ -1,4 +1,4 @@
--- Places behind the first record: the mode isn't asked any more, and none of them is the second place again.
+-- Places after the first record: the mode isn't asked any more, and none of them is the second place again.
 use Rattle.std.proofs.Common.{◌≡◌, Bool, true, false, List, [], ◌∷◌, refl, ap, ◌∙◌}
 use Rattle.std.specs.Prelude.{◌&&◌, not, is_some, if◌then◌else◌}
 use Rattle.dns_rdata.specs.Records.{Record}
@@ -8,7 +8,7 @@ use Rattle.zone_model.specs.Machine.{Place, AtStart, AtSecond, InWhole, InDelete
 use Rattle.xfr_client.specs.Places.{is_at_second}
 use Rattle.xfr_client.specs.Rest.{asks_again}
 
--- behind the first record
+-- after the first record
 abbrev pub is_begun : Place → Bool
 is_begun AtStart = false
 is_begun (AtSecond s) = true
@@ -17,7 +17,7 @@ is_begun (InDeletes s) = true
 is_begun (InAdds s) = true
 is_begun AtEnd = true
 
--- behind the second
+-- after the second
 abbrev is_later : Place → Bool
 is_later AtStart = false
 is_later (AtSecond s) = false
@@ -62,7 +62,7 @@ step_mode mode (InDeletes s) r h = refl
 step_mode mode (InAdds s) r h = refl
 step_mode mode AtEnd r h = refl
 
--- the mode isn't asked behind the first record
+-- the mode isn't asked after the first record
 pub any_mode : (mode : Mode) (xs : List Item) (p : Place) → is_begun p ≡ true → run_items mode p xs ≡ run_items Axfr p xs
 any_mode mode [] p h = refl
 any_mode mode (Good r ∷ xs) p h =
@@ -79,7 +79,7 @@ no_more : (b : Bool) → (b && false) ≡ false
 no_more true = refl
 no_more false = refl
 
--- a text stays at its second place exactly where nothing was read behind the first record
+-- a text stays at its second place exactly where nothing was read after the first record
 pub signal_told : (xs : List Item) (p : Place) → is_begun p ≡ true → (is_at_second (run_items Axfr p xs).place && not (is_some (first_fault xs))) ≡ asks_again true (run_items Axfr p xs)
 signal_told [] AtStart h = refl
 signal_told [] (AtSecond s) h = refl

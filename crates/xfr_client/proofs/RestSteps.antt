@@ -14,7 +14,7 @@ use Rattle.xfr_client.specs.Told.{run_of}
 use Rattle.xfr_client.specs.Items.{items_left}
 use Rattle.xfr_client.specs.Rest.{NextTold, rest_of}
 
--- behind the end nothing is told
+-- after the end nothing is told
 pub at_end_stays : (xs : List Item) → (run_items Axfr machine.AtEnd xs).place ≡ machine.AtEnd
 at_end_stays [] = refl
 at_end_stays (Good r ∷ xs) = at_end_stays xs
@@ -25,7 +25,7 @@ at_end_tells [] = refl
 at_end_tells (Good r ∷ xs) = at_end_tells xs
 at_end_tells (Bad f ∷ xs) = refl
 
--- a record behind the end
+-- a record after the end
 pub tells_after_end : (s t : SectionIn) (p q : Place) (f : Bool) (r : Record) → items_left s ≡ Good r ∷ items_left t
     → run_of q told.AfterEnd ≡ step Axfr (place_of p) r → place_of q ≡ machine.AtEnd
     → NextTold (rest_of s p None f false) (Some (Err error.AlreadyFinished)) (rest_of t q None f true)

@@ -16,7 +16,7 @@ items_begin o m h e = h.begins e
 pub items_are : (o : List ℕ) (m : ReadMessage) → IsReadAs o m → map (item_in o) (answer_readings o) ≡ map record_item m.answers
 items_are o m h = h.items
 
--- behind the first item the others are left
+-- after the first item the others are left
 pub left_behind : {E : Type 0} (old new : List Item) (res : Option (Result Record E)) (x : Option Record) (xs : List (Option Record)) → NextItem old res new
     → old ≡ record_item x ∷ map record_item xs → new ≡ map record_item xs
 left_behind old new None x xs h e = absurd (cc (h.0, e))

@@ -29,7 +29,7 @@ begun_place (InDeletes s) = refl
 begun_place (InAdds s) = refl
 begun_place AtEnd = refl
 
--- a run behind some updates
+-- a run after some updates
 abbrev behind : List Update → Run → Run
 behind us a = record a { updates = us ++ a.updates }
 

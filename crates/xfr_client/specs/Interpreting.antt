@@ -37,7 +37,7 @@ abbrev pub answer_here : List ℕ → Option RawRecord → Option Record
 answer_here octets None = None
 answer_here octets (Some raw) = readable octets raw
 
--- what octets say up to the end of their answers, whatever stands behind those: the records up to the first place where none stands
+-- what octets say up to the end of their answers, whatever stands after those: the records up to the first place where none stands
 abbrev pub sections_here : List ℕ → ReadMessage
 sections_here octets = record { header = header_in octets; questions = questions_in octets; answers = map (answer_here octets) (answer_readings octets); authority = nscount_in octets }
 
@@ -100,7 +100,7 @@ abbrev pub Asks : ReadMessage → Result Bool Error → Type 0
 Asks m (Ok b) = (asks_transfer m.questions ≡ true) × (mode_asked m.questions ≡ (if b then Ixfr else Axfr))
 Asks m (Err e) = (asks_transfer m.questions ≡ false) × (e ≡ error.Malformed)
 
--- where a first message leads behind its first record
+-- where a first message leads after its first record
 pub record Begins (m : ReadMessage) (p : Place) : Type 0 where
   pub first : Record
   pub others : List (Option Record)

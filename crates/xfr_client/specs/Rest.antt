@@ -14,7 +14,7 @@ use Rattle.xfr_client.specs.Places.{place_of, is_at_second}
 use Rattle.xfr_client.specs.Causes.{update_of}
 use Rattle.xfr_client.specs.Items.{items_left}
 
--- what an iterator over a message has still to tell: a run, and whether behind it the message asks for another way of transfer
+-- what an iterator over a message has still to tell: a run, and whether after it the message asks for another way of transfer
 pub record Rest : Type 0 where
   pub run : Run
   pub retry : Bool
@@ -27,7 +27,7 @@ abbrev pub updates_in_hand : Option (ZoneUpdate Record) → List Update
 updates_in_hand None = []
 updates_in_hand (Some u) = update_of u ∷ []
 
--- where records are read from a place on, behind an update in hand
+-- where records are read from a place on, after an update in hand
 abbrev pub rest_from : Run → Bool → Option (ZoneUpdate Record) → Rest
 rest_from a is_first in_hand = record { run = record a { updates = updates_in_hand in_hand ++ a.updates }; retry = asks_again is_first a }
 
@@ -35,7 +35,7 @@ abbrev pub rest_of : SectionIn → Place → Option (ZoneUpdate Record) → Bool
 rest_of section place in_hand is_first true = rest_from (went (place_of place) []) false in_hand
 rest_of section place in_hand is_first false = rest_from (run_items Axfr (place_of place) (items_left section)) is_first in_hand
 
--- behind an error nothing is left
+-- after an error nothing is left
 abbrev pub nothing_behind : Rest → Rest
 nothing_behind old = record { run = went old.run.place []; retry = false }
 

@@ -23,7 +23,7 @@ fault_told told.AfterEnd = Some AfterEnd
 abbrev pub run_of : Place → Told → Run
 run_of p t = record { place = place_of p; updates = updates_told t; fault = fault_told t }
 
--- what is refused stands behind the end
+-- what is refused stands after the end
 abbrev pub EndsBefore : Place → Told → Type 0
 EndsBefore p (told.One u) = Unit {0}
 EndsBefore p (told.Whole r) = Unit {0}

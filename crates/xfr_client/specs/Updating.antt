@@ -12,7 +12,7 @@ pub record Updating : Type 0 where
   pub replacing : Bool
   pub finished : Bool
 
--- the progress that an updater and its session stand for, behind these commits
+-- the progress that an updater and its session stand for, after these commits
 abbrev pub progress_of : Updating → Session → List Version → Progress
 progress_of u s committed = record { committed = committed; pending = s.pending; replacing = u.replacing; finished = u.finished }
 

@@ -78,7 +78,7 @@ impl XfrResponseInterpreter {
 
     /// Tests one message, moves over its answer records, and gives the updates that they say.
     ///
-    /// Errors, in this order: `Finished` behind the end; `NotValidXfrResponse` where header or counts aren't those of
+    /// Errors, in this order: `Finished` after the end; `NotValidXfrResponse` where header or counts aren't those of
     /// a transfer's reply; `ParseError` where the answer section can't be reached; for a first message `Malformed`
     /// where it asks for something else or its first record can't be read, and `NotValidXfrResponse` where that
     /// record is no SOA. The interpreter is then as before.
@@ -88,7 +88,7 @@ impl XfrResponseInterpreter {
     ) -> Result<XfrZoneUpdateIterator<'m>, Error>
         ensures ok { (m : ReadMessage) → message_of message.now ≡ Some m → IfOk result (λ rest. Interprets self.old m rest self.new) }
         ensures refused { (m : ReadMessage) → message_of message.now ≡ Some m → IfErr result (λ e. Refuses self.old m e) }
-        // So it is with any octets whose answer section can be reached, whatever stands behind that.
+        // So it is with any octets whose answer section can be reached, whatever stands after that.
         ensures sections_ok { (answers_start message.now ≡ None → ⊥) → IfOk result (λ rest. Interprets self.old (sections_here message.now) rest self.new) }
         ensures sections_refused { (answers_start message.now ≡ None → ⊥) → IfErr result (λ e. Refuses self.old (sections_here message.now) e) }
         ensures unreached { answers_start message.now ≡ None → result ≡ Err (unreached self.old message.now) }
@@ -105,7 +105,7 @@ impl XfrResponseInterpreter {
     }
 }
 
-// A message: its updates, the place behind it, and whether it asks for another way of transfer.
+// A message: its updates, the place after it, and whether it asks for another way of transfer.
 fn taken<'m>(
     place: &Option<Place>,
     message: &'m MessageBuf,
@@ -182,7 +182,7 @@ fn answers(message: &MessageBuf) -> Result<RecordSection<'_>, Error>
     }
 }
 
-// The answer section behind its first record.
+// The answer section after its first record.
 fn behind_first(message: &MessageBuf) -> Result<RecordSection<'_>, Error>
     ensures { (m : ReadMessage) (x : Option Record) (xs : List (Option Record)) → IsReadAs message.now m → m.answers ≡ x ∷ xs → IsOkAnd result (λ s. items_left s ≡ map record_item xs) }
 {
@@ -224,7 +224,7 @@ fn is_transfer_head(message: &MessageBuf, is_first: bool) -> bool
     has_good_counts(message.counts(), is_first)
 }
 
-// Where a first message stands behind its first record.
+// Where a first message stands after its first record.
 fn first_place(message: &MessageBuf) -> Result<Place, Error>
     ensures read { (m : ReadMessage) → IsReadAs message.now m → BeginsAt m result }
     ensures unreached { answers_start message.now ≡ None → result ≡ Err (unreached_fault true message.now) }
@@ -276,7 +276,7 @@ fn asks_changes(message: &MessageBuf) -> Result<bool, Error>
     }
 }
 
-// The place behind all records up to the first that can't be read, and whether there is such a one.
+// The place after all records up to the first that can't be read, and whether there is such a one.
 fn run_over(mut place: Place, mut section: RecordSection<'_>) -> (Place, bool)
     ensures place { place_of result.0 ≡ (run_items Axfr (place_of place) (items_left section.entry)).place }
     ensures bad { result.1 ≡ is_some (first_fault (items_left section.entry)) }

@@ -33,7 +33,7 @@ impl<'m> Model for XfrZoneUpdateIterator<'m> {
 }
 
 impl<'m> XfrZoneUpdateIterator<'m> {
-    /// The updates of these records, read from a place on, behind one in hand.
+    /// The updates of these records, read from a place on, after one in hand.
     pub(crate) fn new(
         section: RecordSection<'m>,
         place: Place,

@@ -1,4 +1,4 @@
-// Where a transfer's text stands behind its first record, and what one more record says there
+// Where a transfer's text stands after its first record, and what one more record says there
 // (RFC 5936, 2.2; RFC 1995, 4).
 ghost use Rattle.std.specs.Prelude.{◌≡◌};
 ghost use Rattle.zone_model.specs.TransferText.{Mode, is_soa};
@@ -14,7 +14,7 @@ use dns_rdata::ReadRecord;
 /// A place in the text; each but the end keeps the text's first SOA record.
 #[derive(Drop)]
 pub enum Place {
-    /// Behind the first record of an answer that may yet be of either form.
+    /// After the first record of an answer that may yet be of either form.
     AtSecond(FirstSoa),
     /// Among the records of a whole zone.
     InWhole(FirstSoa),
@@ -22,7 +22,7 @@ pub enum Place {
     InDeletes(FirstSoa),
     /// Among the adds of a batch.
     InAdds(FirstSoa),
-    /// Behind the last SOA record.
+    /// After the last SOA record.
     AtEnd,
 }
 
@@ -81,11 +81,11 @@ pub enum Told<'m> {
     One(ZoneUpdate<ReadRecord<'m>>),
     /// The records all go, and this one is the first to be added.
     Whole(ReadRecord<'m>),
-    /// Nothing: the record stands behind the end.
+    /// Nothing: the record stands after the end.
     AfterEnd,
 }
 
-/// The place behind one more record, and what that record says.
+/// The place after one more record, and what that record says.
 pub fn step<'m>(place: Place, found: ReadRecord<'m>) -> (Place, Told<'m>)
     ensures says { (mode : Mode) → run_of result.0 result.1 ≡ step mode (place_of place) found.entry }
     ensures ends { EndsBefore result.0 result.1 }

@@ -25,7 +25,7 @@ pub enum IterationError {
     /// A record can't be read.
     #[error("a record can't be parsed")]
     ParseError,
-    /// A record stands behind the transfer's end in its message.
+    /// A record stands after the transfer's end in its message.
     #[error("a record stands behind the end of the transfer")]
     AlreadyFinished,
     /// The first message answers a question for changes with one SOA alone: ask again, for the whole zone or by

@@ -18,7 +18,7 @@ use dns_name::{StoredName, Ttl};
 use dns_rdata::{ReadRecord, RecordData, Soa, StoredRecord, ZoneRecordData};
 use std::alloc::{AllocError, Global};
 use std::marker::Model;
-use zone_store::{CommitError, EditError, ReadZone, WriteZone};
+use zone_sessions::{CommitError, EditError, ReadZone, WriteZone};
 
 /// Applies the updates of one transfer to a writing session (RFC 5936, 3; RFC 1995, 4).
 ///

@@ -35,7 +35,7 @@ client_at c a h signed = record { begun = true; place = a.place; progress = h.pr
 abbrev client_with : Course → List Item → Bool → Client
 client_with c xs signed = client_at c (run_items c.mode AtStart xs) (held c xs) signed
 
--- items behind a halt change no more than the run
+-- items after a halt change no more than the run
 held_stays : (c : Course) (xs ys : List Item) (e : Halt) → (held c xs).halt ≡ Some e → held c (xs ++ ys) ≡ held c xs
 held_stays c xs ys e h = by (first_fault xs) refl
   where
@@ -135,7 +135,7 @@ end_met c xs signed h e = by (run_items c.mode AtStart xs).fault refl
       is = ap (λ o. met_after c o a.fault None (is_at_end a.place) signed) h ∙ ap (λ o. met_after c None o None (is_at_end a.place) signed) g ∙ ap (λ b. met_after c None None None b signed) ((run_reads c.mode xs).ended ∙ e);
     }
 
--- a halt decides, whatever comes behind it
+-- a halt decides, whatever comes after it
 halt_final : (c : Course) (xs ys : List Item) (a b : Bool) (e : Halt) → (held c xs).halt ≡ Some e → Final c (client_with c xs a) (xs ++ ys) b
 halt_final c xs ys a b e h =
     let r : Run = run_items c.mode AtStart xs in

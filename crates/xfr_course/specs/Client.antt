@@ -57,7 +57,7 @@ pub record ClientSays (c : Course) : Type 0 where
 abbrev pub ClientMeets : Type 0
 ClientMeets = (c : Course) → ClientSays c
 
--- an outcome that was met is the outcome whatever is checked behind it, with the versions made by then
+-- an outcome that was met is the outcome whatever is checked after it, with the versions made by then
 pub record Decided (c : Course) (ks more : List Checked) (o : Outcome) : Type 0 where
   pub outcome : outcome (record c { checked = ks ++ more }) ≡ o
   pub made : made (record c { checked = ks ++ more }) ≡ made (record c { checked = ks })
@@ -75,12 +75,12 @@ CourseOn = (c : Course) (cl : Client) (ks more : List Checked) → take_course c
 
 -- Want of memory.
 
--- versions, and some that come behind them
+-- versions, and some that come after them
 pub record IsPart (short long : List Version) : Type 0 where
   pub rest : List Version
   pub is : long ≡ short ++ rest
 
--- a client that gives up anywhere, behind some checked messages and some updates of the next one, has committed a first part of the versions made
+-- a client that gives up anywhere, after some checked messages and some updates of the next one, has committed a first part of the versions made
 abbrev pub PartIsMade : Type 0
 PartIsMade = (c : Course) (ks : List Checked) (k : Checked) (more : List Checked) (us vs : List Update) → (take_course c (new_client c) ks).met ≡ None
     → (run_message c (take_course c (new_client c) ks) k).updates ≡ us ++ vs

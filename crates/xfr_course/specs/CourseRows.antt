@@ -40,7 +40,7 @@ refused_course number = record (course Ixfr 251 history_1 (reply 251 (zone_rows.
 abbrev pub lone_course : ℕ → ℕ → Course
 lone_course base found = course Ixfr 251 (zone_rows.zone (zone_rows.soa base ∷ [])) (reply 251 (zone_rows.soa found ∷ []) ∷ [])
 
--- a refused edit, and a record behind the end
+-- a refused edit, and a record after the end
 abbrev pub refused_and_behind : Course
 refused_and_behind = course Ixfr 251 history_1 (reply 251 (zone_rows.soa 2 ∷ zone_rows.soa 1 ∷ zone_rows.address zone_rows.nezu 6 ∷ zone_rows.soa 2 ∷ zone_rows.soa 2 ∷ zone_rows.soa 2 ∷ []) ∷ [])
 
@@ -96,7 +96,7 @@ spoilt_reply = slice_set whole_reply 122 99
 abbrev pub other_id_reply : List ℕ
 other_id_reply = slice_set whole_reply 0 9
 
--- that zone in two answers, both signed; an unsigned one that ends it, and a signed one behind that
+-- that zone in two answers, both signed; an unsigned one that ends it, and a signed one after that
 abbrev pub two_answers : List Message
 two_answers = message_rows.reply (data_rows.soa 1 ∷ data_rows.ns_record ∷ []) ∷ message_rows.reply (data_rows.address 1 ∷ data_rows.soa 1 ∷ []) ∷ []
 
@@ -138,7 +138,7 @@ two_octets = 1 ∷ 2 ∷ []
 abbrev pub eleven_octets : List ℕ
 eleven_octets = replicate 11 0
 
--- a header that counts one question, and nothing behind it
+-- a header that counts one question, and nothing after it
 abbrev pub lacks_question : List ℕ
 lacks_question = 0 ∷ 0 ∷ 0 ∷ 0 ∷ 0 ∷ 1 ∷ replicate 6 0
 

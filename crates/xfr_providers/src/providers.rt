@@ -13,7 +13,7 @@ use std::marker::Model;
 use thiserror::Error;
 use tsig_port::{Algorithm, Key, KeyRef};
 use xfr_services::Request;
-use zone_store::ReadZone;
+use zone_sessions::ReadZone;
 
 /// What a provider gives for a transfer: one version of a zone, and how its messages are filled. Contracts see an offer.
 #[derive(Drop)]

@@ -15,7 +15,7 @@ use Rattle.xfr_server.specs.Texts.{transfer_message, with_answers, have_room, Ad
 use Rattle.xfr_server.proofs.Answers.{with_none, with_more, with_append, room_none, room_more, room_short, room_full, room_behind, room_refused, held_transfer, written_transfer}
 use Rattle.xfr_server.proofs.Middle.{middle_by_stops}
 
--- ---- no record, one record, and records behind records
+-- ---- no record, one record, and records after records
 
 pub adds_none : (rs : List Record) (old : Building) (u : Unit {0}) → rs ≡ [] → AddsAnswers rs old (Ok u) old
 adds_none rs old u e =
@@ -42,7 +42,7 @@ refused_front xs ys old new after ShortBuf added = room_refused old.limit old.oc
 refused_front xs ys old new after CountOverflow added = room_refused old.limit old.octets xs ys added
 refused_front xs ys old new after Memory added = tt
 
--- records behind a front that was added
+-- records after a front that was added
 pub adds_behind : (xs ys : List Record) (old mid new : Building) (u : Unit {0}) (result : Result (Unit {0}) PushError)
     → AddsAnswers xs old (Ok u) mid → AddsAnswers ys mid result new → AddsAnswers (xs ++ ys) old result new
 adds_behind xs ys old mid new u (Ok v) front back =

@@ -60,7 +60,7 @@ room_full limit message r rs full =
     let same : (ancount_in message == 65535) ≡ true = grind (arith, nat_tests) in
     room_at limit message r rs ∙ second_false (fits limit (with_answer message r)) (ancount_in message == 65535) (have_room limit (with_answer message r) rs) same
 
--- ---- records behind records
+-- ---- records after records
 
 pub with_append : (message : List ℕ) (xs ys : List Record) → with_answers message (xs ++ ys) ≡ with_answers (with_answers message xs) ys
 unfolding with_answers
@@ -128,7 +128,7 @@ longer h qs xs ys =
       length-append (flat_map record_wire xs) (flat_map record_wire ys),
     )
 
--- what can't be held still can't with more behind it
+-- what can't be held still can't with more after it
 short_then : (limit : ℕ) (h : Header) (qs : List Question) (xs ys : List Record) → fits limit (message_wire (in_answer h qs xs)) ≡ false
     → can_hold limit (in_answer h qs (xs ++ ys)) ≡ false
 short_then limit h qs xs ys out =
@@ -168,7 +168,7 @@ held_more limit h qs before r rs small rec false false fits_then counted =
     room_short limit (message_wire (in_answer h qs before)) r rs fits_then
     ∙ sym (ap (λ xs. can_hold limit (in_answer h qs xs)) (sym (append_assoc before (r ∷ []) rs)) ∙ short_then limit h qs (before ++ r ∷ []) rs (ap (fits limit) more ∙ fits_then))
 
--- records have room behind those of a message where the message can be held with all of them
+-- records have room after those of a message where the message can be held with all of them
 pub all_held : (limit : ℕ) (h : Header) (qs : List Question) (before rs : List Record) → length before < 2 ^ 16 → fits limit (message_wire (in_answer h qs before)) ≡ true
     → have_room limit (message_wire (in_answer h qs before)) rs ≡ can_hold limit (in_answer h qs (before ++ rs))
 all_held limit h qs before [] small fit =

@@ -15,7 +15,7 @@ use dns_name::{Class, KeyName, Labelled, Rtype, Serial, ToName, Ttl};
 use dns_rdata::{StoredRecordData, ZoneRecordData};
 use dns_wire::{AdditionalBuilder, AnswerBuilder, MessageBuf, PushError};
 use std::alloc::Global;
-use zone_store::{ReadZone, WalkItem};
+use zone_sessions::{ReadZone, WalkItem};
 
 /// The serial of a zone; None where it doesn't have exactly one apex SOA record.
 pub fn zone_serial(zone: &ReadZone) -> Option<Serial>

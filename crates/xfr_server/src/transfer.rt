@@ -23,7 +23,7 @@ use xfr_services::{
     CallResult, Replies, ReplyStream, Request, Service, ServiceError, ServiceFeedback,
     TransportSpecificContext, replies,
 };
-use zone_store::ReadZone;
+use zone_sessions::ReadZone;
 
 /// The most octets of a message by UDP, where the requestor says nothing else (RFC 1035, 2.3.4).
 const MAX_UDP_LEN: u16 = 512;

@@ -154,7 +154,7 @@ short_refused the_key s signing prior received short new Memory state made same 
 
 -- ---- the state
 
--- behind a reply
+-- after a reply
 pub now_behind : {K : Type 0} (the_key : K → TsigKey) (state : PostprocessingState K) (which : Signing) (s : Signer) (signing : Signing) (prior : Option (List ℕ)) → which ≡ behind state.signing
     → Signs the_key state s signing prior → Signs the_key (record state { signing = which }) s (behind signing) prior
 now_behind the_key state which s signing prior is signs =

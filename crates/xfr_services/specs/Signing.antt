@@ -25,7 +25,7 @@ pub record Signer : Type 0 where
   pub received : List ℕ
   pub at : ℕ
 
--- a reply's TSIG, and the reply with it, behind signed ones the last of which had this MAC; the fudge is 300 seconds
+-- a reply's TSIG, and the reply with it, after signed ones the last of which had this MAC; the fudge is 300 seconds
 abbrev pub reply_tsig : Signer → Option (List ℕ) → List ℕ → Tsig
 reply_tsig s prior message = answer_tsig s.key s.request_mac prior message s.at 300
 
@@ -49,7 +49,7 @@ to_sign s prior message = if can_be_signed s prior message then Some message els
 
 -- ---- item by item
 
--- what comes of one item, and then which replies are signed, behind which MAC
+-- what comes of one item, and then which replies are signed, after which MAC
 pub record Step : Type 0 where
   pub sending : Sending
   pub signing : Signing
@@ -103,7 +103,7 @@ signed_items s signing prior (Given item ∷ more) =
 
 -- ---- the state
 
--- the state of a signed exchange is that of a signer, which signs these replies behind this MAC
+-- the state of a signed exchange is that of a signer, which signs these replies after this MAC
 pub record Signs {K : Type 0} (the_key : K → TsigKey) (state : PostprocessingState K) (s : Signer) (signing : Signing) (prior : Option (List ℕ)) : Type 0 where
   pub macs : List (List ℕ)
   pub stands : ServerStands the_key state.sequence s.request_mac macs
@@ -113,7 +113,7 @@ pub record Signs {K : Type 0} (the_key : K → TsigKey) (state : PostprocessingS
   pub at : state.now ≡ s.at
   pub which : state.signing ≡ signing
 
--- One case for each answer of a call that puts the next TSIG on a message: it is there, and the state stands behind it; or there is
+-- One case for each answer of a call that puts the next TSIG on a message: it is there, and the state stands after it; or there is
 -- no room, and the state is as before.
 abbrev pub PutsTsig : {K : Type 0} → (K → TsigKey) → Signer → Signing → Option (List ℕ) → List ℕ → Result (Unit {0}) PushError → Building → PostprocessingState K → Type 0
 PutsTsig the_key s signing prior message (Ok u) new state = (can_be_signed s prior message ≡ true) × (new ≡ record { octets = signed_reply s prior message; limit = 65535 }) × Signs the_key state s signing (Some (reply_tsig s prior message).mac)

@@ -4,7 +4,7 @@ ghost use Rattle.xfr_services.specs.Signing as signed;
 ghost use Rattle.xfr_services.specs.declared.services.ServiceFeedback.TheVariants.{BeginTransaction, EndTransaction};
 ghost use Rattle.xfr_services.specs.declared.signing.Signing.TheVariants.{First, All, Done};
 
-/// Which replies are signed: the first alone, and from the begin of a transaction on all, also behind its end.
+/// Which replies are signed: the first alone, and from the begin of a transaction on all, also after its end.
 pub fn signing_row()
     ensures begun { map (λ f. signed.begun First f) (None ∷ Some BeginTransaction ∷ Some EndTransaction ∷ []) ≡ First ∷ All ∷ First ∷ [] }
     ensures late { map (λ s. signed.begun s (Some BeginTransaction)) (Done ∷ All ∷ []) ≡ Done ∷ All ∷ [] }

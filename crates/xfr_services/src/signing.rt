@@ -62,7 +62,7 @@ enum Signing {
 }
 
 impl Signing {
-    /// What is signed behind a reply.
+    /// What is signed after a reply.
     fn behind(self) -> Signing
         ensures { result ≡ signed.behind self }
     {

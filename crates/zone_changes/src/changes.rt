@@ -6,7 +6,7 @@ ghost use Rattle.dns_rdata.specs.ZoneData.{data_fields, rtype_of};
 ghost use Rattle.zone_model.specs.Version.{apex_soa};
 ghost use Rattle.zone_model.specs.Difference.{difference, diffable, without};
 ghost use Rattle.zone_sets.specs.TypedEntries.{typed, untyped};
-ghost use Rattle.zone_types.specs.TypedSets.{set_of};
+ghost use Rattle.zone_values.specs.TypedSets.{set_of};
 ghost use Rattle.zone_changes.specs.Touched.{Covers};
 ghost use Rattle.zone_changes.specs.Changes.{folded, with_lacked, has_record, lacked_of};
 
@@ -15,7 +15,7 @@ use dns_name::{Rtype, Serial, Ttl};
 use dns_rdata::StoredRecordData;
 use std::alloc::{AllocError, Global};
 use zone_diffs::{DiffSets, InMemoryZoneDiff, is_upto, serial_of};
-use zone_types::Rrset;
+use zone_values::Rrset;
 use zone_versions::{RecordSet, SetKey, ZoneVersion};
 
 /// The difference from one version of a zone to another (RFC 1995, 4), which is looked for at the touched keys alone. None where one of the two

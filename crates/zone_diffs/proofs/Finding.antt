@@ -2,7 +2,7 @@
 use Rattle.std.proofs.Common.{◌≡◌, ℕ, ◌==◌, Bool, true, false, cond, [], ◌∷◌, map, find, refl, ap, ◌∙◌, Option, Some, option_map}
 use Rattle.dns_name.specs.Codes.{type_soa}
 use Rattle.zone_model.specs.Version.{RecordSet, Key, Sets}
-use Rattle.zone_types.specs.TypedSets.{TypedSet}
+use Rattle.zone_values.specs.TypedSets.{TypedSet}
 use Rattle.zone_sets.specs.TypedEntries.{item_of}
 use Rattle.zone_sets.proofs.KeptTypes.{TypedEntries}
 use Rattle.zone_diffs.specs.Building.{first_serial, set_serial}

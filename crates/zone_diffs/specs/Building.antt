@@ -31,7 +31,7 @@ lacked s t = if s.ttl == t.ttl then record s { items = filter (λ d. not (list_a
 abbrev pub taken_from : Sets → Key → RecordSet → Sets
 taken_from sets k s = option_map_or (λ (held : RecordSet). put_at sets k (lacked held s)) (set_in sets k) sets
 
--- Put: the records of a set come behind those at its key, whose TTL stays; equal data once (RFC 2181, 5)
+-- Put: the records of a set come after those at its key, whose TTL stays; equal data once (RFC 2181, 5)
 abbrev pub put_behind : Sets → Key → RecordSet → Sets
 put_behind sets k s = put_at sets k (merged_set (set_in sets k) (distinct_set s))
 

@@ -1,7 +1,7 @@
 -- The sets of a difference as they are kept.
 use Rattle.std.specs.Prelude.{Bool, ◌==◌, ◌&&◌, not, length}
 use Rattle.zone_model.specs.Version.{RecordSet, Key}
-use Rattle.zone_types.specs.TypedSets.{TypedSet}
+use Rattle.zone_values.specs.TypedSets.{TypedSet}
 use Rattle.zone_sets.specs.TypedEntries.{has_own_type}
 
 -- whether a set is of its key's type, and has data

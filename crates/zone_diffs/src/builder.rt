@@ -13,7 +13,7 @@ use std::alloc::{AllocError, Global};
 use std::cmp::Ordering;
 use std::marker::Model;
 use zone_sets::SetKey;
-use zone_types::{Rrset, SharedRrset};
+use zone_values::{Rrset, SharedRrset};
 
 /// Builds a difference of the sets that come and go. A record that comes and goes, of the same TTL and data, is in neither side.
 /// A side's set keeps the TTL that it began with and has equal data once. Owners are compared ASCII case aside, and kept in lower case.
@@ -144,7 +144,7 @@ fn move_over(
     from.put(key, kept)
 }
 
-/// Puts the records of a set behind those of a side at its key.
+/// Puts the records of a set after those of a side at its key.
 fn put_behind(
     alloc: Global,
     side: &mut DiffSets,

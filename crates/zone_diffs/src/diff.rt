@@ -12,7 +12,7 @@ use dns_name::{Labelled, Rtype, Serial};
 use std::alloc::AllocError;
 use std::marker::Model;
 use zone_sets::SetKey;
-use zone_types::SharedRrset;
+use zone_values::SharedRrset;
 
 /// The difference from one version of a zone to another: its serials, and the sets of records that one has and the other lacks (RFC 1995, 4).
 #[derive(Debug, Drop)]

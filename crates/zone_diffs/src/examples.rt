@@ -6,7 +6,7 @@ ghost use Rattle.zone_model.specs.ZoneRows.{soa};
 ghost use Rattle.zone_diffs.specs.DiffRows.{nothing, apex_soa, host_a, www_alias, host, alias, set, soa_set, hosts, soa_change, ttl_change, record_count};
 ghost use Rattle.zone_diffs.specs.declared.errors.ZoneDiffError.TheVariants.{MissingStartSoa, MissingEndSoa, InvalidSerialRange};
 
-/// Three addresses whose TTL changes from 3600 to 60, and serial 2 behind serial 1.
+/// Three addresses whose TTL changes from 3600 to 60, and serial 2 after serial 1.
 pub fn changed_ttl()
     ensures removed { record_count ttl_change.removed ≡ 4 }
     ensures added { record_count ttl_change.added ≡ 4 }

@@ -5,13 +5,13 @@ ghost use Rattle.dns_rdata.specs.Records.{same_data};
 ghost use Rattle.dns_rdata.specs.ZoneData.{data_fields, rtype_of};
 ghost use Rattle.zone_model.specs.Difference.{merged_set};
 ghost use Rattle.zone_model.specs.Edits.{distinct_set};
-ghost use Rattle.zone_types.specs.TypedSets.{set_of};
+ghost use Rattle.zone_values.specs.TypedSets.{set_of};
 ghost use Rattle.zone_sets.specs.TypedEntries.{typed};
 ghost use Rattle.zone_diffs.specs.Building.{lacked};
 
 use dns_rdata::StoredRecordData;
 use std::alloc::{AllocError, Global};
-use zone_types::Rrset;
+use zone_values::Rrset;
 
 /// The records of a set that another lacks. Records of another TTL are others.
 pub(crate) fn lacked(alloc: Global, set: &Rrset, other: &Rrset) -> Result<Rrset, AllocError>
@@ -36,7 +36,7 @@ pub(crate) fn distinct(alloc: Global, set: &Rrset) -> Result<Rrset, AllocError>
     Ok(first)
 }
 
-/// The set with the data of another of its type that it lacks behind its own. The TTL stays.
+/// The set with the data of another of its type that it lacks after its own. The TTL stays.
 pub(crate) fn merged(held: &Rrset, set: &Rrset) -> Result<Rrset, AllocError>
     requires { set.now.rtype ≡ held.now.rtype }
     ensures { IfOk result (λ r. r ≡ typed held.now.rtype (merged_set (Some held.now.contents) set.now.contents)) }

@@ -18,7 +18,7 @@ use std::collections::BTreeMap;
 use std::collections::btree_map::Iter;
 use std::marker::Model;
 use zone_sets::SetKey;
-use zone_types::{Rrset, SharedRrset};
+use zone_values::{Rrset, SharedRrset};
 
 /// Record sets by owner and type, none of them empty: owners in lower case and canonical order, each one's types ascending (RFC 4034, 6.1).
 #[derive(Debug, Drop)]

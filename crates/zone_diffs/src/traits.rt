@@ -7,13 +7,13 @@ ghost use Rattle.std.specs.Map.Iter.{deref_pair};
 ghost use Rattle.dns_name.specs.Names.{fold};
 ghost use Rattle.zone_model.specs.Version.{key_cmp, Key};
 ghost use Rattle.zone_model.specs.Difference.{Difference};
-ghost use Rattle.zone_types.specs.TypedSets.{TypedSet};
+ghost use Rattle.zone_values.specs.TypedSets.{TypedSet};
 ghost use Rattle.zone_sets.specs.TypedEntries.{item_of, typed_set_in};
 ghost use Rattle.zone_diffs.specs.Kept.{holds_data};
 
 use dns_name::{Labelled, Rtype, Serial};
 use zone_sets::SetKey;
-use zone_types::SharedRrset;
+use zone_values::SharedRrset;
 
 /// The difference from one version of a zone to another (RFC 1995, 4). Its items are sets that aren't empty, in canonical order of their owners,
 /// each owner's types ascending.

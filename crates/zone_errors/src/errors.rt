@@ -6,7 +6,7 @@ use dns_name::{Class, Rtype, StoredName};
 use dns_rdata::StoredRecord;
 use std::fmt;
 use thiserror::Error;
-use zone_types::{CnameError, ZoneCutError};
+use zone_values::{CnameError, ZoneCutError};
 
 /// What is wrong with a zone of records, each of which was taken.
 #[derive(Clone, Copy, Debug, PartialEq, Eq, Drop, Error)]

@@ -89,7 +89,7 @@ impl<T: Drop> IntoIterator for ZoneErrors<T> {
 }
 
 impl<T: fmt::Display + Drop> fmt::Display for ZoneErrors<T> {
-    /// Each refusal behind its name in quotes, with a comma behind it, in brackets.
+    /// Each refusal after its name in quotes, with a comma after it, in brackets.
     fn fmt<W: fmt::Write>(&self, f: &mut fmt::Formatter<W>) -> fmt::Result {
         write!(f, "Zone file errors: [")?;
         for entry in &self.errors {

@@ -95,7 +95,7 @@ more_batches s ended b (c ∷ more) h = second_so (is_batch s b && is_some b.new
 ended : (s : Record) (c : List Version) (v : Version) (b : Bool) (end : Ending) → is_same_soa s end.last ≡ true → (progress (st c v b) (end_update (Some end))).committed ≡ c ++ close (set_soa v end.last) ∷ []
 ended s c v b end h = ap (λ z. (settled (st c v b) (finish z)).committed) (soa_taken (st c v b) end.last (first_so (is_soa end.last) (same_data s.fields end.last.fields) h))
 
--- the batches behind one, given what they commit
+-- the batches after one, given what they commit
 after_batch : (c : List Version) (v : Version) (b : Batch) (more : List Batch) (end : Option Ending) (o : Result Version Refusal) → NewIsSoa b.new → apply_batch (close v) b ≡ o
     → ((w : Version) → (spell_changes more end (Ok w)).fault ≡ None → (progress (st (c ++ close v ∷ []) w false) (flat_map batch_updates more ++ end_update end)).committed ≡ (c ++ close v ∷ []) ++ (spell_changes more end (Ok w)).versions)
     → (spell_changes more end o).fault ≡ None → (progress (progress (st c v false) (batch_updates b)) (flat_map batch_updates more ++ end_update end)).committed ≡ c ++ close v ∷ (spell_changes more end o).versions

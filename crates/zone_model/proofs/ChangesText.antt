@@ -179,7 +179,7 @@ add_batch : (s : Record) (b : Batch) (bs : List Batch) → is_batch s b ≡ true
 add_batch s b [] is new h = both_true is (ap (λ n. n || false) new)
 add_batch s b (c ∷ bs) is new h = both_true (both_true is new) h
 
--- the serial of a version differs from that of the last one behind it
+-- the serial of a version differs from that of the last one after it
 last_differs : (n : ℕ) (w : Version) (more : List Version) (u : Version) → last_or (Some w) more ≡ Some u → list_any (nat_eq n) (map zone_serial (w ∷ more)) ≡ false → (n == zone_serial u) ≡ false
 last_differs n w [] u e h = sym (ap (λ o. n == option_map_or zone_serial o 0) e) ∙ by (n == zone_serial w) h
   where

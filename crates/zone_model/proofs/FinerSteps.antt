@@ -42,7 +42,7 @@ no_more mode [] = record { updates = refl; place = refl }
 no_more mode (Good r ∷ more) = record { updates = (no_more mode more).updates; place = (no_more mode more).place }
 no_more mode (Bad f ∷ more) = record { updates = refl; place = refl }
 
--- one record without a fault, and what comes behind it
+-- one record without a fault, and what comes after it
 fed_on : (mode : Mode) (limit : ℕ) (g : Progress) (s : Run) (more : List Item) → s.fault ≡ None
     → ((q : Progress) → FedSays (feed mode limit s.place q more) (run_items mode s.place more) (apply_within limit q (run_items mode s.place more).updates))
     → FedSays (unless_stopped s (apply_within limit g s.updates) (feed mode limit s.place (apply_within limit g s.updates).progress more)) (then_run s (run_items mode s.place more)) (apply_within limit g (s.updates ++ (run_items mode s.place more).updates))

@@ -21,7 +21,7 @@ signalled mode xs o = record (reader_of mode xs) { signal = o }
 takes_first : (mode : Mode) (fault_of : Bool → ReadMessage → Option Fault) (m : ReadMessage) → take_message mode fault_of new_reader m ≡ signalled mode (items_of (fault_of true) m) (signal_of false (run_items mode AtStart (items_of (fault_of true) m)))
 takes_first mode fault_of m = refl
 
--- the first message is always read, and then those behind it
+-- the first message is always read, and then those after it
 pub messages_begin : (mode : Mode) (fault_of : Bool → ReadMessage → Option Fault) (m : ReadMessage) (more : List ReadMessage) → messages_read mode fault_of (m ∷ more) ≡ m ∷ read_behind mode fault_of (items_of (fault_of true) m) more
 messages_begin mode fault_of m more =
     let its : List Item = items_of (fault_of true) m in

@@ -1,4 +1,4 @@
--- Each update commits at most one version, behind those before; updates within the numbers left; a longer list spells on.
+-- Each update commits at most one version, after those before; updates within the numbers left; a longer list spells on.
 use Rattle.std.proofs.Common.{◌≡◌, ℕ, ◌+◌, ◌≤◌, ◌<◌, arith, Bool, true, false, ◌&&◌, if◌then◌else◌, List, [], ◌∷◌, ◌++◌, length, take, refl, sym, ap, ◌∙◌, append_assoc, append-nil, length-append, Option, Some, None, is_some, Result, Ok, Err}
 use Rattle.std.specs.Prelude.{nat_lt}
 use Rattle.std.specs.Option.{option_map}
@@ -16,7 +16,7 @@ use Rattle.zone_model.specs.Machine.{AtStart, run}
 use Rattle.zone_model.proofs.Refused.{commits_read, applies_on}
 use Rattle.zone_model.proofs.InTurn.{updates_on}
 
--- One update commits at most one version, behind those committed before.
+-- One update commits at most one version, after those committed before.
 pub record Grows (p q : Progress) : Type 0 where
   pub new : List Version
   pub behind : q.committed ≡ p.committed ++ new
@@ -64,7 +64,7 @@ update_grows p u =
       | false ↦ apply_grows p u
     ]
 
--- all updates commit behind what was committed before
+-- all updates commit after what was committed before
 pub record GrowsAll (p : Progress) (a : Applied) : Type 0 where
   pub new : List Version
   pub behind : a.progress.committed ≡ p.committed ++ new

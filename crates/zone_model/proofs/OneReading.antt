@@ -34,7 +34,7 @@ nothing_before : (rs : List Record) → StartsSoa rs → before is_soa rs ≡ []
 nothing_before [] h = refl
 nothing_before (r ∷ more) h = ap (λ b. if b then [] else r ∷ before is_soa more) h
 
--- an SOA with plain records behind it, and then such a list, begins with this section
+-- an SOA with plain records after it, and then such a list, begins with this section
 one_section : (head : Record) (body rest : List Record) → is_soa head ≡ true → list_all is_plain body ≡ true → StartsSoa rest → sections (head ∷ body ++ rest) ≡ record { head = head; body = body } ∷ sections rest
 one_section head body rest is plain starts =
     let t : List Record → Section = λ l. record { head = head; body = l } in
@@ -42,7 +42,7 @@ one_section head body rest is plain starts =
     ∙ ap (λ l. t l ∷ sections (body ++ rest)) (before-append is_soa body rest plain ∙ ap (λ l. body ++ l) (nothing_before rest starts) ∙ append-nil body)
     ∙ ap (λ l. t body ∷ l) (sections-append body rest plain)
 
--- the end, and what stands behind it
+-- the end, and what stands after it
 same_is_soa : (s r : Record) → is_same_soa s r ≡ true → is_soa r ≡ true
 same_is_soa s r h = first_so (is_soa r) (same_data s.fields r.fields) h
 

@@ -65,7 +65,7 @@ not_yet_page : (mode : Mode) (xs page ys : List Record) → not (length page == 
 not_yet_page mode xs [] ys full whole = absurd (true≢false (sym full))
 not_yet_page mode xs (r ∷ page) ys full whole = not_yet mode xs r (page ++ ys) whole
 
--- later messages, behind the records of those before them
+-- later messages, after the records of those before them
 later_read : (mode : Mode) (fault_of : Bool → ReadMessage → Option Fault) (ks : List Carrier) (done : List Record) → AllByRecursion (Carries fault_of false) ks
     → EndsWhole mode (done ++ carried_text ks) → later fault_of (read_behind mode fault_of (good done) (carried_messages ks)) ≡ good (carried_text ks)
 later_read mode fault_of [] done carry whole = ap (later fault_of) (behind_nothing mode fault_of (good done))

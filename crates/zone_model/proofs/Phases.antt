@@ -24,7 +24,7 @@ shown_folds u n = by (same_name n u.apex) refl
     by true h = sym ((same_name-Decides n u.apex).0 h)
     by false h = refl
 
--- runs of edits one behind the other
+-- runs of edits one after the other
 abbrev pub Appends : (Version → List Record → Result Version Refusal) → Type 0
 Appends run = (v : Version) (xs ys : List Record) → run v (xs ++ ys) ≡ and_then (run v xs) (λ w. run w ys)
 

@@ -50,7 +50,7 @@ run_reads mode xs =
       fault = ap (λ a. a.fault) e ∙ ap (λ f. option_or f (first_fault xs)) s.fault;
     }
 
--- items behind items without a fault
+-- items after items without a fault
 pub run-append : (mode : Mode) (p : Place) (xs ys : List Item) → first_fault xs ≡ None → run_items mode p (xs ++ ys) ≡ then_run (run_items mode p xs) (run_items mode (run_items mode p xs).place ys)
 run-append mode p [] ys h = refl
 run-append mode p (Good r ∷ more) ys h =
@@ -63,7 +63,7 @@ good-append [] ys h = refl
 good-append (Good r ∷ more) ys h = ap (λ l. r ∷ l) (good-append more ys h)
 good-append (Bad f ∷ more) ys h = cc
 
--- items behind a fault aren't read
+-- items after a fault aren't read
 pub run-stopped : (mode : Mode) (p : Place) (xs ys : List Item) (f : Fault) → first_fault xs ≡ Some f → run_items mode p (xs ++ ys) ≡ run_items mode p xs
 run-stopped mode p [] ys f h = cc
 run-stopped mode p (Good r ∷ more) ys f h = ap (then_run (step mode p r)) (run-stopped mode (step mode p r).place more ys f h)
@@ -107,7 +107,7 @@ pub or_more : {A : Type 0} (m : A) (more : List A) (o : Option (List A)) → unw
 or_more m more None = refl
 or_more m more (Some p) = refl
 
--- later messages, behind the items of earlier ones
+-- later messages, after the items of earlier ones
 abbrev pub later : (Bool → ReadMessage → Option Fault) → List ReadMessage → List Item
 later fault_of ms = flat_map (items_of (fault_of false)) ms
 
@@ -171,7 +171,7 @@ ended_done mode acc e = by (is_some (run_items mode AtStart acc).fault) ((run_re
 pub fault_done : (mode : Mode) (acc : List Item) (f : Fault) → ends mode acc ≡ false → first_fault acc ≡ Some f → is_done (reader_of mode acc) ≡ true
 fault_done mode acc f e h = ap (λ g. is_some g || is_at_end (run_items mode AtStart acc).place) (fault_is mode acc e ∙ h)
 
--- items behind a fault change no reader
+-- items after a fault change no reader
 pub fault_stays : (mode : Mode) (acc ys : List Item) (f : Fault) → first_fault acc ≡ Some f → reader_of mode (acc ++ ys) ≡ reader_of mode acc
 fault_stays mode acc ys f h = ap (λ a. reader_at (good_records (acc ++ ys)) a) (run-stopped mode AtStart acc ys f h) ∙ ap (λ l. reader_at l (run_items mode AtStart acc)) (good-stopped acc ys f h)
 
@@ -204,7 +204,7 @@ takes_later mode fault_of (m ∷ more) acc = by (ends mode acc) (first_fault acc
 
 -- The retry signal.
 
--- places behind the second record
+-- places after the second record
 abbrev pub is_past : Place → Bool
 is_past AtStart = false
 is_past (AtSecond s) = false

@@ -30,7 +30,7 @@ pub record Halts (a : Applied) (c : List Version) (e : Refusal) : Type 0 where
   pub committed : a.progress.committed ≡ c
   pub refused : a.refused ≡ Some (Edit e)
 
--- some updates, with more behind them, lead where a result says
+-- some updates, with more after them, lead where a result says
 abbrev Leads : (List Update → Applied) → List Version → Bool → Result Version Refusal → Type 0
 Leads F c b (Ok w) = (us : List Update) → F us ≡ apply_all (st c w b) us
 Leads F c b (Err e) = (us : List Update) → Halts (F us) c e
@@ -104,7 +104,7 @@ batch c v b is =
     (λ us. ap (apply_all (st d (close v) false)) (append_assoc (map DeleteRecord b.deletes) (second b.new b.adds) us))
     (leads_then F (second b.new b.adds) d false (delete_all (close v) b.deletes) (λ w. apply_new w b.adds b.new) (deletes b.deletes d (close v) false) (λ w. second_half d w b.new b.adds is))
 
--- all that is applied, behind versions committed before
+-- all that is applied, after versions committed before
 pub record Says (a : Applied) (c : List Version) (s : Spelling) : Type 0 where
   pub versions : a.progress.committed ≡ c ++ s.versions
   pub refused : a.refused ≡ option_map Edit s.fault

@@ -37,7 +37,7 @@ told_first p u b us end m = record { updates = ap (λ l. u ++ l) m.updates; ende
 not_zero : (n : ℕ) → (suc n == 0) ≡ false
 not_zero n = grind arith
 
--- behind the end each record is a fault
+-- after the end each record is a fault
 at_end : (mode : Mode) (last : Record) (more : List Record) → Makes (run mode AtEnd more) [] (Some (record { last = last; rest = more }))
 at_end mode last [] = record { updates = refl; ended = refl; fault = refl }
 at_end mode last (r ∷ more) = record { updates = (at_end mode last more).updates; ended = (at_end mode last more).ended; fault = ap (λ b. if b then None else Some AfterEnd) (sym (not_zero (length more))) }
@@ -95,7 +95,7 @@ no_batches : (s : Record) (t : Section) (ts : List Section) → is_same_soa s t.
 no_batches s t [] h = ap (λ b. if b then [] else record { old = t.head; deletes = t.body; new = None; adds = [] } ∷ []) h
 no_batches s t (u ∷ more) h = ap (λ b. if b then [] else record { old = t.head; deletes = t.body; new = Some u.head; adds = u.body } ∷ batches_in s more) h
 
--- an SOA where deletes would begin, with what stands behind it
+-- an SOA where deletes would begin, with what stands after it
 deletes_begin : (mode : Mode) (s r : Record) (more : List Record) (b : Bool) → is_same_soa s r ≡ b
     → Makes (run mode (InDeletes s) more) (map DeleteRecord (before is_soa more) ++ then_said s (sections more)) (then_ending s (sections more))
     → Makes (then_run (if b then went AtEnd (Finished r ∷ []) else went (InDeletes s) (BeginBatchDelete r ∷ [])) (run mode (if b then went AtEnd (Finished r ∷ []) else went (InDeletes s) (BeginBatchDelete r ∷ [])).place more))

@@ -56,7 +56,7 @@ records_in v sets = flat_map (λ (e : Key × RecordSet). records_of e.0.0 e.0.1 
 abbrev pub apply_difference : Version → Difference → Result Version Refusal
 apply_difference v d = and_then (delete_all v (records_in v d.removed)) (λ w. add_all w (records_in v d.added))
 
--- the second's data behind the first's, equal data once, the first's TTL
+-- the second's data after the first's, equal data once, the first's TTL
 abbrev pub merged_set : Option RecordSet → RecordSet → RecordSet
 merged_set None s = s
 merged_set (Some old) s = record { ttl = old.ttl; items = old.items ++ filter (λ d. not (list_any (same_data d) old.items)) s.items }

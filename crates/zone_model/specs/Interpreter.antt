@@ -37,6 +37,6 @@ is_finished ms = (read_by (mode_of ms) message_fault ms).ended || is_some (retry
 abbrev pub next_fault : List ReadMessage → ReadMessage → Option Fault
 next_fault ms m = message_fault (length ms == 0) m
 
--- what ends a message's updates early: a record that can't be read, or one behind the end
+-- what ends a message's updates early: a record that can't be read, or one after the end
 abbrev pub iteration_fault : List ReadMessage → ReadMessage → Option Fault
 iteration_fault ms m = (read_by (mode_of (ms ++ m ∷ [])) message_fault (ms ++ m ∷ [])).fault

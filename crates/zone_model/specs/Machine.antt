@@ -26,7 +26,7 @@ is_at_end (InDeletes s) = false
 is_at_end (InAdds s) = false
 is_at_end AtEnd = true
 
--- what records make: the place behind them, the updates that they say, and the first fault
+-- what records make: the place after them, the updates that they say, and the first fault
 pub record Run : Type 0 where
   pub place : Place
   pub updates : List Update
@@ -108,7 +108,7 @@ lone_serial (InDeletes s) = None
 lone_serial (InAdds s) = None
 lone_serial AtEnd = None
 
--- the retry signal behind a first message without a fault
+-- the retry signal after a first message without a fault
 abbrev pub signal_of : Bool → Run → Option ℕ
 signal_of begun a = if begun || is_some a.fault then None else lone_serial a.place
 

@@ -11,7 +11,7 @@ use Rattle.zone_model.specs.TransferLaws.{IsPublished}
 abbrev pub HasHistory : Provider → List Version → Type 0
 HasHistory p history = IsHistory (record { version = p.kept; differences = p.differences; compatibility = p.compatibility }) history
 
--- the versions behind the one with a serial
+-- the versions after the one with a serial
 abbrev pub behind : ℕ → List Version → List Version
 behind n [] = []
 behind n (v ∷ more) = if zone_serial v == n then more else behind n more

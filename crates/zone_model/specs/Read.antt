@@ -106,7 +106,7 @@ pub record ReadText : Type 0 where
   pub ended : Bool
   pub fault : Option Fault
 
--- a record behind the end in its message is a fault
+-- a record after the end in its message is a fault
 abbrev pub after_end : Option Ending → Option Fault
 after_end None = None
 after_end (Some end) = if length end.rest == 0 then None else Some AfterEnd
@@ -126,7 +126,7 @@ request_fault id q first m = if is_other id q m then Some OtherAnswer else messa
 abbrev pub read : Mode → ℕ → Question → List ReadMessage → ReadText
 read mode id q ms = read_by mode (request_fault id q) ms
 
--- what the messages read spell on a base version; a refused record comes before the faults behind it
+-- what the messages read spell on a base version; a refused record comes before the faults after it
 abbrev pub spelt : Mode → ℕ → Question → List ReadMessage → Version → Spelling
 spelt mode id q ms base = spelling mode (read mode id q ms).records base
 

@@ -43,7 +43,7 @@ apply_new v adds (Some soa) = add_all (set_soa v soa) adds
 abbrev pub apply_batch : Version → Batch → Result Version Refusal
 apply_batch v b = and_then (delete_all v b.deletes) (λ w. apply_new w b.adds b.new)
 
--- each batch spells the version before it, and the end the one behind them all; none has DS without NS
+-- each batch spells the version before it, and the end the one after them all; none has DS without NS
 abbrev pub spell_changes : List Batch → Option Ending → Result Version Refusal → Spelling
 spell_changes batches end (Err e) = refused e
 spell_changes [] None (Ok v) = no_versions

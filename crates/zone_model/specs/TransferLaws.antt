@@ -12,7 +12,7 @@ use Rattle.zone_model.specs.TransferText.{Mode, Ixfr, Batch, batch_records, Whol
 use Rattle.zone_model.specs.Offer.{Offer, IsHistory, side_records, whole_text, changes_text, changes_or_whole}
 use Rattle.zone_model.specs.Spells.{Spelling, no_versions, version_then, apply_batch, spelling}
 
--- a whole text with nothing behind it: an SOA, other records, and the same SOA
+-- a whole text with nothing after it: an SOA, other records, and the same SOA
 pub record IsWhole (mode : Mode) (records : List Record) : Type 0 where
   pub soa : Record
   pub middle : List Record
@@ -77,7 +77,7 @@ abbrev pub ChangesSpell : Type 0
 ChangesSpell = (offer : Offer) (v : Version) (more : List Version) (base : Version) → IsHistory offer (v ∷ more) → AllByRecursion (IsPublished base.apex) (v ∷ more) → Same base v
     → SpellsAll (spelling Ixfr (changes_text offer.version offer.differences) base) (v ∷ more)
 
--- a text of changes with nothing behind it
+-- a text of changes with nothing after it
 pub record IsChanges (records : List Record) : Type 0 where
   pub soa : Record
   pub batches : List Batch

@@ -25,6 +25,6 @@ walk v = map (λ (e : Key × RecordSet). record { owner = shown_owner v e.0.0; r
 abbrev pub records_of_version : Version → List Record
 records_of_version v = flat_map (λ (s : Stop). records_of s.owner s.rtype v.class s.contents) (walk v)
 
--- the first stop behind an owner and type
+-- the first stop after an owner and type
 abbrev pub next_stop : Version → Name → ℕ → Option Stop
 next_stop v owner rtype = find (λ (s : Stop). is_gt (key_cmp (fold s.owner, s.rtype) (fold owner, rtype))) (walk v)

@@ -81,7 +81,7 @@ pub fn opened_row()
     ensures outside { classes.classify (record { apex = rows.e; class = 1; accepted = [] }) (rows.address (rows.other (codes "a" ∷ [])) 1) ≡ classes.Accepted classes.Outside }
 {}
 
-/// Updates that are refused: a record that is no SOA where one is due, any behind the end, and an edit, behind which data that don't fit end all. Equal data are passed
+/// Updates that are refused: a record that is no SOA where one is due, any after the end, and an edit, after which data that don't fit end all. Equal data are passed
 /// over once all records were deleted.
 pub fn refusal_row()
     ensures no_soa { map (updates.apply_update (updates.begin rows.history_1)) (updates.BeginBatchAdd (rows.address rows.t 1) ∷ updates.Finished (rows.address rows.t 1) ∷ []) ≡ Err updates.NotSoaRecord ∷ Err updates.NotSoaRecord ∷ [] }

@@ -77,7 +77,7 @@ pub fn machine_row()
     ensures behind { (machines.run Axfr machines.AtStart (rows.soa 2 ∷ rows.soa 2 ∷ rows.soa 2 ∷ [])).fault ≡ Some reads.AfterEnd }
 {}
 
-/// Items of a message behind the end, and the retry signal.
+/// Items of a message after the end, and the retry signal.
 pub fn reader_row()
     ensures unreadable { (machines.run_items Axfr machines.AtStart (reads.Good (rows.soa 2) ∷ reads.Good (rows.soa 2) ∷ reads.Bad reads.Unreadable ∷ [])).fault ≡ Some reads.Unreadable }
     ensures first { (machines.run_items Axfr machines.AtStart (reads.Good (rows.soa 2) ∷ reads.Good (rows.soa 2) ∷ reads.Good (rows.soa 2) ∷ reads.Bad reads.Unreadable ∷ [])).fault ≡ Some reads.AfterEnd }

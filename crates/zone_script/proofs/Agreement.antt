@@ -244,7 +244,7 @@ secondary_line_stands k s r n typed h = by_take k s n (SecondaryLine r) (take_fr
         subst (λ a. StandsAlike (with_zones k 5 (into_secondary (Some z) n r)) (or_line n (option_map (λ f. record s { stage = 5; secondary = f; last_secondary = n }) a)))
         (sym (accept_by_version z.secondary s.secondary s.last_secondary r typed some.1)) (taken z (is_taken z.secondary.builder r) some)
 
--- ---- the opening zones, once their lines are behind
+-- ---- the opening zones, once their lines are after
 
 -- both refuse at one line, or what is kept stands for what the definition goes on with
 abbrev OpensAlike : Reading → Option ℕ → Result (scripts.Script TsigKey) ℕ → Type 0

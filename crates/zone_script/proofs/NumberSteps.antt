@@ -14,7 +14,7 @@ past_digit : (bound k : ℕ) (xs : List ℕ) → ((d : ℕ) → below bound (mor
 past_digit bound k xs h None = ap (below bound) (more_digits-None xs)
 past_digit bound k xs h (Some d) = h d
 
--- behind a first octet that is no digit there is no number
+-- after a first octet that is no digit there is no number
 pub no_number : (bound first : ℕ) (xs : List ℕ) → digit_of first ≡ None → number_below bound (first ∷ xs) ≡ None
 no_number bound first xs e = if_either (leads_with_zero (first ∷ xs)) (ap (λ n. below bound (more_digits n xs)) e ∙ ap (below bound) (more_digits-None xs))
   where

@@ -74,7 +74,7 @@ put_line k n (scripts.SecondaryLine r) = with_zones k 5 (into_secondary k.zones 
 put_line k n (scripts.ChangeLine c) = Err n
 put_line k n (scripts.QueryLine name rtype) = Ok (record k { stage = 7; queries = k.queries ++ (name, rtype) ∷ [] })
 
--- the line that refuses an opening zone, which is asked before the first line behind the two zones, and at the end
+-- the line that refuses an opening zone, which is asked before the first line after the two zones, and at the end
 abbrev pub refused_before : Reading → ℕ → Option ℕ
 refused_before k stage = if nat_le 6 stage && nat_lt k.stage 6 then zones_refusal k.zones else None
 

@@ -30,6 +30,6 @@ form_of (word ∷ more) =
     else if bytes_eq word (codes "gen") then with_sizes more
     else None
 
--- the numbers behind a generated zone: each is drawn from the one before
+-- the numbers after a generated zone: each is drawn from the one before
 abbrev pub drawn : ℕ → ℕ
 drawn x = (x * 6364136223846793005 + 1442695040888963407) % 2 ^ 64

@@ -107,7 +107,7 @@ pub(crate) fn read_line(alloc: Global, line: &[u8]) -> Result<Option<Line>, Allo
     read_word(alloc, word, &mut fields)
 }
 
-/// What a word says with the fields behind it.
+/// What a word says with the fields after it.
 #[tactic(auto, using(crate::proofs::ReadLines::zone_passes, crate::proofs::ReadLines::key_passes, crate::proofs::ReadLines::at_passes, crate::proofs::ReadLines::primary_passes, crate::proofs::ReadLines::secondary_passes, crate::proofs::ReadLines::late_query, crate::proofs::ReadLines::late_none))]
 fn read_word(
     alloc: Global,

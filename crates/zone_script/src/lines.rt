@@ -4,7 +4,7 @@ ghost use Rattle.std.specs.List.{slice_split};
 ghost use Rattle.std.specs.Option.{option_map_or};
 ghost use Rattle.zone_script.specs.Script.{script_lines};
 
-/// What stands before the first octet of a kind, and what stands behind it if there is one.
+/// What stands before the first octet of a kind, and what stands after it if there is one.
 pub(crate) fn cut(octets: &[u8], at: u8) -> (&[u8], Option<&[u8]>)
     ensures split { slice_split (λ o. o == at) octets.now ≡ result.0.now ∷ option_map_or (λ rest. slice_split (λ o. o == at) rest.now) result.1 [] }
     ensures shorter { IfSome result.1 (λ rest. length rest.now < length octets.now) }
@@ -18,7 +18,7 @@ pub(crate) fn cut(octets: &[u8], at: u8) -> (&[u8], Option<&[u8]>)
     (octets, None)
 }
 
-/// The first line, and the octets behind it; None where no octet is left. The last line may lack its end.
+/// The first line, and the octets after it; None where no octet is left. The last line may lack its end.
 pub(crate) fn next_line(octets: &[u8]) -> Option<(&[u8], &[u8])>
     ensures found { IfSome result (λ r. script_lines octets.now ≡ r.0.now ∷ script_lines r.1.now) }
     ensures shorter { IfSome result (λ r. length r.1.now < length octets.now) }

@@ -19,7 +19,7 @@ fn digit_of(octet: u8) -> Option<u64>
     }
 }
 
-/// A number with a further digit behind it.
+/// A number with a further digit after it.
 fn with_digit(number: u64, octet: u8) -> Option<u64>
     requires { number < GREATEST_BOUND }
     ensures { result ≡ next_number number octet }

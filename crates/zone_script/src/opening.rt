@@ -8,7 +8,7 @@ use crate::script::ScriptError;
 use dns_name::{Class, Rtype, StoredName};
 use dns_rdata::StoredRecord;
 use std::alloc::{AllocError, Global};
-use zone_store::{InsertError, ZoneApex, ZoneBuilder};
+use zone_sessions::{InsertError, ZoneApex, ZoneBuilder};
 
 /// A zone as its opening records are read.
 #[derive(Drop)]

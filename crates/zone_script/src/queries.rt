@@ -62,7 +62,7 @@ impl Queries {
         }
     }
 
-    /// Puts a question behind the others. Where memory runs out, the others are all there is.
+    /// Puts a question after the others. Where memory runs out, the others are all there is.
     pub fn push(&mut self, qname: StoredName, qtype: Rtype) -> Result<(), AllocError>
         ensures ok { OnOk result (self.new ≡ self.old ++ (qname, qtype) ∷ []) }
         ensures memory { OnErr result (self.new ≡ self.old) }

@@ -134,7 +134,7 @@ impl Reading {
         Ok(())
     }
 
-    /// Whether a line of a stage may stand here: the first three once each, and all behind the zone and, but for these two, behind the key.
+    /// Whether a line of a stage may stand here: the first three once each, and all after the zone and, but for these two, after the key.
     fn may_come(&self, stage: u8) -> bool
         ensures { result ≡ keeping.may_come self.now stage }
     {
@@ -144,7 +144,7 @@ impl Reading {
             && (stage <= 2 || self.key.is_some())
     }
 
-    /// The line that refuses an opening zone, asked before a line of a stage: at the first one behind the zones, where their lines are all there.
+    /// The line that refuses an opening zone, asked before a line of a stage: at the first one after the zones, where their lines are all there.
     fn refused_before(&self, stage: u8) -> Option<u64>
         ensures { result ≡ keeping.refused_before self.now stage }
     {

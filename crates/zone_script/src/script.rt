@@ -12,7 +12,7 @@ use crate::reading::Reading;
 use std::alloc::{AllocError, Global};
 use thiserror::Error;
 use tsig_port::{Key, Time48};
-use zone_store::ZoneApex;
+use zone_sessions::ZoneApex;
 
 /// What a script says.
 #[derive(Drop)]
@@ -34,7 +34,7 @@ pub struct Script {
 /// Why a script isn't taken.
 #[derive(Clone, Copy, Debug, PartialEq, Eq, Error)]
 pub enum ScriptError {
-    /// The line of this number, counted from 1, isn't read or is refused; the number behind the last line where the key is missing.
+    /// The line of this number, counted from 1, isn't read or is refused; the number after the last line where the key is missing.
     #[error("line {0}")]
     Line(u64),
     /// Memory ran out.

@@ -10,7 +10,7 @@ use Rattle.dns_rdata.specs.Records.{Field, same_data}
 use Rattle.dns_rdata.specs.SameData.{same_data_equiv}
 use Rattle.zone_model.specs.Version.{RecordSet, all_differ}
 use Rattle.zone_model.specs.Edits.{distinct, distinct_set}
-use Rattle.zone_types.specs.TypedSets.{TypedSet}
+use Rattle.zone_values.specs.TypedSets.{TypedSet}
 use Rattle.zone_sets.specs.TypedEntries.{typed}
 
 -- the list with a datum put last, unless it has an equal one

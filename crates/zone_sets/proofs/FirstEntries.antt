@@ -1,4 +1,4 @@
--- The first entry behind a key, and from a key on.
+-- The first entry after a key, and from a key on.
 use Rattle.std.proofs.Common.{◌≡◌, Bool, true, false, cond, ◌&&◌, List, [], ◌∷◌, refl, sym, ap, is_lt, is_le, Option, Some, None, option_map}
 use Rattle.std.specs.List.{find}
 use Rattle.std.specs.Map.Iter.{TakesFirst}
@@ -15,7 +15,7 @@ pub takes_head : {A X : Type 0} (shows : A → X) (s : List X) (r : Option A) (t
 takes_head shows s None t h = ap head_of (sym h.0)
 takes_head shows s (Some x) t h = ap head_of (sym h)
 
--- the first of what a range behind a key holds
+-- the first of what a range after a key holds
 pub first_of_range : {X : Type 0} (k : Key) (es : List (Key × X)) → head_of (entries_between key_cmp (Excluded k) Unbounded es) ≡ find (λ (e : Key × X). is_lt (key_cmp k e.0)) es
 first_of_range k [] = refl
 first_of_range {X} k (e ∷ es) = by (is_lt (key_cmp k e.0)) (first_of_range k es)

@@ -9,7 +9,7 @@ use Rattle.std.specs.Map.{keys_of, lookup, remove_entry}
 use Rattle.zone_model.specs.Version.{RecordSet, Key, Sets, key_cmp, has_key, set_in}
 use Rattle.zone_model.proofs.Entries.{seen-insert_entry, seen-remove_entry, seen-lookup}
 use Rattle.zone_model.proofs.Folded.{key_from_tie}
-use Rattle.zone_types.specs.TypedSets.{TypedSet}
+use Rattle.zone_values.specs.TypedSets.{TypedSet}
 use Rattle.zone_sets.specs.TypedEntries.{typed, item_of, entry_of, has_own_type, typed_set_in}
 use Rattle.zone_sets.proofs.Equality.{filter_map}
 

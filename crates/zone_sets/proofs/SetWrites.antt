@@ -1,4 +1,4 @@
--- What a write behind a borrow, and an insertion, make of typed sets.
+-- What a write after a borrow, and an insertion, make of typed sets.
 use Rattle.std.proofs.Common.{◌≡◌, Bool, true, false, cond, List, [], ◌∷◌, refl, sym, ap, ◌∙◌, true≢false, Ordering, Less, Equal, Greater, Option, Some, None, Result, Ok, Err, OnOk, OnErr, is_some, is_eq, map}
 use Rattle.std.specs.Ordering.{match_ordering}
 use Rattle.std.specs.Cmp.{IsTotalOrder}
@@ -12,7 +12,7 @@ use Rattle.std.proofs.lemmas.Map.Keys.{sorted_tail}
 use Rattle.std.proofs.lemmas.Map.Entries.{none_below_head}
 use Rattle.zone_model.specs.Version.{RecordSet, Key, Sets, key_cmp, has_key, set_in}
 use Rattle.zone_model.proofs.Folded.{key_total}
-use Rattle.zone_types.specs.TypedSets.{TypedSet}
+use Rattle.zone_values.specs.TypedSets.{TypedSet}
 use Rattle.zone_sets.specs.TypedEntries.{typed, entry_of, has_own_type}
 use Rattle.zone_sets.proofs.KeptTypes.{TypedEntries, found_own, found_seen, absent_seen}
 
@@ -34,7 +34,7 @@ module _ {K X : Type 0} {R : K → K → Ordering} (o : IsTotalOrder R) where
 abbrev pub made_at : (Option RecordSet → RecordSet) → Key → TypedEntries → TypedSet
 made_at make k es = typed k.1 (make (set_in (map entry_of es) k))
 
--- what a write behind a borrow makes of the sets
+-- what a write after a borrow makes of the sets
 pub written : (make : Option RecordSet → RecordSet) (k : Key) (s w : TypedSet) (es : TypedEntries) → IsStrictlySortedBy key_cmp (keys_of es) → list_all has_own_type es ≡ true → Some s ≡ lookup (has_key k) es
     → w ≡ typed s.rtype (make (Some s.contents)) → set_value (has_key k) es w ≡ insert_entry key_cmp es k (made_at make k es)
 written make k s w es h own found e =

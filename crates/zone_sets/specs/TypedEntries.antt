@@ -1,7 +1,7 @@
 -- Sets with their type, as they are kept and told (RFC 2181, 5).
 use Rattle.std.specs.Prelude.{ℕ, Bool, ◌==◌, List, Option, option_map}
 use Rattle.zone_model.specs.Version.{RecordSet, Key, Sets, set_in}
-use Rattle.zone_types.specs.TypedSets.{TypedSet}
+use Rattle.zone_values.specs.TypedSets.{TypedSet}
 
 -- a set with its type
 abbrev pub typed : ℕ → RecordSet → TypedSet

@@ -71,7 +71,7 @@ impl KeyedSets {
         self.entries.keys()
     }
 
-    /// The first set behind a key, with its own key.
+    /// The first set after a key, with its own key.
     pub fn first_behind(&self, key: &SetKey) -> Option<(&SetKey, &RecordSet)>
         ensures { option_map deref_pair result ≡ option_map item_of (find (λ e. is_lt (key_cmp key.now e.0)) self.now) }
     {
@@ -80,7 +80,7 @@ impl KeyedSets {
             .next()
     }
 
-    /// The first set at a key or behind it, with its own key.
+    /// The first set at a key or after it, with its own key.
     pub fn first_from(&self, key: &SetKey) -> Option<(&SetKey, &RecordSet)>
         ensures { option_map deref_pair result ≡ option_map item_of (find (λ e. is_le (key_cmp key.now e.0)) self.now) }
     {

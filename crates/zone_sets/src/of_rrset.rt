@@ -5,13 +5,13 @@ ghost use Rattle.dns_rdata.specs.Records.{same_data};
 ghost use Rattle.dns_rdata.specs.ZoneData.{data_fields, rtype_of};
 ghost use Rattle.zone_model.specs.Version.{all_differ};
 ghost use Rattle.zone_model.specs.Edits.{distinct_set};
-ghost use Rattle.zone_types.specs.TypedSets.{set_of};
+ghost use Rattle.zone_values.specs.TypedSets.{set_of};
 ghost use Rattle.zone_sets.specs.TypedEntries.{typed};
 
 use crate::sets::RecordSet;
 use dns_rdata::StoredRecordData;
 use std::alloc::{AllocError, Global};
-use zone_types::Rrset;
+use zone_values::Rrset;
 
 impl RecordSet {
     /// The set of the first of equal data of another (RFC 2181, 5).

@@ -5,7 +5,7 @@ ghost use Rattle.dns_name.specs.Names.{fold};
 ghost use Rattle.dns_rdata.specs.Records.{same_data};
 ghost use Rattle.dns_rdata.specs.ZoneData.{rtype_of, data_fields};
 ghost use Rattle.zone_model.specs.Version.{key_cmp};
-ghost use Rattle.zone_types.specs.TypedSets.{set_of};
+ghost use Rattle.zone_values.specs.TypedSets.{set_of};
 ghost use Rattle.zone_sets.specs.DataIndex.{IsIndexed};
 
 use crate::data_index::{FEW, forget, is_noted, note_last};
@@ -29,7 +29,7 @@ pub struct RecordSet {
 impl Model for RecordSet {
     ghost use Rattle.std.specs.Prelude.{◌≡◌, map, All};
     ghost use Rattle.dns_rdata.specs.ZoneData.{rtype_of, data_fields};
-    ghost use Rattle.zone_types.specs.TypedSets.{TypedSet, set_of};
+    ghost use Rattle.zone_values.specs.TypedSets.{TypedSet, set_of};
     ghost use Rattle.zone_sets.specs.DataIndex.{IsIndexed};
 
     ghost Value = { TypedSet };

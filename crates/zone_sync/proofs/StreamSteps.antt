@@ -5,7 +5,7 @@ use Rattle.std.proofs.Math.Seq.{take-add}
 use Rattle.zone_sync.specs.Streams.{with_more, with_first}
 use Rattle.std.proofs.lemmas.List.{take-append-drop, drop-drop, take_at, take_rest}
 
--- a part behind the first ones
+-- a part after the first ones
 written_part : (before : Option (List ℕ)) (xs : List ℕ) (i n : ℕ) (t u : Option (List ℕ)) → t ≡ with_more (take i xs) before
     → u ≡ with_more (take n (drop i xs)) t → u ≡ with_more (take (i + n) xs) before
 written_part None xs i n t u e f = f ∙ ap (with_more (take n (drop i xs))) e

@@ -1,6 +1,6 @@
 -- What the program's primary is made of.
 use Rattle.xfr_services.specs.declared.services.RefuseSvc.{RefuseSvc}
 
--- the service behind the transfers, which refuses all that comes to it
+-- the service after the transfers, which refuses all that comes to it
 abbrev pub refuser : RefuseSvc
 refuser = record {}

@@ -2,11 +2,11 @@
 use Rattle.std.specs.Prelude.{ℕ, List, [], ◌++◌, Option, option_map}
 use Rattle.zone_transfer.specs.Calls.{Calls}
 
--- what a sink took, with a further part behind it
+-- what a sink took, with a further part after it
 abbrev pub with_more : List ℕ → Option (List ℕ) → Option (List ℕ)
 with_more part had = option_map (λ octets. octets ++ part) had
 
--- what a source had, from a part and what is left behind it
+-- what a source had, from a part and what is left after it
 abbrev pub with_first : List ℕ → Option (List ℕ) → Option (List ℕ)
 with_first part left = option_map (λ octets. part ++ octets) left
 

@@ -7,9 +7,9 @@ use crate::outcome_line::append_number;
 use dns_name::{Rcode, StoredName};
 use dns_rdata::ComposeRecord;
 use std::alloc::{AllocError, Global};
-use zone_answers::{AnswerRecord, AnswerRecords, AnswerRef, OutOfZone, look_up};
+use zone_lookup::{AnswerRecord, AnswerRecords, AnswerRef, OutOfZone, look_up};
 use zone_script::queries::Query;
-use zone_store::ReadZone;
+use zone_sessions::ReadZone;
 
 /// What a version answers to questions, in order: for each `answer RCODE AA`, AA 1 where the zone has authority, with a line `an HEX`,
 /// `au HEX` or `ad HEX` for each record of the three sections; or `answer out-of-zone`.

@@ -26,7 +26,7 @@ use xfr_server::{
 };
 use zone_script::script::{Script, ScriptError, parse};
 use zone_script::words::is_axfr;
-use zone_store::ZoneApex;
+use zone_sessions::ZoneApex;
 use zone_transfer::client::XfrMode;
 use zone_transfer::laws::history_primaries_grant;
 use zone_transfer::links::Link;

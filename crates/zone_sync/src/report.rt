@@ -13,7 +13,7 @@ use dns_name::{Class, Labelled};
 use dns_rdata::{RecordData, StoredRecordData};
 use std::alloc::{AllocError, Global};
 use zone_script::queries::Query;
-use zone_store::{ReadZone, WalkItem};
+use zone_sessions::{ReadZone, WalkItem};
 use zone_transfer::outcome::{SyncError, SyncOk};
 
 /// The report of a transfer: the outcome line, with the number of versions made where it ended well, and a line `rr F HEX` for

@@ -116,7 +116,7 @@ module _ (a : Asking) (ok : IsKey a.key) (early : a.at < 2 ^ 48) (name : is_name
       signature_written (request_message a) a.key.name t is_message tt (lit< tt) ok.name
       (signer_tsig a.key (request_message a) a.at 300 input ok early (lit< tt) can_sign) (signer_short a.key (request_message a) a.at 300 input ok can_sign)
 
-  -- the octets: the message, and behind its last counted item the TSIG
+  -- the octets: the message, and after its last counted item the TSIG
   pub taken_is : taken_message (asked_octets a) ≡ M ++ r
   taken_is =
       ap taken_message (sym (octets_are a))

@@ -15,7 +15,7 @@ use Rattle.zone_transfer.specs.Refusals.{of_update}
 use Rattle.zone_transfer.specs.Steps.{numbers_left, HasMade, DoesOne, HaltsOne, TakesOne, LedOn, IsCause, TakesAll}
 use Rattle.zone_transfer.proofs.Steps.{led_more, led_all, halts_left}
 
--- what is left behind one update
+-- what is left after one update
 abbrev pub behind_one : Update → Rest → Rest
 behind_one u new = record { run = then_run (went new.run.place (u ∷ [])) new.run; retry = new.retry }
 

@@ -13,7 +13,7 @@ use Rattle.zone_model.specs.Read.{Fault, NotValid, Malformed, OtherAnswer, Item,
 use Rattle.zone_model.specs.Machine.{Place, AtStart, AtSecond, InWhole, InDeletes, InAdds, AtEnd, is_at_end, Run, went, step, then_run, end_or_batch, run_items, lone_serial, signal_of}
 use Rattle.zone_transfer.specs.Standing.{IsUnderWay}
 
--- behind its first record
+-- after its first record
 abbrev pub IsBehind : Place → Type 0
 IsBehind AtStart = ⊥
 IsBehind (AtSecond s) = ⊥
@@ -99,7 +99,7 @@ begins m [] e h =
 pub first_begins : (id : ℕ) (q : Question) (m : ReadMessage) → request_fault id q true m ≡ None → BeginsWith m.answers
 first_begins id q m h = begins m m.answers refl (judged (is_other id q m) (message_fault true m) OtherAnswer h).1
 
--- behind a message that isn't refused, a whole transfer is behind its first record
+-- after a message that isn't refused, a whole transfer is after its first record
 pub behind_message : (id : ℕ) (q : Question) (begun : Bool) (p : Place) (m : ReadMessage) → IsUnderWay begun p → request_fault id q (not begun) m ≡ None
     → IsBehind (run_items Axfr p (map record_item m.answers)).place
 behind_message id q true p m w h = run_behind Axfr p (map record_item m.answers) (behind_way p w)

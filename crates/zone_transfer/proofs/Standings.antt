@@ -82,7 +82,7 @@ pub checked_message : (m : List ℕ) → (checked_so_far m).message ≡ message_
 unfolding checked_so_far
 checked_message m = refl
 
--- the run of the message, and the client behind it
+-- the run of the message, and the client after it
 abbrev pub run_next : Asking → List (List ℕ) → List ℕ → Run
 run_next a taken m = run_message (course a) (client_so_far a taken) (checked_so_far m)
 

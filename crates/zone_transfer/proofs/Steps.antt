@@ -17,7 +17,7 @@ use Rattle.zone_model.proofs.FinerSteps.{last_number}
 use Rattle.xfr_client.specs.Updating.{Updating, progress_of, new_version, next_commit, lacks_number}
 use Rattle.zone_transfer.specs.Steps.{commit_after, numbers_left, HasMade, Ahead, DoesOne, HaltsOne, TakesOne, Led}
 
--- one version more behind those committed on a base
+-- one version more after those committed on a base
 pub number_after : (base : Commit) (vs : List Version) → (commit_after base vs).number ≡ base.number + length vs
 number_after base [] = omega arith
 number_after base (v ∷ more) = let e = number_after (record { number = base.number + 1; version = v }) more in omega (arith, e)

@@ -1,4 +1,4 @@
--- A transfer as far as it is built: a client takes no unsigned answer behind the first (RFC 8945, 5.3.1).
+-- A transfer as far as it is built: a client takes no unsigned answer after the first (RFC 8945, 5.3.1).
 use Rattle.std.specs.Prelude.{ℕ, ◌<◌, length, ◌%◌, ◌^◌, Bool, false, not, List, [], ◌∷◌, map, Option, unwrap_or}
 use Rattle.dns_wire.specs.Wire.{header_in, header_of, Question, same_question, Message, message_wire}
 use Rattle.tsig_port.specs.Tsig.{TsigKey, request_tsig, signed_request, is_signed}
@@ -73,7 +73,7 @@ message_so_far octets = unwrap_or (message_of octets) (header_alone octets)
 unfoldable pub checked_so_far : List ℕ → Checked
 checked_so_far m = record { message = message_so_far (taken_message m); signed = is_signed m }
 
--- the first test that an answer fails behind those taken before it
+-- the first test that an answer fails after those taken before it
 unfoldable pub fault_so_far : Asking → List (List ℕ) → List ℕ → Option ValidationError
 fault_so_far a taken m = answer_fault 0 a.key (asked_mac a) a.at taken m
 

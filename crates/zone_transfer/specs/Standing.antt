@@ -32,13 +32,13 @@ pub record ClientState : Type 0 where
 abbrev pub asking_of : ClientState → Commit → Asking
 asking_of c base = record { key = c.key; mode = c.mode; at = c.at; base = base }
 
--- each of these replies passed the tests behind those before it, whatever comes behind them
+-- each of these replies passed the tests after those before it, whatever comes after them
 pub record Passed (fault : List (List ℕ) → List ℕ → Option ValidationError) (taken : List (List ℕ)) : Type 0 where
   pub passing : (more : List (List ℕ)) → passing fault [] (taken ++ more) ≡ taken ++ passing fault taken more
   pub faults : (more : List (List ℕ)) → first_fault fault [] (taken ++ more) ≡ first_fault fault taken more
   pub headed : list_all has_header taken ≡ true
 
--- where a whole transfer stands before its first message, and behind it
+-- where a whole transfer stands before its first message, and after it
 abbrev pub IsUnderWay : Bool → Place → Type 0
 IsUnderWay false AtStart = Unit {0}
 IsUnderWay true (InWhole first) = Unit {0}
@@ -58,7 +58,7 @@ pub record ExchangeStands (e : Exchange) (s : Session) (a : Asking) (taken : Lis
   pub ahead : Ahead a.base before e.updater s handles (client_so_far a taken).progress
   pub passed : Passed (fault_so_far a) taken
 
--- a client with its session, and the handles made behind those that were there before, stands for the replies taken so far
+-- a client with its session, and the handles made after those that were there before, stands for the replies taken so far
 pub record Stands (c : ClientState) (s : Session) (a : Asking) (taken : List (List ℕ)) (before handles : List Commit) : Type 0 where
   pub asks : asking_of c a.base ≡ a
   pub exchange : Exchange

@@ -65,7 +65,7 @@ pub record LedOn (base : Commit) (before : List Commit) (u : Updating) (s : Sess
   pub no_retry : left.retry ≡ false
   pub ahead : Ahead base before u s handles progress
 
--- what ends a message's updates early: an update that isn't done, or a fault behind them all
+-- what ends a message's updates early: an update that isn't done, or a fault after them all
 abbrev pub IsCause : Option Halt → Option Fault → SyncError → Type 0
 IsCause (Some h) f e = refusal_outcome e ≡ Some (halt_outcome h)
 IsCause None (Some f) e = refusal_outcome e ≡ Some (Reading f)

@@ -25,7 +25,7 @@ use tsig_port::{ClientSequence, Key, Time48, ValidationError};
 use xfr_client::{
     XfrResponseInterpreter, XfrZoneUpdateIterator, ZoneUpdate, ZoneUpdater, protocol, update,
 };
-use zone_store::{ReadZone, WriteZone};
+use zone_sessions::{ReadZone, WriteZone};
 
 /// What is asked for.
 #[derive(Clone, Copy, Debug, PartialEq, Eq)]
@@ -209,7 +209,7 @@ impl Exchange {
         }
     }
 
-    /// A reply that has a header, and whose signature passes the tests behind those taken before; it loses its TSIG. An unsigned one
+    /// A reply that has a header, and whose signature passes the tests after those taken before; it loses its TSIG. An unsigned one
     /// is refused, though the sequence takes it: a transfer's replies are each to be covered as they are applied (RFC 8945, 5.3.1).
     fn checked(&mut self, octets: Vec<u8>, at: Time48) -> Result<MessageBuf, SyncError>
         ensures answers { (a : Asking) (taken : List (List ℕ)) → a.at ≡ at → self.old.sequence.key ≡ a.key → ClientStands (λ k. k) self.old.sequence (asked_mac a) taken

@@ -37,7 +37,7 @@ impl LoopLink {
         }
     }
 
-    /// That it was honest since it was new: each way handed on what it took, in order, and said that no more come only behind the
+    /// That it was honest since it was new: each way handed on what it took, in order, and said that no more come only after the
     /// last. It does nothing.
     pub fn honesty(&self)
         ensures { IsHonest no_lists self.now 0 0 }

@@ -51,7 +51,7 @@ pub enum SyncError {
     /// A reply isn't one of a transfer (RFC 5936, 2.2).
     #[error("the reply isn't one of a transfer")]
     Xfr(protocol::Error),
-    /// A record of a reply can't be read, or stands behind the end.
+    /// A record of a reply can't be read, or stands after the end.
     #[error("a record can't be read where it stands")]
     Iteration(protocol::IterationError),
     /// An update doesn't fit the zone.

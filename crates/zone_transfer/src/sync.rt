@@ -17,7 +17,7 @@ use dns_wire::MessageBuf;
 use std::alloc::Global;
 use tsig_port::{Key, Time48};
 use xfr_server::{ReplyStream, Request, Service, TransportSpecificContext};
-use zone_store::{ReadZone, WriteZone};
+use zone_sessions::{ReadZone, WriteZone};
 
 /// How many replies a secondary takes in one transfer.
 pub const MOST_REPLIES: u32 = 65_536;

@@ -1,4 +1,4 @@
--- The stop behind a key.
+-- The stop after a key.
 use Rattle.std.proofs.Common.{◌≡◌, Bool, true, false, cond, if◌then◌else◌, [], ◌∷◌, map, refl, sym, ap, ◌∙◌, Ordering, Less, Equal, Greater, is_gt, is_lt, Some, option_map}
 use Rattle.std.specs.List.{find}
 use Rattle.std.specs.Ordering.{ordering_reverse}
@@ -22,7 +22,7 @@ shown_folds v n = by (same_name n v.apex) refl
     by true h = fold-fold v.apex ∙ sym ((same_name-Decides n v.apex).0 h)
     by false h = fold-fold n
 
--- a stop is behind a key where its entry is
+-- a stop is after a key where its entry is
 behind : (v : Version) (k : Key) (e : Key × RecordSet) → is_gt (key_cmp (fold (stop_of v e).owner, (stop_of v e).rtype) k) ≡ is_lt (key_cmp k e.0)
 behind v k e =
     ap (λ n. is_gt (ordering_then (spelling_cmp n (fold k.0)) (nat_cmp e.0.1 k.1))) (shown_folds v e.0.0) ∙ ap is_gt (key_total.antisymm e.0 k) ∙ turned (key_cmp k e.0)

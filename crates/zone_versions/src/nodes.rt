@@ -19,7 +19,7 @@ use dns_name::{KeyName, Rtype, StoredName, ToName, Ttl};
 use dns_rdata::{RecordData, Soa, StoredRecord, StoredRecordData, ZoneRecordData};
 use std::alloc::{AllocError, Global};
 use zone_sets::{KeyedSets, RecordSet, SetKey};
-use zone_types::Rrset;
+use zone_values::Rrset;
 
 impl ZoneVersion {
     /// Whether a set is refused at a node: a CNAME set below the apex whose data aren't one value (RFC 2181, 10.1).

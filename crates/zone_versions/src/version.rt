@@ -187,7 +187,7 @@ impl ZoneVersion {
         }
     }
 
-    /// The first entry behind a key.
+    /// The first entry after a key.
     fn entry_behind(&self, key: &SetKey) -> Option<(&SetKey, &RecordSet)>
         ensures { option_map deref_pair result ≡ option_map item_of (find (λ e. is_lt (key_cmp key.now e.0)) self.now.sets) }
     {
@@ -202,7 +202,7 @@ impl ZoneVersion {
             .first_from(&SetKey::new(owner, Rtype::from_int(0)))
     }
 
-    /// The first stop behind an owner and type.
+    /// The first stop after an owner and type.
     pub fn next_stop(&self, owner: &KeyName, rtype: Rtype) -> Option<WalkItem<'_>>
         ensures { result ≡ next_stop self.now owner.now rtype }
     {

@@ -1,6 +1,6 @@
 use Rattle.std.proofs.Common.{◌∙◌, sym, ap}
 use Rattle.dns_rdata.specs.ZoneData.{data_fields}
-use Rattle.zone_types.specs.TypedSets.{TypedSet, set_of}
+use Rattle.zone_values.specs.TypedSets.{TypedSet, set_of}
 use Rattle.zone_diffs.proofs.Data.{with_new, distinct_more}
 use Rattle.zone_diffs.proofs.rrsets.distinct.Goals as goal
 

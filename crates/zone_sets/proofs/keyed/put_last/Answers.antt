@@ -2,7 +2,7 @@ use Rattle.std.proofs.Common.{ℕ, [], ◌∷◌, ◌∙◌, ap, sym}
 use Rattle.std.specs.BTreeMap.{insert_entry}
 use Rattle.dns_rdata.specs.ZoneData.{data_fields}
 use Rattle.zone_model.specs.Version.{key_cmp}
-use Rattle.zone_types.specs.TypedSets.{set_of}
+use Rattle.zone_values.specs.TypedSets.{set_of}
 use Rattle.zone_sets.specs.SetEdits.{last_set}
 use Rattle.zone_sets.proofs.KeptTypes.{TypedEntries, found_own}
 use Rattle.zone_sets.proofs.SetWrites.{written, unwritten, inserted, on_ok, on_err}

@@ -1,6 +1,6 @@
 use Rattle.std.proofs.Common.{◌∙◌, sym, ap}
 use Rattle.dns_rdata.specs.ZoneData.{data_fields}
-use Rattle.zone_types.specs.TypedSets.{TypedSet, set_of}
+use Rattle.zone_values.specs.TypedSets.{TypedSet, set_of}
 use Rattle.zone_sets.proofs.FirstData.{with_new, distinct_more}
 use Rattle.zone_sets.proofs.of_rrset.first_of_equal.Goals as goal
 

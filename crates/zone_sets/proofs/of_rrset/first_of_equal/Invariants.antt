@@ -1,7 +1,7 @@
 use Rattle.std.proofs.Common.{◌≡◌, map, take}
 use Rattle.dns_rdata.specs.ZoneData.{data_fields}
 use Rattle.zone_model.specs.Edits.{distinct}
-use Rattle.zone_types.specs.TypedSets.{set_of}
+use Rattle.zone_values.specs.TypedSets.{set_of}
 use Rattle.zone_sets.proofs.of_rrset.first_of_equal.Given as goal
 
 -- The first of equal data of those so far.

@@ -8,7 +8,7 @@ use Rattle.zone_sets.proofs.FirstEntries.{takes_head, head_of, first_of_range}
 use Rattle.zone_sets.proofs.KeptTypes.{find_seen}
 use Rattle.zone_sets.proofs.keyed.KeyedSets.first_behind.Goals as goal
 
--- The range holds what is behind the key, and `next` gives its first.
+-- The range holds what is after the key, and `next` gives its first.
 pub returns : goal.returns
 returns c =
     takes_head deref_pair c.range.result c.next.result c.next.new.self c.next.ensures.steps ∙ ap head_of (c.range.ensures.between tt) ∙ first_of_range c.args.key.now c.self.inside.entries.entries

@@ -1,7 +1,7 @@
 use Rattle.std.proofs.Common.{◌≡◌, All, ap, sym, subst, ◌∙◌}
 use Rattle.std.proofs.lemmas.List.Elements.{All-push}
 use Rattle.dns_rdata.specs.ZoneData.{rtype_of}
-use Rattle.zone_types.specs.TypedSets.{TypedSet}
+use Rattle.zone_values.specs.TypedSets.{TypedSet}
 use Rattle.zone_sets.proofs.sets.RecordSet.append.Goals as goal
 
 -- The data put last are of the set's type.

@@ -2,7 +2,7 @@ use Rattle.std.proofs.Common.{◌≡◌, All, not, map, filter, ap, sym, subst, 
 use Rattle.std.proofs.lemmas.List.Elements.{All-filter}
 use Rattle.dns_rdata.specs.Records.{same_data}
 use Rattle.dns_rdata.specs.ZoneData.{rtype_of, data_fields}
-use Rattle.zone_types.specs.TypedSets.{TypedSet, set_of}
+use Rattle.zone_values.specs.TypedSets.{TypedSet, set_of}
 use Rattle.zone_sets.specs.DataIndex.{IsIndexed}
 use Rattle.zone_sets.proofs.Equality.{filter_map}
 use Rattle.zone_sets.proofs.sets.RecordSet.remove.Goals as goal

@@ -12,7 +12,7 @@ use Rattle.zone_versions.proofs.version.ZoneVersion.next_stop.Goals as goal
 pub stop-requires : goal.stop-requires
 stop-requires c = found_type _ c.in-Some.key.now c.in-Some.contents.now c.in-Some.ensures
 
--- The entry behind the key is the first stop behind it.
+-- The entry after the key is the first stop after it.
 pub returns-in-Some : goal.returns-in-Some
 returns-in-Some c =
     ap Some c.stop.ensures

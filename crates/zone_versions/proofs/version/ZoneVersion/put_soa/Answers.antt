@@ -3,7 +3,7 @@ use Rattle.std.specs.BTreeMap.{insert_entry}
 use Rattle.dns_rdata.specs.ZoneData.{data_fields}
 use Rattle.zone_model.specs.Version.{Version, Key, key_cmp}
 use Rattle.zone_model.specs.Edits.{with_sets}
-use Rattle.zone_types.specs.TypedSets.{TypedSet}
+use Rattle.zone_values.specs.TypedSets.{TypedSet}
 use Rattle.zone_versions.specs.Puts.{with_soa}
 use Rattle.zone_versions.specs.Sound.{IsSound}
 use Rattle.zone_versions.proofs.Sound.{soa_sound}

@@ -1,7 +1,7 @@
 use Rattle.std.proofs.Common.{◌≡◌, ap, sym, subst, ◌∙◌}
 use Rattle.std.specs.BTreeMap.{insert_entry}
 use Rattle.dns_rdata.specs.DataFields.{soa_fields}
-use Rattle.zone_types.specs.TypedSets.{TypedSet}
+use Rattle.zone_values.specs.TypedSets.{TypedSet}
 use Rattle.zone_model.specs.Version.{Version, Key, key_cmp}
 use Rattle.zone_model.specs.Edits.{with_sets}
 use Rattle.zone_versions.specs.Puts.{with_soa}

@@ -1,0 +1,115 @@
+// Zones, whatever keeps them.
+ghost use Rattle.std.specs.Prelude.{◌≡◌, false};
+
+use crate::stores::ReadableZone;
+use dns_name::{Class, StoredName};
+use std::alloc::{AllocError, Global};
+use std::marker::Model;
+use zone_sessions::{ReadZone, WriteZone, ZoneApex};
+
+/// What keeps a zone: it knows its class and apex, and gives read handles.
+pub trait ZoneStore {
+    ghost use Rattle.std.specs.Prelude.{◌≡◌, IfOk};
+    ghost use Rattle.zone_model.specs.Version.{Version};
+
+    /// The handles that it gives.
+    type Read: ReadableZone;
+
+    /// The versions that a handle may be of.
+    ghost MayGive: { Self → Version → Type 0 };
+
+    /// The class.
+    fn class(&self) -> Class
+        ensures { (v : Version) → MayGive self.now v → v.class ≡ result };
+
+    /// The name of the apex, as it was given.
+    fn apex_name(&self) -> &StoredName
+        ensures { (v : Version) → MayGive self.now v → v.apex ≡ result.now };
+
+    /// A read handle. It doesn't wait, so nothing is asked of `rt`.
+    fn read<R>(&self, rt: &R) -> Result<Self::Read, AllocError>
+        ensures { IfOk result (λ z. MayGive self.now (Self.Read.version_of z)) };
+}
+
+/// A zone in memory gives its current version.
+impl ZoneStore for ZoneApex {
+    ghost use Rattle.std.specs.Prelude.{◌≡◌};
+
+    type Read = ReadZone;
+
+    ghost MayGive = { λ z v. v ≡ z.version };
+
+    fn class(&self) -> Class {
+        ZoneApex::class(self)
+    }
+
+    fn apex_name(&self) -> &StoredName {
+        self.name()
+    }
+
+    fn read<R>(&self, rt: &R) -> Result<ReadZone, AllocError> {
+        ZoneApex::read(self, rt)
+    }
+}
+
+/// A zone, whatever keeps it.
+#[derive(Drop)]
+pub struct Zone<S: ZoneStore + Drop> {
+    store: S,
+}
+
+impl<S: ZoneStore + Drop> Model for Zone<S> {
+    ghost Value = { S };
+
+    ghost view = { λ z. z.store };
+}
+
+impl<S: ZoneStore + Drop> Zone<S> {
+    /// The zone that is kept so.
+    pub fn new(store: S) -> Zone<S>
+        ensures { result ≡ store }
+    {
+        Zone { store }
+    }
+
+    /// What keeps the zone.
+    pub fn into_inner(self) -> S
+        ensures { result ≡ self }
+    {
+        self.store
+    }
+
+    /// What keeps the zone, lent.
+    pub fn store(&self) -> &S
+        ensures { result.now ≡ self.now }
+    {
+        &self.store
+    }
+}
+
+impl<S: ZoneStore + Drop> ZoneStore for Zone<S> {
+    type Read = S::Read;
+
+    ghost MayGive = { S.MayGive };
+
+    fn class(&self) -> Class {
+        self.store.class()
+    }
+
+    fn apex_name(&self) -> &StoredName {
+        self.store.apex_name()
+    }
+
+    fn read<R>(&self, rt: &R) -> Result<S::Read, AllocError> {
+        self.store.read(rt)
+    }
+}
+
+impl Zone<ZoneApex> {
+    /// A session that writes the zone's next versions. What it didn't commit is dropped with it.
+    pub fn write<'z>(&'z mut self, alloc: Global) -> WriteZone<'z>
+        ensures { result ≡ record { current = self.old; pending = self.old.version; compares = false; has_handle = false } }
+    {
+        self.store.write(alloc)
+    }
+}

@@ -1,0 +1,21 @@
+//! Questions to one version of a zone (RFC 1034, 4.3.2; RFC 4592): what it has for a name and a type, its sets lent
+//! or in memory of the answer's own.
+//!
+//! A name is walked label by label, with one ordered look-up or two at each; that a name exists is a question for the first owner from it on,
+//! since in canonical order the owners at or below a name stand together.
+#![tactic(auto)]
+
+mod answer_ref;
+mod content;
+mod finding;
+mod laws;
+mod owning;
+mod question;
+mod records;
+mod sections;
+
+pub use answer_ref::AnswerRef;
+pub use question::look_up;
+pub use records::AnswerRecord;
+pub use sections::AnswerRecords;
+pub use zone_values::OutOfZone;

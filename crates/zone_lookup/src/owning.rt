@@ -1,0 +1,227 @@
+// The parts of an answer, with records of their own.
+ghost use Rattle.std.specs.Prelude.{◌≡◌, ◌++◌, OnOk, IfOk, All, Some, None, map, option_copied};
+ghost use Rattle.dns_rdata.specs.ZoneData.{rtype_of, data_fields};
+ghost use Rattle.zone_values.specs.TypedSets.{set_of, first_record};
+ghost use Rattle.zone_answer.specs.Replies.{authority};
+ghost use Rattle.zone_lookup.specs.Answers.{answer_of, HasItsTypes};
+ghost use Rattle.zone_lookup.specs.Owned.{additional_for, alias_content, authority_for, content_of, first_apex_soa, reply_of, soa_authority};
+
+use crate::answer_ref::AnswerRef;
+use crate::content::Content;
+use crate::records::AnswerRecord;
+use crate::sections::AnswerRecords;
+use dns_name::{KeyName, Labelled, Rcode, Rtype};
+use dns_rdata::{Record, StoredRecord, StoredRecordData};
+use std::alloc::{AllocError, Global};
+use zone_answer::{Answer, AnswerAdditional, AnswerAuthority, AnswerContent};
+use zone_values::{Rrset, SharedRr, SharedRrset};
+use zone_versions::{RecordSet, ZoneVersion};
+
+impl<'v> AnswerRef<'v> {
+    /// The answer with records of its own, which a message says (`Answer::to_message`): the set found or the first record of an alias; NS and DS of
+    /// a referral, with its glue as required records; the first apex SOA record of a negative answer (RFC 1034, 4.3.2; RFC 2308, 3). Refused
+    /// only where memory runs out.
+    pub fn to_answer(&self, alloc: Global) -> Result<Answer, AllocError>
+        ensures { IfOk result (λ a. a ≡ reply_of self.now) }
+    {
+        let lent = self.content();
+        let content = own_content(alloc, lent)?;
+        let authority = own_authority(alloc, self.version(), lent)?;
+        let additional = own_additional(alloc, self.version(), lent)?;
+        let mut answer = bare_answer(self.rcode(), content, self.authoritative());
+        put_records(&mut answer, authority, additional);
+        Ok(answer)
+    }
+}
+
+/// An answer without authority and additional records.
+fn bare_answer(rcode: Rcode, content: AnswerContent, authoritative: bool) -> Answer
+    ensures { result ≡ record { rcode = rcode; content = content; additional = None; authority = None; authoritative = authoritative } }
+{
+    let mut answer = Answer::new(rcode);
+    answer.set_authoritative(authoritative);
+    match content {
+        AnswerContent::Data(set) => answer.add_answer(set),
+        AnswerContent::Cname(target) => answer.add_cname(target),
+        AnswerContent::NoData => {}
+    }
+    answer
+}
+
+/// Puts authority and additional records to an answer without them.
+fn put_records(
+    answer: &mut Answer,
+    authority: Option<AnswerAuthority>,
+    additional: Option<AnswerAdditional>,
+)
+    requires authority { answer.old.authority ≡ None }
+    requires additional { answer.old.additional ≡ None }
+    ensures { answer.new ≡ record answer.old { additional = additional; authority = authority } }
+{
+    if let Some(authority) = authority {
+        answer.set_authority(authority);
+    }
+    if let Some(additional) = additional {
+        answer.set_additional(additional);
+    }
+}
+
+/// What is said of the name: the first record of an alias, or the set found.
+fn own_content(alloc: Global, lent: &Content<'_>) -> Result<AnswerContent, AllocError>
+    requires { HasItsTypes lent.now }
+    ensures { IfOk result (λ c. c ≡ content_of (answer_of lent.now)) }
+{
+    match lent {
+        Content::Alias(target) => Ok(alias_content(own_first(target)?)),
+        Content::Found(_, found) => Ok(AnswerContent::Data(own_set(alloc, found)?)),
+        _ => Ok(AnswerContent::NoData),
+    }
+}
+
+/// A CNAME record, if there is one.
+fn alias_content(target: Option<SharedRr>) -> AnswerContent
+    ensures { result ≡ alias_content target }
+{
+    match target {
+        Some(target) => AnswerContent::Cname(target),
+        None => AnswerContent::NoData,
+    }
+}
+
+/// NS and DS of a referral, the SOA record of a negative answer.
+fn own_authority(
+    alloc: Global,
+    version: &ZoneVersion,
+    lent: &Content<'_>,
+) -> Result<Option<AnswerAuthority>, AllocError>
+    requires { HasItsTypes lent.now }
+    ensures { IfOk result (λ a. a ≡ authority_for version.now (answer_of lent.now)) }
+{
+    match lent {
+        Content::Referral(owner, servers, signer) => {
+            Ok(Some(delegation(alloc, owner, servers, *signer)?))
+        }
+        Content::NoData => soa_authority(version),
+        Content::NameError => soa_authority(version),
+        _ => Ok(None),
+    }
+}
+
+/// The NS and DS sets of a zone cut at its name.
+fn delegation(
+    alloc: Global,
+    owner: &KeyName,
+    servers: &RecordSet,
+    signer: Option<&RecordSet>,
+) -> Result<AnswerAuthority, AllocError>
+    ensures { IfOk result (λ a. a ≡ authority owner.now None (Some servers.now) (option_copied signer.entry)) }
+{
+    let owner = owner.to_stored(alloc)?;
+    let servers = own_set(alloc, servers)?;
+    let signer = own_option(alloc, signer)?;
+    Ok(AnswerAuthority::new(owner, None, Some(servers), signer))
+}
+
+/// The first SOA record of the apex there, if there is one (RFC 2308, 3).
+fn soa_authority(version: &ZoneVersion) -> Result<Option<AnswerAuthority>, AllocError>
+    ensures { IfOk result (λ a. a ≡ soa_authority version.now) }
+{
+    match first_apex_soa(version)? {
+        Some(soa) => {
+            let apex = version.apex().clone()?;
+            Ok(Some(AnswerAuthority::new(apex, Some(soa), None, None)))
+        }
+        None => Ok(None),
+    }
+}
+
+/// The first SOA record of the apex, if there is one.
+fn first_apex_soa(version: &ZoneVersion) -> Result<Option<SharedRr>, AllocError>
+    ensures { IfOk result (λ r. r ≡ first_apex_soa version.now) }
+{
+    match version.set_at(version.apex(), Rtype::SOA) {
+        Some(set) => own_first(set),
+        None => Ok(None),
+    }
+}
+
+/// The glue of a referral, which the answer needs (RFC 1034, 4.2.1).
+fn own_additional(
+    alloc: Global,
+    version: &ZoneVersion,
+    lent: &Content<'_>,
+) -> Result<Option<AnswerAdditional>, AllocError>
+    ensures { IfOk result (λ a. a ≡ additional_for version.now (answer_of lent.now)) }
+{
+    match lent {
+        Content::Referral(_, servers, _) => {
+            let mut glue = AnswerRecords::of_servers(version, servers.items());
+            let required = own_records(alloc, &mut glue)?;
+            Ok(Some(AnswerAdditional::new(alloc, required)))
+        }
+        _ => Ok(None),
+    }
+}
+
+/// The records that are left of a section.
+fn own_records(
+    alloc: Global,
+    records: &mut AnswerRecords<'_>,
+) -> Result<Vec<StoredRecord>, AllocError>
+    ensures { IfOk result (λ kept. kept.items ≡ records.old) }
+{
+    let mut kept = Vec::new(alloc);
+    'records: while let Some(record) = records.next_record() {
+        kept.push(own_record(alloc, &record)?)?;
+    }
+    Ok(kept)
+}
+
+/// The record with an owner and data of its own.
+fn own_record(alloc: Global, lent: &AnswerRecord<'_>) -> Result<StoredRecord, AllocError>
+    ensures { IfOk result (λ r. r ≡ lent.now) }
+{
+    let owner = lent.owner().to_stored(alloc)?;
+    let rdata = lent.data().clone()?;
+    Ok(Record::new(owner, lent.class(), lent.ttl(), rdata))
+}
+
+/// The set with records of its own, where there is a set.
+fn own_option(alloc: Global, set: Option<&RecordSet>) -> Result<Option<SharedRrset>, AllocError>
+    ensures { IfOk result (λ s. s ≡ option_copied set.entry) }
+{
+    match set {
+        Some(set) => Ok(Some(own_set(alloc, set)?)),
+        None => Ok(None),
+    }
+}
+
+/// The set with records of its own.
+fn own_set(alloc: Global, set: &RecordSet) -> Result<SharedRrset, AllocError>
+    ensures { IfOk result (λ s. s ≡ set.now) }
+{
+    let mut own = Rrset::new(alloc, set.rtype(), set.ttl());
+    push_items(&mut own, set.items())?;
+    own.into_shared(alloc)
+}
+
+/// Puts copies of data last in a set of their type.
+fn push_items(own: &mut Rrset, items: &[StoredRecordData]) -> Result<(), AllocError>
+    requires { All (λ d. rtype_of d ≡ own.old.rtype) items.now }
+    ensures { OnOk result (own.new ≡ set_of own.old.rtype own.old.contents.ttl (own.old.contents.items ++ map data_fields items.now)) }
+{
+    for item in items {
+        own.push_data(item.clone()?)?;
+    }
+    Ok(())
+}
+
+/// The first record of a set, if it has one.
+fn own_first(set: &RecordSet) -> Result<Option<SharedRr>, AllocError>
+    ensures { IfOk result (λ r. r ≡ first_record set.now) }
+{
+    match set.items().first() {
+        Some(item) => Ok(Some(SharedRr::new(set.ttl(), item.clone()?))),
+        None => Ok(None),
+    }
+}

@@ -1,0 +1,34 @@
+// A question to a read handle.
+ghost use Rattle.std.specs.Prelude.{◌≡◌, true, false, IfOk, OnOk, OnErr};
+ghost use Rattle.dns_name.specs.Names.{under};
+ghost use Rattle.zone_model.specs.Answer.{answer as answer_of};
+ghost use Rattle.zone_lookup.specs.Answers.{answered_by};
+
+use crate::answer_ref::AnswerRef;
+use crate::finding::answer;
+use dns_name::{Rtype, ToName};
+use zone_sessions::ReadZone;
+use zone_values::OutOfZone;
+
+/// What the handle's version has for a name and a type, without a copy and in no memory: the highest zone cut at or above the name refers, but DS
+/// at the cut itself is the zone's own; else a name that exists has its CNAME, whatever is asked below the apex, or the set of the type, for ANY that of
+/// the least type; else `*` below the closest encloser answers in its place (RFC 1034, 4.3.2; RFC 4592, 3.3; RFC 4035, 3.1.4.1). `OutOfZone`
+/// exactly where the name isn't in the zone.
+pub fn look_up<'v, N: ToName>(
+    zone: &'v ReadZone,
+    qname: &N,
+    qtype: Rtype,
+) -> Result<AnswerRef<'v>, OutOfZone>
+    ensures inside { OnOk result (under (N.labels qname.now) zone.now.version.apex ≡ true) }
+    ensures outside { OnErr result (under (N.labels qname.now) zone.now.version.apex ≡ false) }
+    ensures answer { IfOk result (λ a. a ≡ answered_by zone.now.version (answer_of zone.now.version (N.labels qname.now) qtype)) }
+{
+    if !qname.ends_with(zone.apex_name()) {
+        return Err(OutOfZone);
+    }
+    // For the proof: a published version is valid.
+    zone.validity();
+    let name = qname.to_key_name();
+    let version = zone.contents();
+    Ok(AnswerRef::of(version, answer(version, &name.borrowed(), qtype)))
+}

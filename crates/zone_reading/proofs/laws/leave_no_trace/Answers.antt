@@ -1,5 +1,0 @@
-use Rattle.zone_reading.proofs.Moves.{leave_no_trace}
-use Rattle.zone_reading.proofs.laws.leave_no_trace.Goals as goal
-
-pub returns : goal.returns
-returns c = leave_no_trace

@@ -1,5 +1,0 @@
-use Rattle.zone_reading.proofs.Moves.{opens_so, drop_abandons}
-use Rattle.zone_reading.proofs.laws.sessions_stand.Goals as goal
-
-pub returns : goal.returns
-returns c = record { opens = opens_so; dropped = drop_abandons }

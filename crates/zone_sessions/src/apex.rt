@@ -1,0 +1,117 @@
+// A zone.
+ghost use Rattle.std.specs.Prelude.{◌≡◌, [], IfOk, OnErr, option_copied, option_map, true, false};
+ghost use Rattle.dns_name.specs.Names.{under};
+ghost use Rattle.dns_name.specs.Codes.{type_soa};
+ghost use Rattle.zone_model.specs.Version.{set_at};
+ghost use Rattle.zone_values.specs.Relative.{labels_below};
+ghost use Rattle.zone_sets.specs.TypedEntries.{typed};
+
+use crate::read::ReadZone;
+use crate::write::WriteZone;
+use dns_name::{Class, Rtype, StoredName, ToName};
+use std::alloc::{AllocError, Global};
+use std::marker::Model;
+use std::sync::Arc;
+use zone_values::{OutOfZone, RelNameRevIter, rel_name_rev_iter};
+use zone_versions::{RecordSet, ZoneVersion};
+
+/// A zone: its current version, and how the next one is written.
+#[derive(Drop)]
+pub struct ZoneApex {
+    current: ReadZone,
+}
+
+impl Model for ZoneApex {
+    ghost use Rattle.zone_model.specs.Commits.{Commit};
+
+    ghost Value = { Commit };
+
+    ghost view = { λ z. z.current };
+}
+
+impl ZoneApex {
+    /// A zone without records, its version numbered 0.
+    pub fn new(alloc: Global, apex: StoredName, class: Class) -> Result<ZoneApex, AllocError>
+        ensures { IfOk result (λ z. z ≡ record { number = 0; version = record { apex = apex; class = class; sets = [] } }) }
+    {
+        let version = Arc::new(alloc, ZoneVersion::empty(alloc, apex, class))?;
+        Ok(ZoneApex {
+            current: ReadZone::of(0, version),
+        })
+    }
+
+    /// A zone with this current version.
+    pub(crate) fn of(current: ReadZone) -> ZoneApex
+        ensures { result ≡ current }
+    {
+        ZoneApex { current }
+    }
+
+    /// The class of the zone.
+    pub fn class(&self) -> Class
+        ensures { result ≡ self.now.version.class }
+    {
+        self.current.class()
+    }
+
+    /// The name of the zone's apex, as it was given.
+    pub fn name(&self) -> &StoredName
+        ensures { result.now ≡ self.now.version.apex }
+    {
+        self.current.apex_name()
+    }
+
+    /// The labels of a name left of the apex, from the right, ASCII case aside (RFC 1034, 3.1). `OutOfZone` exactly where the name is neither the
+    /// apex nor below it.
+    pub fn prepare_name<'a, N: ToName>(
+        &self,
+        qname: &'a N,
+    ) -> Result<RelNameRevIter<'a, N>, OutOfZone>
+        ensures ok { IfOk result (λ i. (under (N.labels qname.now) self.now.version.apex ≡ true) × (i ≡ labels_below self.now.version.apex (N.labels qname.now))) }
+        ensures err { OnErr result (under (N.labels qname.now) self.now.version.apex ≡ false) }
+    {
+        rel_name_rev_iter(self.name(), qname)
+    }
+
+    /// The SOA records at the apex of a version that is read, lent with their TTL, if there are any: the first is the zone's (RFC 1035, 3.3.13).
+    pub fn get_soa<'v>(&self, read: &'v ReadZone) -> Option<&'v RecordSet>
+        ensures { option_copied result ≡ option_map (typed type_soa) (set_at read.now.version read.now.version.apex type_soa) }
+    {
+        read.rrset_at(read.apex_name(), Rtype::SOA)
+    }
+
+    /// The number of the current version: 0 for the one that the zone opened with, and one more for each commit.
+    pub fn versions(&self) -> u64
+        ensures { result ≡ self.now.number }
+    {
+        self.current.version()
+    }
+
+    /// A read handle of the current version. It doesn't wait, so nothing is asked of `rt`.
+    pub fn read<R>(&self, _rt: &R) -> Result<ReadZone, AllocError>
+        ensures { IfOk result (λ z. z ≡ self.now) }
+    {
+        self.current.clone()
+    }
+
+    /// A session that writes the zone's next versions. What it didn't commit is dropped with it.
+    pub fn write<'z>(&'z mut self, alloc: Global) -> WriteZone<'z>
+        ensures { result ≡ record { current = self.old; pending = self.old.version; compares = false; has_handle = false } }
+    {
+        WriteZone::of(alloc, self)
+    }
+
+    /// The current version's handle, lent.
+    pub(crate) fn current(&self) -> &ReadZone
+        ensures { result.now ≡ self.now }
+    {
+        &self.current
+    }
+
+    /// Makes a version the current one.
+    pub(crate) fn publish(&mut self, next: ReadZone)
+        ensures { self.new ≡ next }
+    {
+        self.current = next;
+    }
+}

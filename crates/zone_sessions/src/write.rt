@@ -1,0 +1,267 @@
+// A session that writes a zone's next versions.
+ghost use Rattle.std.specs.Prelude.{◌≡◌, ◌↔◌, ◌-◌, ◌^◌, [], Ok, Err, IfOk, IfErr, IfSome, OnOk, OnErr, IsOk, IsTrue, false};
+ghost use Rattle.zone_model.specs.Edits.{add, delete, with_sets};
+ghost use Rattle.zone_model.specs.Edits as edits;
+ghost use Rattle.zone_model.specs.Version.{IsValid};
+ghost use Rattle.zone_model.specs.Session.{opened_session, with_pending, closed, committed, rolled_back, told_difference};
+ghost use Rattle.zone_versions.specs.Causes.{refusal_of};
+ghost use Rattle.zone_versions.specs.Puts.{appended, without, with_soa};
+ghost use Rattle.dns_rdata.specs.DataFields.{soa_fields};
+ghost use Rattle.zone_changes.specs.Drafts.{draft};
+ghost use Rattle.zone_sessions.specs.Pending.{told_of};
+
+use crate::apex::ZoneApex;
+use crate::read::ReadZone;
+use dns_name::{StoredName, Ttl};
+use dns_rdata::{Soa, StoredRecord};
+use std::alloc::{AllocError, Global};
+use std::marker::Model;
+use zone_changes::Draft;
+use zone_diffs::InMemoryZoneDiff;
+use zone_errors::CommitError;
+use zone_versions::{EditError, ZoneVersion};
+
+/// The one session of a zone: it edits what is pending, and publishes it by `commit`. What is pending when it is dropped is gone.
+#[derive(Drop)]
+pub struct WriteZone<'z> {
+    alloc: Global,
+    zone: &'z mut ZoneApex,
+    pending: Option<Draft>,
+    compares: bool,
+    spare: Option<ReadZone>,
+}
+
+impl<'z> Model for WriteZone<'z> {
+    ghost use Rattle.std.specs.Prelude.{◌≡◌, is_some, option_map, IfSome};
+    ghost use Rattle.zone_model.specs.Session.{Session};
+    ghost use Rattle.zone_changes.specs.Drafts.{version_of};
+    ghost use Rattle.zone_sessions.specs.Pending.{pending_of};
+
+    ghost Value = { Session };
+
+    ghost view = { λ s. record { current = s.zone.now; pending = pending_of s.zone.now.version (option_map version_of s.pending); compares = s.compares; has_handle = is_some s.spare } };
+
+    ghost invariant = { λ s. IfSome s.spare (λ z. z ≡ s.zone.now) × IfSome s.pending (λ d. d.base ≡ s.zone.now.version) };
+}
+
+impl<'z> WriteZone<'z> {
+    /// A session of a zone with nothing edited.
+    pub(crate) fn of(alloc: Global, zone: &'z mut ZoneApex) -> WriteZone<'z>
+        ensures { result ≡ record { current = zone.old; pending = zone.old.version; compares = false; has_handle = false } }
+    {
+        WriteZone {
+            alloc,
+            zone,
+            pending: None,
+            compares: false,
+            spare: None,
+        }
+    }
+
+    /// Goes on with what is pending. With `create_diff` the next commit is to tell the difference.
+    pub fn open(&mut self, create_diff: bool)
+        ensures { self.new ≡ opened_session self.old create_diff }
+    {
+        self.compares = self.compares || create_diff;
+    }
+
+    /// What is pending, lent.
+    pub(crate) fn shown(&self) -> &ZoneVersion
+        ensures { result.now ≡ self.now.pending }
+    {
+        match &self.pending {
+            Some(pending) => pending.shown(),
+            None => self.zone.current().contents(),
+        }
+    }
+
+    /// Whether a record's data stand in its pending set.
+    pub fn has_data(&self, added: &StoredRecord) -> bool
+        ensures { result ≡ edits.has_data self.now.pending added.now }
+    {
+        self.shown().has_data(added)
+    }
+
+    /// Takes what is pending out to be edited.
+    pub(crate) fn take_pending(&mut self) -> Result<Draft, AllocError>
+        ensures ok { IfOk result (λ d. d ≡ draft self.old.current.version self.old.pending) }
+        ensures rest { OnOk result (self.new ≡ with_pending self.old self.old.current.version) }
+        ensures err { OnErr result (self.new ≡ self.old) }
+    {
+        match self.pending.take() {
+            Some(pending) => Ok(pending),
+            None => Draft::of(self.alloc, self.zone.current().share()?),
+        }
+    }
+
+    /// Makes an edited version what is pending.
+    pub(crate) fn keep(&mut self, pending: Draft)
+        requires { pending.base ≡ self.old.current.version }
+        ensures { self.new ≡ with_pending self.old pending.version }
+    {
+        self.pending = Some(pending);
+    }
+
+    /// Where memory comes from.
+    pub(crate) fn memory(&self) -> Global {
+        self.alloc
+    }
+
+    /// Adds a record: its data come last, and its TTL becomes the set's. The class isn't looked at. Refused are, tested in this order, an
+    /// owner outside the zone, data that the set has already (`Incompatible`), and a second CNAME below the apex (`InvalidData`).
+    pub fn add_record(&mut self, added: StoredRecord) -> Result<(), EditError>
+        ensures ok { OnOk result (add self.old.pending added ≡ Ok self.new.pending) }
+        ensures refused { IfErr result (λ e. IfSome (refusal_of e) (λ why. add self.old.pending added ≡ Err why)) }
+        ensures memory { (result ≡ Err EditError.Memory) → IsOk (add self.old.pending added) }
+        ensures else_same { self.new ≡ with_pending self.old self.new.pending }
+        ensures err { OnErr result (self.new ≡ self.old) }
+    {
+        if let Some(error) = self.shown().refusal(&added) {
+            drop(added);
+            return Err(error);
+        }
+        let alloc = self.alloc;
+        let mut pending = match self.take_pending() {
+            Ok(pending) => pending,
+            Err(error) => {
+                drop(added);
+                return Err(EditError::from(error));
+            }
+        };
+        let appended = pending.append(alloc, added);
+        self.keep(pending);
+        Ok(appended?)
+    }
+
+    /// Deletes a record: the data equal to its own, whatever the TTL. The data that stay get the TTL of the record, and a set without data is removed.
+    /// The class isn't looked at. Refused are, tested in this order, an owner outside the zone and data that the set lacks (`Incompatible`).
+    pub fn delete_record(&mut self, deleted: &StoredRecord) -> Result<(), EditError>
+        ensures ok { OnOk result (delete self.old.pending deleted.now ≡ Ok self.new.pending) }
+        ensures refused { IfErr result (λ e. IfSome (refusal_of e) (λ why. delete self.old.pending deleted.now ≡ Err why)) }
+        ensures memory { (result ≡ Err EditError.Memory) → IsOk (delete self.old.pending deleted.now) }
+        ensures else_same { self.new ≡ with_pending self.old self.new.pending }
+        ensures err { OnErr result (self.new ≡ self.old) }
+    {
+        if let Some(error) = self.shown().deletion_refusal(deleted) {
+            return Err(error);
+        }
+        let mut pending = self.take_pending()?;
+        let removed = pending.remove(deleted);
+        self.keep(pending);
+        Ok(removed?)
+    }
+
+    /// Makes the apex SOA set this one record.
+    pub fn set_soa(&mut self, ttl: Ttl, soa: Soa<StoredName>) -> Result<(), AllocError>
+        ensures ok { OnOk result (self.new ≡ with_pending self.old (with_soa self.old.pending ttl (soa_fields (λ n. n) soa))) }
+        ensures err { OnErr result (self.new ≡ self.old) }
+    {
+        let alloc = self.alloc;
+        let mut pending = self.take_pending()?;
+        let put = pending.set_soa(alloc, ttl, soa);
+        self.keep(pending);
+        put
+    }
+
+    /// Removes every set.
+    pub fn clear_all(&mut self) -> Result<(), AllocError>
+        ensures ok { OnOk result (self.new ≡ with_pending self.old (with_sets self.old.pending [])) }
+        ensures err { OnErr result (self.new ≡ self.old) }
+    {
+        let alloc = self.alloc;
+        let mut pending = self.take_pending()?;
+        let cleared = pending.clear_all(alloc);
+        self.keep(pending);
+        cleared
+    }
+
+    /// Publishes what is pending, without DS sets below the apex that lack NS (RFC 4035, 2.4), as the zone's current version with the next number.
+    /// With `bump_soa_serial` a pending SOA that is absent, or as published, becomes the published one with the next serial (RFC 1982, 3.1).
+    /// Told is the difference to the version before (RFC 1995, 4), where it was asked for since the last commit or rollback (`open`), both
+    /// versions have an SOA record at the apex, and the new serial is neither the old one nor before it. It doesn't wait, so nothing is asked
+    /// of `rt`.
+    pub fn commit<R>(
+        &mut self,
+        _rt: &R,
+        bump_soa_serial: bool,
+    ) -> Result<Option<InMemoryZoneDiff>, CommitError>
+        ensures ok { OnOk result (self.new ≡ committed self.old bump_soa_serial) }
+        ensures difference { IfOk result (λ told. told ≡ told_difference self.old bump_soa_serial) }
+        ensures exhausted { (result ≡ Err CommitError.VersionsExhausted) ↔ (self.old.current.number ≡ 2 ^ 64 - 1) }
+        ensures err { OnErr result (self.new ≡ self.old) }
+    {
+        let number = self.zone.current().version();
+        if number == u64::MAX {
+            return Err(CommitError::VersionsExhausted);
+        }
+        let next = self.closed(bump_soa_serial)?;
+        let told = self.told(&next)?;
+        let next = ReadZone::of(number + 1, next.into_version());
+        let spare = next.clone()?;
+        self.zone.publish(next);
+        self.pending = None;
+        self.compares = false;
+        self.spare = Some(spare);
+        Ok(told)
+    }
+
+    /// What a commit publishes.
+    fn closed(&self, bumps: bool) -> Result<Draft, AllocError>
+        ensures is { IfOk result (λ d. d ≡ draft self.now.current.version (closed self.now bumps)) }
+        ensures valid { IfOk result (λ d. IsValid d.version) }
+    {
+        let mut next = self.copy()?;
+        if bumps {
+            next.bump(self.alloc)?;
+        }
+        next.close(self.alloc)?;
+        Ok(next)
+    }
+
+    /// What a commit of it tells.
+    fn told(&self, next: &Draft) -> Result<Option<InMemoryZoneDiff>, AllocError>
+        ensures { IfOk result (λ d. d ≡ told_of self.now.compares next.now) }
+    {
+        if !self.compares {
+            return Ok(None);
+        }
+        next.difference(self.alloc)
+    }
+
+    /// A copy of what is pending.
+    pub(crate) fn copy(&self) -> Result<Draft, AllocError>
+        ensures { IfOk result (λ d. d ≡ draft self.now.current.version self.now.pending) }
+    {
+        match &self.pending {
+            Some(pending) => pending.clone(),
+            None => Draft::of(self.alloc, self.zone.current().share()?),
+        }
+    }
+
+    /// Drops what is pending.
+    pub fn rollback(&mut self)
+        ensures { self.new ≡ rolled_back self.old }
+    {
+        self.pending = None;
+        self.compares = false;
+    }
+
+    /// Ends the session and lends the zone back: its current version is the one that was committed last. What is pending is dropped.
+    pub fn into_zone(self) -> &'z mut ZoneApex
+        ensures { result.now ≡ self.entry.current }
+    {
+        self.zone
+    }
+
+    /// A read handle of the current version. The first one after a commit takes no memory and isn't refused.
+    pub fn handle(&mut self) -> Result<ReadZone, AllocError>
+        ensures current { IfOk result (λ z. z ≡ self.old.current) }
+        ensures ready { IsTrue self.old.has_handle → IsOk result }
+        ensures same { self.new ≡ record self.old { has_handle = self.new.has_handle } }
+    {
+        match self.spare.take() {
+            Some(handle) => Ok(handle),
+            None => self.zone.current().clone(),
+        }
+    }
+}

@@ -1,0 +1,20 @@
+//! The values that a zone tree is made of: records and record sets without their owner, zone cuts, values that are kept for each
+//! version of a zone, names relative to the apex, and the errors of zones. Nothing here reads or writes a zone: the definitions of
+//! versions and transfers are those of `zone_model`, and a zone that can be read and written is `zone_sessions`'s.
+#![tactic(auto)]
+
+mod errors;
+mod examples;
+mod laws;
+mod rel_name;
+mod rr;
+mod rrset;
+mod versioned;
+mod zone_cut;
+
+pub use errors::{CnameError, OutOfZone, WriteApexError, ZoneCutError, ZoneTreeModificationError};
+pub use rel_name::{RelNameRevIter, rel_name_rev_iter};
+pub use rr::SharedRr;
+pub use rrset::{Rrset, SharedRrset};
+pub use versioned::{Version, Versioned};
+pub use zone_cut::ZoneCut;
