@@ -3,11 +3,11 @@ use Rattle.std.proofs.Common.{◌≡◌, Bool, true, false, List, [], ◌∷◌,
 use Rattle.std.specs.Prelude.{◌==◌, not, if◌then◌else◌, Result, Ok, Err}
 use Rattle.std.specs.Cmp.{first_so, second_so}
 use Rattle.dns_rdata.specs.Records.{Record}
-use Rattle.zone_model.specs.Messages.{ReadMessage}
-use Rattle.zone_model.specs.Read.{Fault, NotValid, Malformed, Item, Good, Bad, message_fault, is_transfer_head, asks_transfer, first_record_fault, record_item}
+use Rattle.xfr_model.specs.Messages.{ReadMessage}
+use Rattle.xfr_model.specs.Read.{Fault, NotValid, Malformed, Item, Good, Bad, message_fault, is_transfer_head, asks_transfer, first_record_fault, record_item}
 use Rattle.zone_model.specs.TransferText.{Axfr, Ixfr, is_soa}
-use Rattle.zone_model.specs.Interpreter.{mode_asked}
-use Rattle.zone_model.specs.Machine.{first_step}
+use Rattle.xfr_model.specs.Interpreter.{mode_asked}
+use Rattle.xfr_model.specs.Machine.{first_step}
 use Rattle.xfr_client.specs.declared.place.Place.{Place}
 use Rattle.xfr_client.specs.declared.protocol.Error.{Error}
 use Rattle.xfr_client.specs.Interpreting.{BeginsAt, IsPlaceAt}

@@ -7,9 +7,9 @@ use Rattle.dns_name.specs.Octets.{◌>>=◌, u16_at, octets_at}
 use Rattle.dns_wire.specs.Wire.{Header, Counts, header_of, id_in, header_in, header_number, qdcount_in, ancount_in, nscount_in, Question}
 use Rattle.dns_wire.specs.Parse.{items_at, readings, reading_then, questions_in, Parsed, parsed, question_at, header_at, counts_at, answer_readings, answers_start, sole_question_in, section_readings}
 use Rattle.dns_rdata.specs.Heads.{raw_record_at, RawRecord, readable}
-use Rattle.zone_model.specs.Messages.{ReadMessage, message_of, as_read}
-use Rattle.zone_model.specs.Read.{record_item, is_transfer_head, asks_transfer}
-use Rattle.zone_model.specs.Interpreter.{mode_asked}
+use Rattle.xfr_model.specs.Messages.{ReadMessage, message_of, as_read}
+use Rattle.xfr_model.specs.Read.{record_item, is_transfer_head, asks_transfer}
+use Rattle.xfr_model.specs.Interpreter.{mode_asked}
 use Rattle.zone_model.specs.TransferText.{Axfr, Ixfr}
 use Rattle.xfr_client.specs.Items.{item_in}
 use Rattle.xfr_client.specs.Interpreting.{IsReadAs, answer_here, sections_here, good_header, good_counts}

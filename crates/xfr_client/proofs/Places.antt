@@ -2,9 +2,9 @@
 use Rattle.std.proofs.Common.{◌≡◌, Bool, true, false, List, [], ◌∷◌, refl, ap, ◌∙◌}
 use Rattle.std.specs.Prelude.{◌&&◌, not, is_some, if◌then◌else◌}
 use Rattle.dns_rdata.specs.Records.{Record}
-use Rattle.zone_model.specs.Read.{Item, Good, Bad, first_fault}
+use Rattle.xfr_model.specs.Read.{Item, Good, Bad, first_fault}
 use Rattle.zone_model.specs.TransferText.{Mode, Axfr, is_soa, is_same_soa}
-use Rattle.zone_model.specs.Machine.{Place, AtStart, AtSecond, InWhole, InDeletes, InAdds, AtEnd, Run, then_run, step, run_items}
+use Rattle.xfr_model.specs.Machine.{Place, AtStart, AtSecond, InWhole, InDeletes, InAdds, AtEnd, Run, then_run, step, run_items}
 use Rattle.xfr_client.specs.Places.{is_at_second}
 use Rattle.xfr_client.specs.Rest.{asks_again}
 

@@ -2,10 +2,10 @@
 use Rattle.std.proofs.Common.{◌≡◌, Bool, true, false, List, [], ◌∷◌, Some, None, Err, refl}
 use Rattle.dns_rdata.specs.Records.{Record}
 use Rattle.dns_wire.specs.Parse.{SectionIn}
-use Rattle.zone_model.specs.Read.{Item, Good, Bad}
+use Rattle.xfr_model.specs.Read.{Item, Good, Bad}
 use Rattle.zone_model.specs.TransferText.{Axfr}
-use Rattle.zone_model.specs.Machine.{Run, went, then_run, step, run_items}
-use Rattle.zone_model.specs.Machine as machine
+use Rattle.xfr_model.specs.Machine.{Run, went, then_run, step, run_items}
+use Rattle.xfr_model.specs.Machine as machine
 use Rattle.xfr_client.specs.declared.place.Place.{Place}
 use Rattle.xfr_client.specs.declared.place.Told.TheVariants as told
 use Rattle.xfr_client.specs.declared.protocol.IterationError.TheVariants as error

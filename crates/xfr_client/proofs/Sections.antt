@@ -3,8 +3,8 @@ use Rattle.std.proofs.Common.{◌≡◌, ℕ, List, ◌∷◌, Option, Some, Non
 use Rattle.std.specs.Prelude.{Result, Ok, Err}
 use Rattle.dns_rdata.specs.Records.{Record}
 use Rattle.dns_wire.specs.Parse.{answer_readings, answers_start}
-use Rattle.zone_model.specs.Messages.{ReadMessage}
-use Rattle.zone_model.specs.Read.{Item, record_item}
+use Rattle.xfr_model.specs.Messages.{ReadMessage}
+use Rattle.xfr_model.specs.Read.{Item, record_item}
 use Rattle.xfr_client.specs.Items.{NextItem, item_in}
 use Rattle.xfr_client.specs.Interpreting.{IsReadAs}
 

@@ -3,13 +3,13 @@ use Rattle.std.proofs.Common.{◌≡◌, Bool, true, false, List, [], ◌∷◌,
 use Rattle.std.specs.Prelude.{◌&&◌, not, is_some, is_none}
 use Rattle.dns_rdata.specs.Records.{Record}
 use Rattle.dns_wire.specs.Parse.{SectionIn}
-use Rattle.zone_model.specs.Messages.{ReadMessage}
+use Rattle.xfr_model.specs.Messages.{ReadMessage}
 use Rattle.zone_model.specs.Updates.{Update}
-use Rattle.zone_model.specs.Read.{Item, Good, first_fault, record_item, is_transfer_head, message_fault}
+use Rattle.xfr_model.specs.Read.{Item, Good, first_fault, record_item, is_transfer_head, message_fault}
 use Rattle.zone_model.specs.TransferText.{Mode, Axfr, Ixfr}
-use Rattle.zone_model.specs.Interpreter.{mode_asked}
-use Rattle.zone_model.specs.Machine.{Run, went, then_run, first_step, run_items}
-use Rattle.zone_model.specs.Machine as machine
+use Rattle.xfr_model.specs.Interpreter.{mode_asked}
+use Rattle.xfr_model.specs.Machine.{Run, went, then_run, first_step, run_items}
+use Rattle.xfr_model.specs.Machine as machine
 use Rattle.xfr_client.specs.declared.place.Place.{Place}
 use Rattle.xfr_client.specs.declared.place.Place.TheVariants.{AtSecond, InWhole, InDeletes, InAdds, AtEnd}
 use Rattle.xfr_client.specs.declared.protocol.Error.{Error}

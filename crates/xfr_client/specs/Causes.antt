@@ -3,7 +3,7 @@ use Rattle.std.specs.Prelude.{Option, Some, None}
 use Rattle.dns_rdata.specs.Records.{Record}
 use Rattle.zone_model.specs.Edits as edits
 use Rattle.zone_model.specs.Updates as updates
-use Rattle.zone_model.specs.Read as faults
+use Rattle.xfr_model.specs.Read as faults
 use Rattle.xfr_client.specs.declared.update.ZoneUpdate.{ZoneUpdate}
 use Rattle.xfr_client.specs.declared.update.ZoneUpdate.TheVariants as update
 use Rattle.xfr_client.specs.declared.update.Error.{Error}

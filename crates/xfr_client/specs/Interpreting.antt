@@ -3,14 +3,14 @@ use Rattle.std.specs.Prelude.{◌≡◌, ℕ, Bool, true, false, ◌||◌, ◌&&
 use Rattle.dns_wire.specs.Wire.{Header, Question, header_in, qdcount_in, ancount_in, nscount_in}
 use Rattle.dns_wire.specs.Parse.{Parsed, parsed, questions_in, sole_question_in, answers_start, answer_readings}
 use Rattle.dns_rdata.specs.Heads.{RawRecord, readable}
-use Rattle.zone_model.specs.Messages.{ReadMessage, as_read}
-use Rattle.zone_model.specs.Read.{Fault, NotValid, Malformed, message_fault, record_item, asks_transfer}
+use Rattle.xfr_model.specs.Messages.{ReadMessage, as_read}
+use Rattle.xfr_model.specs.Read.{Fault, NotValid, Malformed, message_fault, record_item, asks_transfer}
 use Rattle.zone_model.specs.TransferText.{Axfr, Ixfr, is_soa}
 use Rattle.dns_rdata.specs.Records.{Record}
 use Rattle.zone_model.specs.Updates.{Update, DeleteAllRecords}
-use Rattle.zone_model.specs.Interpreter.{mode_asked}
-use Rattle.zone_model.specs.Machine.{Run, run_items, is_at_end, first_step}
-use Rattle.zone_model.specs.Machine as machine
+use Rattle.xfr_model.specs.Interpreter.{mode_asked}
+use Rattle.xfr_model.specs.Machine.{Run, run_items, is_at_end, first_step}
+use Rattle.xfr_model.specs.Machine as machine
 use Rattle.xfr_client.specs.declared.place.Place.{Place}
 use Rattle.xfr_client.specs.declared.protocol.Error.{Error}
 use Rattle.xfr_client.specs.declared.protocol.Error.TheVariants as error

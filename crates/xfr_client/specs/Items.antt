@@ -3,7 +3,7 @@ use Rattle.std.specs.Prelude.{◌≡◌, ℕ, List, [], ◌∷◌, map, Option, 
 use Rattle.dns_rdata.specs.Records.{Record}
 use Rattle.dns_rdata.specs.Heads.{RawRecord, readable}
 use Rattle.dns_wire.specs.Parse.{SectionIn}
-use Rattle.zone_model.specs.Read.{Unreadable, Item, Good, Bad, record_item}
+use Rattle.xfr_model.specs.Read.{Unreadable, Item, Good, Bad, record_item}
 
 -- an item of a section: a record, or what can't be read
 abbrev pub item_in : List ℕ → Option RawRecord → Item

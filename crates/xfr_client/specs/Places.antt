@@ -1,7 +1,7 @@
 -- The places that the interpreter's code keeps, as places of the machine.
 use Rattle.std.specs.Prelude.{ℕ, Bool, true, false, Option, Some, None}
 use Rattle.dns_rdata.specs.Soa.{serial_of}
-use Rattle.zone_model.specs.Machine as machine
+use Rattle.xfr_model.specs.Machine as machine
 use Rattle.xfr_client.specs.declared.place.Place.{Place}
 use Rattle.xfr_client.specs.declared.place.Place.TheVariants.{AtSecond, InWhole, InDeletes, InAdds, AtEnd}
 

@@ -4,8 +4,8 @@ use Rattle.dns_rdata.specs.Records.{Record}
 use Rattle.dns_wire.specs.Parse.{SectionIn}
 use Rattle.zone_model.specs.Updates.{Update}
 use Rattle.zone_model.specs.TransferText.{Axfr}
-use Rattle.zone_model.specs.Read.{Unreadable, AfterEnd}
-use Rattle.zone_model.specs.Machine.{Run, went, then_run, run_items}
+use Rattle.xfr_model.specs.Read.{Unreadable, AfterEnd}
+use Rattle.xfr_model.specs.Machine.{Run, went, then_run, run_items}
 use Rattle.xfr_client.specs.declared.place.Place.{Place}
 use Rattle.xfr_client.specs.declared.update.ZoneUpdate.{ZoneUpdate}
 use Rattle.xfr_client.specs.declared.protocol.IterationError.{IterationError}

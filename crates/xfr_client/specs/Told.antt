@@ -1,9 +1,9 @@
 -- What one record says, as a run of the machine.
 use Rattle.std.specs.Prelude.{◌≡◌, List, [], ◌∷◌, Option, Some, None}
 use Rattle.zone_model.specs.Updates.{Update, DeleteAllRecords, AddRecord}
-use Rattle.zone_model.specs.Read.{Fault, AfterEnd}
-use Rattle.zone_model.specs.Machine.{Run}
-use Rattle.zone_model.specs.Machine as machine
+use Rattle.xfr_model.specs.Read.{Fault, AfterEnd}
+use Rattle.xfr_model.specs.Machine.{Run}
+use Rattle.xfr_model.specs.Machine as machine
 use Rattle.xfr_client.specs.declared.place.Place.{Place}
 use Rattle.xfr_client.specs.declared.place.Told.{Told}
 use Rattle.xfr_client.specs.declared.place.Told.TheVariants as told

@@ -4,7 +4,7 @@ use Rattle.zone_model.specs.Version.{Version}
 use Rattle.zone_model.specs.Commits.{Commit}
 use Rattle.zone_model.specs.Session.{Session, with_pending}
 use Rattle.zone_model.specs.Updates.{Update, Finished, Progress}
-use Rattle.zone_model.specs.Applying.{commits}
+use Rattle.xfr_model.specs.Applying.{commits}
 use Rattle.zone_model.specs.Edits.{set_soa}
 
 -- whether equal data are passed over, and whether the end has come

@@ -1,10 +1,10 @@
 // The interpreter of a transfer's messages.
 ghost use Rattle.std.specs.Prelude.{◌≡◌, ◌==◌, ◌∷◌, ◌&&◌, not, true, false, List, Option, Some, None, Ok, Err, map, length, is_some, is_none, IsTrue, IsOkAnd, IfOk, IfErr, OnErr};
 ghost use Rattle.dns_rdata.specs.Records.{Record};
-ghost use Rattle.zone_model.specs.Messages.{ReadMessage, message_of};
+ghost use Rattle.xfr_model.specs.Messages.{ReadMessage, message_of};
 ghost use Rattle.zone_model.specs.TransferText.{Axfr};
-ghost use Rattle.zone_model.specs.Read.{first_fault, is_transfer_head, record_item};
-ghost use Rattle.zone_model.specs.Machine.{run_items, AtStart};
+ghost use Rattle.xfr_model.specs.Read.{first_fault, is_transfer_head, record_item};
+ghost use Rattle.xfr_model.specs.Machine.{run_items, AtStart};
 ghost use Rattle.xfr_client.specs.declared.protocol.Error.TheVariants.{Finished, ParseError};
 ghost use Rattle.dns_wire.specs.Parse.{answers_start};
 ghost use Rattle.xfr_client.specs.Places.{place_of, is_at_second, first_serial};

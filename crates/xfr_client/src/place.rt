@@ -2,7 +2,7 @@
 // (RFC 5936, 2.2; RFC 1995, 4).
 ghost use Rattle.std.specs.Prelude.{◌≡◌};
 ghost use Rattle.zone_model.specs.TransferText.{Mode, is_soa};
-ghost use Rattle.zone_model.specs.Machine.{step, end_or_batch, is_at_end, AtSecond, InWhole, InDeletes, InAdds};
+ghost use Rattle.xfr_model.specs.Machine.{step, end_or_batch, is_at_end, AtSecond, InWhole, InDeletes, InAdds};
 ghost use Rattle.xfr_client.specs.Places.{place_of, is_at_second, first_serial};
 ghost use Rattle.xfr_client.specs.Told.{run_of, EndsBefore};
 

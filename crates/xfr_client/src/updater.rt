@@ -6,7 +6,7 @@ ghost use Rattle.zone_model.specs.Edits.{with_sets, set_soa};
 ghost use Rattle.zone_model.specs.Session.{with_pending, committed};
 ghost use Rattle.zone_model.specs.Updates as updates;
 ghost use Rattle.zone_model.specs.Updates.{UpdateFault, apply_update, after_refusal};
-ghost use Rattle.zone_model.specs.Applying.{commits};
+ghost use Rattle.xfr_model.specs.Applying.{commits};
 ghost use Rattle.xfr_client.specs.declared.update.Error.TheVariants.{VersionsExhausted, Memory};
 ghost use Rattle.dns_rdata.specs.DataFields.{soa_fields};
 ghost use Rattle.zone_versions.specs.Puts.{with_soa};

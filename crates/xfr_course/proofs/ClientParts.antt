@@ -4,10 +4,10 @@ use Rattle.std.specs.Prelude.{nat_lt}
 use Rattle.zone_model.specs.Version.{Version}
 use Rattle.xfr_course.specs.Outcome.{Checked, Course, room}
 use Rattle.zone_model.specs.Updates.{Update, Progress, UpdateFault, apply_update}
-use Rattle.zone_model.specs.Machine.{Run}
-use Rattle.zone_model.specs.Applying.{NoNumber, Held, apply_within, unless_halted, within}
+use Rattle.xfr_model.specs.Machine.{Run}
+use Rattle.xfr_model.specs.Applying.{NoNumber, Held, apply_within, unless_halted, within}
 use Rattle.xfr_course.specs.Client.{IsPart, PartIsMade, Client, new_client, client_after, run_message, take_checked, take_course}
-use Rattle.zone_model.proofs.Limits.{then_held, within-append, GrowsIf, update_grows}
+use Rattle.xfr_model.proofs.Limits.{then_held, within-append, GrowsIf, update_grows}
 use Rattle.xfr_course.proofs.Clients.{client_meets, course_on}
 
 -- Parts.

@@ -7,17 +7,17 @@ use Rattle.zone_model.specs.Edits.{Refusal}
 use Rattle.zone_model.specs.TransferText.{Mode, Axfr, Ixfr}
 use Rattle.zone_model.specs.Spells.{Spelling, spelling}
 use Rattle.zone_model.specs.Updates.{Update, Edit, begin}
-use Rattle.zone_model.specs.Interpreter.{updates_in}
-use Rattle.zone_model.specs.Applying.{Halt, Denied, NoNumber, Held, apply_within}
+use Rattle.xfr_model.specs.Interpreter.{updates_in}
+use Rattle.xfr_model.specs.Applying.{Halt, Denied, NoNumber, Held, apply_within}
 use Rattle.xfr_course.specs.Client.{MetDecides, UnmetStops, CourseOn, Client, new_client, halt_outcome, met_after, client_after, run_message, take_checked, take_course, client_of, ClientMeets}
-use Rattle.zone_model.specs.Messages.{ReadMessage}
-use Rattle.zone_model.specs.Read.{Fault, Item, items_of, good_records, first_fault, ReadText, read_items, read_by, request_fault, fault_of_all, retry}
-use Rattle.zone_model.specs.Machine.{AtStart, is_at_end, Run, run_items, signal_of}
+use Rattle.xfr_model.specs.Messages.{ReadMessage}
+use Rattle.xfr_model.specs.Read.{Fault, Item, items_of, good_records, first_fault, ReadText, read_items, read_by, request_fault, fault_of_all, retry}
+use Rattle.xfr_model.specs.Machine.{AtStart, is_at_end, Run, run_items, signal_of}
 use Rattle.xfr_course.specs.Outcome.{Outcome, Updated, Tsig, Reading, VersionsExhausted, Checked, Course, room, messages_of, is_end_signed, after_retry, after_fault, made, made_unless, unless_retry, outcome}
 use Rattle.tsig_port.specs.declared.errors.ValidationError.TheVariants.{TooManyUnsigned}
-use Rattle.zone_model.proofs.Readers.{run_reads, run-append, run-stopped, fault_is, ends, later, read_behind, behind_end, behind_more, behind_nothing, signal_is, retry_is}
-use Rattle.zone_model.proofs.InTurn.{messages_begin, items_begin, retry_tells_nothing}
-use Rattle.zone_model.proofs.Limits.{within-append, commits_within}
+use Rattle.xfr_model.proofs.Readers.{run_reads, run-append, run-stopped, fault_is, ends, later, read_behind, behind_end, behind_more, behind_nothing, signal_is, retry_is}
+use Rattle.xfr_model.proofs.InTurn.{messages_begin, items_begin, retry_tells_nothing}
+use Rattle.xfr_model.proofs.Limits.{within-append, commits_within}
 
 -- The client.
 

@@ -12,8 +12,8 @@ use Rattle.tsig_port.specs.Tsig.{TsigKey, is_signed, tsig_record, mac_in, signed
 use Rattle.tsig_port.specs.Checked.{checked, check_fault, taken_message}
 use Rattle.tsig_port.specs.Signing.{IsKey, CanSign}
 use Rattle.tsig_port.proofs.SignedAnswers.{sent, tsig, sequence, taken_is, is_signed_sent, signed_pass, signed_faultless}
-use Rattle.zone_model.specs.Messages.{HaveData, read_of}
-use Rattle.zone_model.proofs.ReadingBuilt.{built_is_read}
+use Rattle.xfr_model.specs.Messages.{HaveData, read_of}
+use Rattle.xfr_model.proofs.ReadingBuilt.{built_is_read}
 use Rattle.xfr_course.specs.Courses.{has_header, most_replies, replies_taken, unreadable_message, read_message, checked_message, stop_after}
 use Rattle.xfr_course.specs.Joining.{built_checked, SignedAreTheCourse}
 

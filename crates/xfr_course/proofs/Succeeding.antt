@@ -16,16 +16,16 @@ use Rattle.zone_model.specs.Difference.{zone_serial}
 use Rattle.zone_model.specs.TransferText.{Mode, Axfr, Ixfr, OnIxfr, ending}
 use Rattle.zone_model.specs.Offer.{IsHistory, text_of, whole_text, changes_or_whole, successive}
 use Rattle.zone_model.specs.Spells.{Spelling, spelling}
-use Rattle.zone_model.specs.Messages.{ReadMessage}
-use Rattle.zone_model.specs.Read.{items_of, Fault, lone_soa, retry, request_fault, messages_read, read_by, read, ReadText, fault_of_all}
+use Rattle.xfr_model.specs.Messages.{ReadMessage}
+use Rattle.xfr_model.specs.Read.{items_of, Fault, lone_soa, retry, request_fault, messages_read, read_by, read, ReadText, fault_of_all}
 use Rattle.zone_model.specs.TransferLaws.{IsPublished, IsWhole, IsChanges, EndsIn}
-use Rattle.zone_model.specs.Carried.{Carrier, Carries, carried_messages, carried_text, EndsWhole}
+use Rattle.xfr_model.specs.Carried.{Carrier, Carries, carried_messages, carried_text, EndsWhole}
 use Rattle.zone_model.proofs.Valid.{one_soa}
 use Rattle.zone_model.proofs.WholeText.{apex_soa_record-is, whole_is_text, soa_of}
 use Rattle.zone_model.proofs.ChangesText.{last_published, changes_is_text}
-use Rattle.zone_model.proofs.Readers.{read_behind}
-use Rattle.zone_model.proofs.InTurn.{messages_begin}
-use Rattle.zone_model.proofs.PageReading.{pages_are_read}
+use Rattle.xfr_model.proofs.Readers.{read_behind}
+use Rattle.xfr_model.proofs.InTurn.{messages_begin}
+use Rattle.xfr_model.proofs.PageReading.{pages_are_read}
 use Rattle.xfr_course.specs.Outcome.{Outcome, Updated, UpToDate, RetrySignal, VersionsExhausted, Tsig, Checked, Course, outcome, made, made_unless, unless_retry, after_fault, base_serial, is_end_signed, room, messages_of}
 use Rattle.xfr_course.specs.Granting.{Ends, IsGranting, asked_serial, sent_text, begins_together, has_more}
 use Rattle.xfr_course.specs.Success.{signed_checked, sent_course, CarrySent, Succeeds, GrantedSucceeds}

@@ -2,11 +2,11 @@
 use Rattle.std.specs.Prelude.{◌≡◌, ℕ, Bool, true, false, ◌++◌, if◌then◌else◌, List, [], ◌∷◌, Option, Some, None, is_some, unwrap_or}
 use Rattle.zone_model.specs.Version.{Version}
 use Rattle.zone_model.specs.Updates.{Update, Progress, Edit, NotSoaRecord, AfterFinish, begin}
-use Rattle.zone_model.specs.Read.{Fault, Malformed, AfterEnd, Refused, request_fault}
+use Rattle.xfr_model.specs.Read.{Fault, Malformed, AfterEnd, Refused, request_fault}
 use Rattle.xfr_course.specs.Outcome.{Outcome, Updated, Tsig, Reading, VersionsExhausted, Checked, Course, room, after_retry, made, outcome}
 use Rattle.tsig_port.specs.declared.errors.ValidationError.TheVariants.{TooManyUnsigned}
-use Rattle.zone_model.specs.Machine.{Place, AtStart, is_at_end, Run, run_items, next_items, signal_of}
-use Rattle.zone_model.specs.Applying.{Halt, Denied, NoNumber, Held, apply_within}
+use Rattle.xfr_model.specs.Machine.{Place, AtStart, is_at_end, Run, run_items, next_items, signal_of}
+use Rattle.xfr_model.specs.Applying.{Halt, Denied, NoNumber, Held, apply_within}
 
 -- what a client keeps: whether a message was taken, the interpreter's place, the updater's progress, and the outcome once it is met
 pub record Client : Type 0 where

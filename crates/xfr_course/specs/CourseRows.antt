@@ -9,16 +9,18 @@ use Rattle.tsig_port.specs.ExchangeRows.{row_key, row_request, first_reply}
 use Rattle.zone_model.specs.Version.{Version}
 use Rattle.zone_model.specs.TransferText.{Mode, Axfr, Ixfr}
 use Rattle.zone_model.specs.Offer.{successive}
-use Rattle.zone_model.specs.ZoneRows.{asked, history_1, history_2, history_3}
+use Rattle.zone_model.specs.ZoneRows.{history_1, history_2, history_3}
 use Rattle.zone_model.specs.ZoneRows as zone_rows
-use Rattle.zone_model.specs.Carried.{Carrier}
+use Rattle.xfr_model.specs.Carried.{Carrier}
+use Rattle.xfr_model.specs.ReplyRows.{asked}
+use Rattle.xfr_model.specs.ReplyRows as replies
 use Rattle.xfr_course.specs.Outcome.{Outcome, Course, Checked, Ended}
 use Rattle.xfr_course.specs.Granting.{Ends, sent_text}
 use Rattle.xfr_course.specs.Courses.{Handed}
 
 -- one signed message with these records, in answer to a question of a mode
 abbrev pub reply : ℕ → List Record → Checked
-reply qtype records = record { message = zone_rows.reply qtype records; signed = true }
+reply qtype records = record { message = replies.reply qtype records; signed = true }
 
 abbrev pub course : Mode → ℕ → Version → List Checked → Course
 course mode qtype base checked = record { mode = mode; id = 1000; question = asked qtype; base = base; number = 0; checked = checked; stop = Ended }
@@ -28,7 +30,7 @@ abbrev pub unsigned_reply : ℕ → List Record → Checked
 unsigned_reply qtype records = record (reply qtype records) { signed = false }
 
 abbrev pub later_reply : List Record → Checked
-later_reply records = record { message = record (zone_rows.reply 252 records) { questions = [] }; signed = true }
+later_reply records = record { message = record (replies.reply 252 records) { questions = [] }; signed = true }
 
 -- a history in one message, one whose first edit is refused, and an SOA alone for one who has another, each from a number on
 abbrev pub history_course : ℕ → Course
@@ -118,14 +120,14 @@ handed now gave_up replies = record { key = row_key; now = now; request = row_re
 
 -- one message that carries what its primary sends
 abbrev pub small_carrier : Carrier
-small_carrier = record { message = zone_rows.reply 251 (sent_text small_ends); page = sent_text small_ends }
+small_carrier = record { message = replies.reply 251 (sent_text small_ends); page = sent_text small_ends }
 
 -- its first records in one message, and the others in a second
 abbrev pub first_carrier : ℕ → Carrier
-first_carrier n = record { message = zone_rows.reply 251 (take n (sent_text small_ends)); page = take n (sent_text small_ends) }
+first_carrier n = record { message = replies.reply 251 (take n (sent_text small_ends)); page = take n (sent_text small_ends) }
 
 abbrev pub second_carrier : ℕ → Carrier
-second_carrier n = record { message = record (zone_rows.reply 251 (drop n (sent_text small_ends))) { questions = [] }; page = drop n (sent_text small_ends) }
+second_carrier n = record { message = record (replies.reply 251 (drop n (sent_text small_ends))) { questions = [] }; page = drop n (sent_text small_ends) }
 
 -- a reply that is a header alone, and one that is too short to be one
 abbrev pub bare_header : List ℕ

@@ -8,8 +8,8 @@ use Rattle.tsig_port.specs.Checked.{checked, check_fault, taken_message}
 use Rattle.tsig_port.specs.declared.errors.ValidationError.{ValidationError}
 use Rattle.zone_model.specs.Version.{Version}
 use Rattle.zone_model.specs.TransferText.{Mode}
-use Rattle.zone_model.specs.Messages.{ReadMessage, message_of}
-use Rattle.zone_model.specs.Interpreter.{mode_asked}
+use Rattle.xfr_model.specs.Messages.{ReadMessage, message_of}
+use Rattle.xfr_model.specs.Interpreter.{mode_asked}
 use Rattle.xfr_course.specs.Outcome.{Outcome, Short, TooManyMessages, Tsig, Checked, Course}
 
 -- ---- replies

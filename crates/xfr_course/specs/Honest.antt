@@ -5,9 +5,9 @@ use Rattle.std.specs.List.{AllByRecursion}
 use Rattle.dns_wire.specs.Wire.{Message, id_in}
 use Rattle.tsig_port.specs.Tsig.{TsigKey}
 use Rattle.tsig_port.specs.Signing.{IsKey, CanSign}
-use Rattle.zone_model.specs.Messages.{HaveData, read_of}
+use Rattle.xfr_model.specs.Messages.{HaveData, read_of}
 use Rattle.zone_model.specs.TransferLaws.{IsPublished}
-use Rattle.zone_model.specs.Carried.{Carrier}
+use Rattle.xfr_model.specs.Carried.{Carrier}
 use Rattle.xfr_course.specs.Outcome.{Outcome}
 use Rattle.xfr_course.specs.Granting.{Ends, IsGranting}
 use Rattle.xfr_course.specs.Courses.{course_of, request_mode, request_question, most_replies}

@@ -6,7 +6,7 @@ use Rattle.dns_wire.specs.Wire.{Message, message_wire}
 use Rattle.tsig_port.specs.Tsig.{TsigKey, mac_in, signed_answers}
 use Rattle.tsig_port.specs.Signing.{IsKey, CanSign}
 use Rattle.zone_model.specs.Version.{Version}
-use Rattle.zone_model.specs.Messages.{HaveData, read_of}
+use Rattle.xfr_model.specs.Messages.{HaveData, read_of}
 use Rattle.xfr_course.specs.Outcome.{Outcome, Checked, Course}
 use Rattle.xfr_course.specs.Courses.{Handed, course_of, most_replies}
 

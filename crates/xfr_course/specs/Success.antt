@@ -4,8 +4,8 @@ use Rattle.std.specs.List.{AllByRecursion, last_or}
 use Rattle.zone_model.specs.Version.{Version, Same}
 use Rattle.zone_model.specs.TransferText.{OnIxfr}
 use Rattle.zone_model.specs.TransferLaws.{IsPublished}
-use Rattle.zone_model.specs.Read.{request_fault}
-use Rattle.zone_model.specs.Carried.{Carrier, Carries, carried_text}
+use Rattle.xfr_model.specs.Read.{request_fault}
+use Rattle.xfr_model.specs.Carried.{Carrier, Carries, carried_text}
 use Rattle.xfr_course.specs.Outcome.{Outcome, Updated, UpToDate, Checked, Course, outcome, made}
 use Rattle.xfr_course.specs.Granting.{Ends, IsGranting, sent_text}
 

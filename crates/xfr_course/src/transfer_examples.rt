@@ -5,10 +5,11 @@ ghost use Rattle.dns_name.specs.Codes.{type_axfr, type_ixfr};
 ghost use Rattle.zone_model.specs.Edits.{Incompatible};
 ghost use Rattle.zone_model.specs.TransferText.{Axfr, Ixfr};
 ghost use Rattle.zone_model.specs.Spells.{spelling};
-ghost use Rattle.zone_model.specs.Read.{spelt};
+ghost use Rattle.xfr_model.specs.Read.{spelt};
 ghost use Rattle.zone_model.specs.ZoneRows as rows;
 ghost use Rattle.xfr_course.specs.CourseRows as examples;
-ghost use Rattle.zone_model.specs.Read as reads;
+ghost use Rattle.xfr_model.specs.Read as reads;
+ghost use Rattle.xfr_model.specs.ReplyRows as replies;
 ghost use Rattle.xfr_course.specs.Granting as granting;
 ghost use Rattle.xfr_course.specs.Outcome as outcomes;
 ghost use Rattle.xfr_course.specs.Courses as courses;
@@ -168,7 +169,7 @@ pub fn message_row()
     ensures unsigned { (courses.checked_message bare_reply).signed ≡ false }
     ensures original_id { (courses.checked_message examples.other_id_reply).message.header.id ≡ 1000 }
     ensures unreadable { (courses.read_message examples.lacks_question).answers ≡ None ∷ [] }
-    ensures rest { courses.read_message examples.lacks_authority ≡ record (rows.reply type_axfr []) { header = record rows.transfer_header { aa = false }; answers = None ∷ []; authority = 1 } }
+    ensures rest { courses.read_message examples.lacks_authority ≡ record (replies.reply type_axfr []) { header = record replies.transfer_header { aa = false }; answers = None ∷ []; authority = 1 } }
 {}
 
 /// What a request asks: its mode, its id, and the number from which versions are counted.

@@ -16,8 +16,8 @@ use Rattle.zone_model.specs.Version.{RecordSet, Version, set_at}
 use Rattle.zone_model.specs.Answer.{apex_soa_record, first_only, records_of, records_of_option}
 use Rattle.zone_model.specs.Offer.{is_apex_soa, whole_text}
 use Rattle.zone_model.specs.Walk.{records_of_version}
-use Rattle.zone_model.specs.Messages.{ReadMessage}
-use Rattle.zone_model.specs.Read.{request_fault}
+use Rattle.xfr_model.specs.Messages.{ReadMessage}
+use Rattle.xfr_model.specs.Read.{request_fault}
 use Rattle.zone_model.specs.TransferText.{is_soa}
 use Rattle.zone_model.proofs.Folded.{same_name-Decides}
 use Rattle.xfr_server.specs.Texts.{transfer_header}

@@ -11,9 +11,9 @@ use Rattle.tsig_port.specs.Checked.{taken_message}
 use Rattle.tsig_port.specs.ServerCheck.{Keys, verdict}
 use Rattle.tsig_port.specs.ServerCheck.Verdict.{Accepted}
 use Rattle.zone_model.specs.Version.{Version, has_one_apex_soa}
-use Rattle.zone_model.specs.Messages.{read_of}
+use Rattle.xfr_model.specs.Messages.{read_of}
 use Rattle.zone_model.specs.Offer.{Offer, whole_text}
-use Rattle.zone_model.specs.Read.{request_fault}
+use Rattle.xfr_model.specs.Read.{request_fault}
 use Rattle.xfr_server.specs.Items.{Sending, sent_by}
 use Rattle.xfr_server.specs.Texts.{transfer_message}
 use Rattle.xfr_server.specs.Transfers.{transfer_mode, asked_serial, asks_for_apex}

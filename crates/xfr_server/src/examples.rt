@@ -2,6 +2,7 @@
 ghost use Rattle.std.specs.Prelude.{map, ◌≡◌, [], ◌∷◌, true, false, Some, None};
 ghost use Rattle.dns_name.specs.Codes.{type_axfr, type_ixfr, type_soa};
 ghost use Rattle.zone_model.specs.ZoneRows as rows;
+ghost use Rattle.xfr_model.specs.ReplyRows as replies;
 ghost use Rattle.xfr_server.specs.Transfers as transfers;
 ghost use Rattle.xfr_server.specs.Transfers.Choice.{Refuse, SoaAlone, Whole};
 ghost use Rattle.xfr_server.specs.declared.transfer.XfrMode.TheVariants.{Axfr, Ixfr};
@@ -18,11 +19,11 @@ pub fn part_row()
 
 /// What is sent of a version: a refusal for another name, for AXFR by UDP, and without an apex SOA, in this order; the SOA to one who has caught up; else the whole text.
 pub fn choice_row()
-    ensures other_name { transfers.choice_of Axfr true (Some (record (rows.asked type_axfr) { qname = rows.sub })) None rows.history_1 ≡ Refuse 2 }
+    ensures other_name { transfers.choice_of Axfr true (Some (record (replies.asked type_axfr) { qname = rows.sub })) None rows.history_1 ≡ Refuse 2 }
     ensures unread { transfers.choice_of Axfr false None None rows.history_1 ≡ Refuse 2 }
-    ensures by_udp { transfers.choice_of Axfr true (Some (rows.asked type_axfr)) None rows.empty_zone ≡ Refuse 4 }
-    ensures no_soa { transfers.choice_of Axfr false (Some (rows.asked type_axfr)) None rows.empty_zone ≡ Refuse 2 }
-    ensures caught_up { transfers.choice_of Ixfr true (Some (rows.asked type_ixfr)) (Some 1) rows.history_1 ≡ SoaAlone rows.history_1 }
-    ensures behind { transfers.choice_of Ixfr true (Some (rows.asked type_ixfr)) (Some 1) rows.history_2 ≡ Whole rows.history_2 }
-    ensures whole { transfers.choice_of Axfr false (Some (rows.asked type_axfr)) (Some 1) rows.history_1 ≡ Whole rows.history_1 }
+    ensures by_udp { transfers.choice_of Axfr true (Some (replies.asked type_axfr)) None rows.empty_zone ≡ Refuse 4 }
+    ensures no_soa { transfers.choice_of Axfr false (Some (replies.asked type_axfr)) None rows.empty_zone ≡ Refuse 2 }
+    ensures caught_up { transfers.choice_of Ixfr true (Some (replies.asked type_ixfr)) (Some 1) rows.history_1 ≡ SoaAlone rows.history_1 }
+    ensures behind { transfers.choice_of Ixfr true (Some (replies.asked type_ixfr)) (Some 1) rows.history_2 ≡ Whole rows.history_2 }
+    ensures whole { transfers.choice_of Axfr false (Some (replies.asked type_axfr)) (Some 1) rows.history_1 ≡ Whole rows.history_1 }
 {}

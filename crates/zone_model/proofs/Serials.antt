@@ -3,8 +3,8 @@ use Rattle.std.proofs.Common.{◌≡◌, Bool, true, false, ◌==◌, List, [], 
 use Rattle.std.specs.Cmp.{first_so, second_so}
 use Rattle.std.specs.Cmp.Lexicographic.{bytes_decides}
 use Rattle.dns_name.specs.Names.{fold}
-use Rattle.dns_rdata.specs.Records.{Field, Octets, DomainName, same_field, same_data}
-use Rattle.dns_rdata.specs.Soa.{serial_of}
+use Rattle.rdata_types.specs.Records.{Field, Octets, DomainName, same_field, same_data}
+use Rattle.rdata_types.specs.Soa.{serial_of}
 use Rattle.zone_model.proofs.Folded.{same_name-Decides}
 
 -- a field with its name in lower case

@@ -1,11 +1,9 @@
 -- Zones of worked examples, under `example.`, with TTL 3600 and class IN.
-use Rattle.std.specs.Prelude.{ℕ, List, [], ◌∷◌, ◌++◌, codes, true, false, map, Some, Result, Ok, Err}
+use Rattle.std.specs.Prelude.{ℕ, List, [], ◌∷◌, ◌++◌, codes, true, false, Result, Ok, Err}
 use Rattle.dns_name.specs.Names.{Name}
-use Rattle.dns_rdata.specs.Records.{Field, Octets, DomainName, Record}
+use Rattle.rdata_types.specs.Records.{Field, Octets, DomainName, Record}
 use Rattle.dns_name.specs.Codes.{type_a, type_ns, type_cname, type_soa, type_aaaa, type_ds}
-use Rattle.dns_wire.specs.Wire.{Header, Question}
 use Rattle.zone_model.specs.Version.{Version}
-use Rattle.zone_model.specs.Messages.{ReadMessage}
 use Rattle.zone_model.specs.Edits.{Refusal, add_all, add}
 use Rattle.zone_model.specs.Difference.{Difference}
 use Rattle.zone_model.specs.Offer.{Provider, successive}
@@ -148,16 +146,6 @@ provider = record { kept = history_3; differences = history_differences; grants 
 
 abbrev pub with_ttl : ℕ → Record → Record
 with_ttl ttl r = record r { ttl = ttl }
-
--- a header of an answer, and a message as read with these records in answer to a question of a type
-abbrev pub transfer_header : Header
-transfer_header = record { id = 1000; qr = true; opcode = 0; aa = true; tc = false; rd = false; ra = false; z = false; ad = false; cd = false; rcode = 0 }
-
-abbrev pub asked : ℕ → Question
-asked qtype = record { qname = e; qtype = qtype; qclass = 1 }
-
-abbrev pub reply : ℕ → List Record → ReadMessage
-reply qtype records = record { header = transfer_header; questions = asked qtype ∷ []; answers = map (λ r. Some r) records; authority = 0 }
 
 -- a session that has added an address and a DS without NS, and was asked for a difference
 abbrev pub session : Session

@@ -7,7 +7,6 @@ ghost use Rattle.zone_model.specs.Edits.{close, bump, delete_all};
 ghost use Rattle.zone_model.specs.Difference.{diffable};
 ghost use Rattle.zone_model.specs.TransferText.{Ixfr};
 ghost use Rattle.zone_model.specs.Spells.{spelling};
-ghost use Rattle.zone_model.specs.Read.{spelt};
 ghost use Rattle.std.specs.Result.{result_unwrap_or};
 ghost use Rattle.zone_model.specs.ZoneRows as rows;
 ghost use Rattle.zone_model.specs.Zones as zones;

@@ -1,21 +1,16 @@
 // Worked examples of transfer texts and their reading, proved by computation.
 ghost use Rattle.std.specs.Prelude.{◌≡◌, [], ◌∷◌, map, true, false, Some, None, Ok, length, drop};
 ghost use Rattle.zone_model.specs.Version.{same_version};
-ghost use Rattle.dns_name.specs.Codes.{type_axfr, type_ixfr};
 ghost use Rattle.zone_model.specs.Edits.{Incompatible};
 ghost use Rattle.zone_model.specs.Difference.{difference, diffable, apply_difference, records_in};
 ghost use Rattle.zone_model.specs.TransferText.{Axfr, Ixfr, read_text};
 ghost use Rattle.zone_model.specs.Spells.{spelling};
-ghost use Rattle.zone_model.specs.Read.{spelt};
 ghost use Rattle.zone_model.specs.Offer.{text_of, successive, pushed, are_pages, whole_text, changes_text, changes_or_whole};
 ghost use Rattle.zone_model.specs.ZoneRows as rows;
-ghost use Rattle.zone_model.specs.Read as reads;
 ghost use Rattle.zone_model.specs.Updates as updates;
 ghost use Rattle.zone_model.specs.Session as sessions;
-ghost use Rattle.zone_model.specs.Machine as machines;
 ghost use Rattle.zone_model.specs.LawRows as law_rows;
-ghost use Rattle.dns_rdata.specs.Records.{record_wire};
-ghost use Rattle.dns_wire.specs.Wire.{question_wire};
+ghost use Rattle.rdata_types.specs.Records.{record_wire};
 
 /// The difference of two versions, and what an incremental text of two batches spells.
 pub fn history_row()
@@ -61,30 +56,8 @@ pub fn updates_row()
 /// Lengths in wire form, and a text cut into messages.
 pub fn length_row()
     ensures soa { length (record_wire (rows.soa 1)) ≡ 41 }
-    ensures question { length (question_wire (rows.asked 252)) ≡ 13 }
     ensures pages { are_pages 90 ((rows.soa 1 ∷ rows.address rows.t 1 ∷ []) ∷ (rows.soa 1 ∷ []) ∷ []) ≡ true }
     ensures early { are_pages 90 ((rows.soa 1 ∷ []) ∷ (rows.address rows.t 1 ∷ rows.soa 1 ∷ []) ∷ []) ≡ false }
-{}
-
-/// The machine on small texts: equal SOAs, three SOAs in a row, an SOA like the first where adds begin, a whole text in answer to an incremental question, an SOA of another owner.
-pub fn machine_row()
-    ensures equal { (machines.run Ixfr machines.AtStart (rows.soa 2 ∷ rows.soa 2 ∷ [])).updates ≡ updates.Finished (rows.soa 2) ∷ [] }
-    ensures three { (machines.run Ixfr machines.AtStart (rows.soa 3 ∷ rows.soa 1 ∷ rows.soa 2 ∷ rows.soa 3 ∷ [])).updates ≡ updates.BeginBatchDelete (rows.soa 1) ∷ updates.BeginBatchAdd (rows.soa 2) ∷ updates.Finished (rows.soa 3) ∷ [] }
-    ensures no_end { machines.run Ixfr machines.AtStart (rows.soa 3 ∷ rows.soa 1 ∷ rows.soa 3 ∷ []) ≡ machines.went (machines.InAdds (rows.soa 3)) (updates.BeginBatchDelete (rows.soa 1) ∷ updates.BeginBatchAdd (rows.soa 3) ∷ []) }
-    ensures whole { machines.run Ixfr machines.AtStart (rows.soa 2 ∷ rows.address rows.t 1 ∷ rows.soa 1 ∷ rows.soa 2 ∷ []) ≡ machines.went machines.AtEnd (updates.DeleteAllRecords ∷ updates.AddRecord (rows.address rows.t 1) ∷ updates.AddRecord (rows.soa 1) ∷ updates.Finished (rows.soa 2) ∷ []) }
-    ensures empty { machines.run Axfr machines.AtStart (rows.soa 2 ∷ rows.soa 2 ∷ []) ≡ machines.went machines.AtEnd (updates.DeleteAllRecords ∷ updates.Finished (rows.soa 2) ∷ []) }
-    ensures owner { machines.run Axfr machines.AtStart (rows.soa 2 ∷ record (rows.soa 2) { owner = rows.sub } ∷ []) ≡ machines.went machines.AtEnd (updates.DeleteAllRecords ∷ updates.Finished (record (rows.soa 2) { owner = rows.sub }) ∷ []) }
-    ensures behind { (machines.run Axfr machines.AtStart (rows.soa 2 ∷ rows.soa 2 ∷ rows.soa 2 ∷ [])).fault ≡ Some reads.AfterEnd }
-{}
-
-/// Items of a message after the end, and the retry signal.
-pub fn reader_row()
-    ensures unreadable { (machines.run_items Axfr machines.AtStart (reads.Good (rows.soa 2) ∷ reads.Good (rows.soa 2) ∷ reads.Bad reads.Unreadable ∷ [])).fault ≡ Some reads.Unreadable }
-    ensures first { (machines.run_items Axfr machines.AtStart (reads.Good (rows.soa 2) ∷ reads.Good (rows.soa 2) ∷ reads.Good (rows.soa 2) ∷ reads.Bad reads.Unreadable ∷ [])).fault ≡ Some reads.AfterEnd }
-    ensures lone { (machines.take_messages Ixfr reads.message_fault machines.new_reader ((rows.reply type_ixfr (rows.soa 1 ∷ [])) ∷ [])).signal ≡ Some 1 }
-    ensures two { (machines.take_messages Ixfr reads.message_fault machines.new_reader ((rows.reply type_ixfr (rows.soa 1 ∷ rows.soa 1 ∷ [])) ∷ [])).signal ≡ None }
-    ensures axfr { (machines.take_messages Axfr reads.message_fault machines.new_reader ((rows.reply type_axfr (rows.soa 1 ∷ [])) ∷ [])).signal ≡ None }
-    ensures later { (machines.take_messages Axfr reads.message_fault machines.new_reader ((rows.reply type_axfr (rows.soa 1 ∷ [])) ∷ (rows.reply type_axfr (rows.soa 1 ∷ [])) ∷ (rows.reply type_axfr (rows.soa 1 ∷ [])) ∷ [])).told ≡ updates.DeleteAllRecords ∷ updates.Finished (rows.soa 1) ∷ [] }
 {}
 
 /// What the premises rule out: an SOA below the apex ends a text early, a second SOA isn't sent, and a DS without NS isn't kept.

@@ -5,12 +5,12 @@ use Rattle.std.proofs.lemmas.Bool.{eq-eqb, eqb-true, ne_eqb, and_left}
 use Rattle.std.proofs.Math.Bool.{and-false}
 use Rattle.dns_wire.specs.Wire.{Question, same_question, header_in, qdcount_in}
 use Rattle.dns_wire.specs.Parse.{Parsed, parsed, question_at, sole_question_in}
-use Rattle.zone_model.specs.Messages.{ReadMessage, type_of, message_of, as_read}
+use Rattle.xfr_model.specs.Messages.{ReadMessage, type_of, message_of, as_read}
 use Rattle.zone_model.specs.TransferText.{Mode, Axfr}
-use Rattle.zone_model.specs.Read.{Fault, NotValid, Malformed, OtherAnswer, is_other, is_transfer_head, asks_transfer, first_record_fault, record_item, message_fault, request_fault}
-use Rattle.zone_model.specs.Interpreter.{mode_asked}
-use Rattle.zone_model.specs.Machine.{Place, AtStart, AtSecond, InWhole, InDeletes, InAdds, AtEnd, Run, run_items, is_at_end}
-use Rattle.zone_model.proofs.FinerSteps.{names_mode}
+use Rattle.xfr_model.specs.Read.{Fault, NotValid, Malformed, OtherAnswer, is_other, is_transfer_head, asks_transfer, first_record_fault, record_item, message_fault, request_fault}
+use Rattle.xfr_model.specs.Interpreter.{mode_asked}
+use Rattle.xfr_model.specs.Machine.{Place, AtStart, AtSecond, InWhole, InDeletes, InAdds, AtEnd, Run, run_items, is_at_end}
+use Rattle.xfr_model.proofs.FinerSteps.{names_mode}
 use Rattle.xfr_client.specs.Interpreting.{Interpreting, Interprets, Refuses, run_from}
 use Rattle.xfr_client.specs.Rest.{Rest}
 use Rattle.xfr_client.specs.declared.protocol.Error.{Error}

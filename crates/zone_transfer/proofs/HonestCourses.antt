@@ -11,10 +11,10 @@ use Rattle.tsig_port.specs.Checked.{taken_message}
 use Rattle.dns_wire.specs.Parse.{questions_in}
 use Rattle.zone_model.specs.Version.{Version, has_one_soa, has_one_apex_soa}
 use Rattle.zone_model.specs.Spells.{spelling}
-use Rattle.zone_model.specs.Messages.{read_of}
+use Rattle.xfr_model.specs.Messages.{read_of}
 use Rattle.zone_model.specs.TransferText.{Mode, Axfr}
 use Rattle.zone_model.specs.Offer.{whole_text, room_of, are_pages, IsCutInto}
-use Rattle.zone_model.specs.Read.{request_fault}
+use Rattle.xfr_model.specs.Read.{request_fault}
 use Rattle.dns_name.specs.NameOrder.{same_name_equiv}
 use Rattle.zone_model.proofs.Valid.{one_soa}
 use Rattle.zone_model.proofs.WholeText.{whole_is, whole_spells}

@@ -15,9 +15,9 @@ use Rattle.tsig_port.specs.Checked.{answer_fault, taken_message}
 use Rattle.tsig_port.specs.Signing.{CanSign}
 use Rattle.tsig_port.proofs.SignedAnswers as answers
 use Rattle.zone_model.specs.Version.{Version}
-use Rattle.zone_model.specs.Messages.{HaveData, ReadMessage, as_read, read_of, message_of}
+use Rattle.xfr_model.specs.Messages.{HaveData, ReadMessage, as_read, read_of, message_of}
 use Rattle.zone_model.specs.Offer.{whole_text}
-use Rattle.zone_model.proofs.ReadingBuilt.{built_is_read}
+use Rattle.xfr_model.proofs.ReadingBuilt.{built_is_read}
 use Rattle.zone_model.proofs.Valid.{one_soa}
 use Rattle.zone_model.proofs.WholeText.{middle_of, soa_of, whole_is}
 use Rattle.xfr_server.specs.Texts.{transfer_header}

@@ -20,7 +20,7 @@ use Rattle.tsig_keys.specs.declared.algorithms.Algorithm.{Algorithm}
 use Rattle.tsig_keys.specs.declared.algorithms.Algorithm.TheVariants.{Sha1, Sha256, Sha384, Sha512}
 use Rattle.tsig_port.proofs.SignatureReading.{signature_written}
 use Rattle.tsig_port.proofs.SignedExchange.{signer_tsig, signer_short, without_again, mac_read}
-use Rattle.zone_model.specs.Messages.{type_of}
+use Rattle.xfr_model.specs.Messages.{type_of}
 use Rattle.zone_model.specs.TransferText.{Mode, Axfr, Ixfr}
 use Rattle.xfr_server.specs.Transfers.{transfer_mode, mode_of_type}
 use Rattle.xfr_server.specs.declared.transfer.XfrMode.TheVariants as modes

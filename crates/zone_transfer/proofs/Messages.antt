@@ -3,8 +3,8 @@ use Rattle.std.proofs.Common.{◌≡◌, ℕ, false, List, [], ◌∷◌, ◌++�
 use Rattle.zone_model.specs.Commits.{Commit}
 use Rattle.zone_model.specs.Session.{Session}
 use Rattle.zone_model.specs.Updates.{Update, Progress}
-use Rattle.zone_model.specs.Machine.{went, then_run}
-use Rattle.zone_model.specs.Applying.{Halt, Held, apply_within}
+use Rattle.xfr_model.specs.Machine.{went, then_run}
+use Rattle.xfr_model.specs.Applying.{Halt, Held, apply_within}
 use Rattle.xfr_client.specs.declared.update.Error.{Error}
 use Rattle.xfr_client.specs.declared.update.Error.TheVariants as errors
 use Rattle.xfr_client.specs.Rest.{Rest}

@@ -7,10 +7,10 @@ use Rattle.std.proofs.Math.Bool.{and-false}
 use Rattle.dns_rdata.specs.Records.{Record}
 use Rattle.dns_wire.specs.Wire.{Question}
 use Rattle.zone_model.specs.TransferText.{Mode, Axfr, is_soa, is_same_soa}
-use Rattle.zone_model.specs.Messages.{ReadMessage, type_of}
+use Rattle.xfr_model.specs.Messages.{ReadMessage, type_of}
 use Rattle.zone_model.specs.Updates.{DeleteRecord, AddRecord, BeginBatchDelete, BeginBatchAdd, Finished}
-use Rattle.zone_model.specs.Read.{Fault, NotValid, Malformed, OtherAnswer, Item, Good, Bad, record_item, is_other, is_transfer_head, asks_transfer, first_record_fault, message_fault, request_fault}
-use Rattle.zone_model.specs.Machine.{Place, AtStart, AtSecond, InWhole, InDeletes, InAdds, AtEnd, is_at_end, Run, went, step, then_run, end_or_batch, run_items, lone_serial, signal_of}
+use Rattle.xfr_model.specs.Read.{Fault, NotValid, Malformed, OtherAnswer, Item, Good, Bad, record_item, is_other, is_transfer_head, asks_transfer, first_record_fault, message_fault, request_fault}
+use Rattle.xfr_model.specs.Machine.{Place, AtStart, AtSecond, InWhole, InDeletes, InAdds, AtEnd, is_at_end, Run, went, step, then_run, end_or_batch, run_items, lone_serial, signal_of}
 use Rattle.zone_transfer.specs.Standing.{IsUnderWay}
 
 -- after its first record

@@ -10,10 +10,10 @@ use Rattle.dns_wire.specs.declared.builder.PushError.{PushError}
 use Rattle.zone_model.specs.Version.{Version}
 use Rattle.zone_model.specs.Commits.{Commit}
 use Rattle.zone_model.specs.Session.{Session}
-use Rattle.zone_model.specs.Read.{Fault}
+use Rattle.xfr_model.specs.Read.{Fault}
 use Rattle.zone_model.specs.Updates.{Edit, NotSoaRecord, AfterFinish}
-use Rattle.zone_model.specs.Machine.{is_at_end, Run, signal_of}
-use Rattle.zone_model.specs.Applying.{Halt, Denied, NoNumber, Held, apply_within}
+use Rattle.xfr_model.specs.Machine.{is_at_end, Run, signal_of}
+use Rattle.xfr_model.specs.Applying.{Halt, Denied, NoNumber, Held, apply_within}
 use Rattle.tsig_port.specs.Tsig.{is_signed}
 use Rattle.xfr_course.specs.Outcome.{Outcome, Ended, LinkFault, TooManyMessages, Short, Tsig, RequestTooLong, Primary, Checked, Course, outcome, made, room, base_serial, UpToDate, RetrySignal}
 use Rattle.xfr_course.specs.Courses.{has_header, most_replies, stop_after}

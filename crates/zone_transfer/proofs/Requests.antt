@@ -13,10 +13,10 @@ use Rattle.dns_wire.specs.declared.builder.PushError.{PushError}
 use Rattle.dns_wire.specs.declared.builder.PushError.TheVariants.{ShortBuf, CountOverflow, Memory}
 use Rattle.zone_model.specs.Commits.{Commit}
 use Rattle.zone_model.specs.TransferText.{Mode}
-use Rattle.zone_model.specs.Messages.{type_of}
+use Rattle.xfr_model.specs.Messages.{type_of}
 use Rattle.zone_model.specs.Session.{Session}
 use Rattle.xfr_client.specs.Updating.{progress_of}
-use Rattle.zone_model.specs.Machine.{AtStart}
+use Rattle.xfr_model.specs.Machine.{AtStart}
 use Rattle.tsig_port.specs.States.{ClientStands}
 use Rattle.zone_transfer.specs.SoFar.{client_so_far, fault_so_far}
 use Rattle.zone_transfer.specs.Standing.{ExchangeStands}

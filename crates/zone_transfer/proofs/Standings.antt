@@ -13,10 +13,10 @@ use Rattle.tsig_port.specs.declared.errors.ValidationError.{ValidationError}
 use Rattle.tsig_port.specs.declared.errors.ValidationError.TheVariants.{TooManyUnsigned, ServerUnsigned}
 use Rattle.zone_model.specs.Updates.{Update, Progress}
 use Rattle.zone_model.specs.TransferText.{Axfr}
-use Rattle.zone_model.specs.Messages.{ReadMessage}
-use Rattle.zone_model.specs.Read.{Fault, Item, Bad, record_item, items_unless, request_fault}
-use Rattle.zone_model.specs.Machine.{Place, is_at_end, Run, run_items, signal_of}
-use Rattle.zone_model.specs.Applying.{Halt, Held, apply_within}
+use Rattle.xfr_model.specs.Messages.{ReadMessage}
+use Rattle.xfr_model.specs.Read.{Fault, Item, Bad, record_item, items_unless, request_fault}
+use Rattle.xfr_model.specs.Machine.{Place, is_at_end, Run, run_items, signal_of}
+use Rattle.xfr_model.specs.Applying.{Halt, Held, apply_within}
 use Rattle.xfr_course.specs.Outcome.{Outcome, Updated, Tsig, Reading, Ended, Checked, Course, room}
 use Rattle.xfr_course.specs.Courses.{has_header}
 use Rattle.xfr_course.specs.Client.{Client, new_client, halt_outcome, met_after, client_after, run_message, take_checked, take_course}

@@ -10,10 +10,10 @@ use Rattle.zone_model.specs.Updates.{Update, Progress, UpdateFault, Edit, NotSoa
 use Rattle.xfr_client.specs.declared.update.Error.{Error}
 use Rattle.xfr_client.specs.declared.update.Error.TheVariants as errors
 use Rattle.xfr_client.specs.Causes.{update_fault_of}
-use Rattle.zone_model.specs.Applying.{Halt, Denied, NoNumber, Held, within, apply_within, unless_halted}
-use Rattle.zone_model.proofs.Limits.{within-append, then_held}
-use Rattle.zone_model.specs.Applying.{commits}
-use Rattle.zone_model.proofs.FinerSteps.{last_number}
+use Rattle.xfr_model.specs.Applying.{Halt, Denied, NoNumber, Held, within, apply_within, unless_halted}
+use Rattle.xfr_model.proofs.Limits.{within-append, then_held}
+use Rattle.xfr_model.specs.Applying.{commits}
+use Rattle.xfr_model.proofs.FinerSteps.{last_number}
 use Rattle.xfr_client.specs.Updating.{Updating, progress_of, new_version, next_commit, lacks_number}
 use Rattle.zone_transfer.specs.Steps.{commit_after, numbers_left, HasMade, Ahead, DoesOne, HaltsOne, TakesOne, Led}
 

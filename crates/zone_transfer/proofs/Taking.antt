@@ -9,9 +9,9 @@ use Rattle.zone_model.specs.Commits.{Commit}
 use Rattle.zone_model.specs.Session.{Session}
 use Rattle.zone_model.specs.Updates.{Update, Progress, UpdateFault, Edit, NotSoaRecord, AfterFinish}
 use Rattle.zone_model.specs.TransferText.{Axfr}
-use Rattle.zone_model.specs.Read.{Fault, record_item, request_fault}
-use Rattle.zone_model.specs.Machine.{Place, is_at_end, Run, run_items}
-use Rattle.zone_model.specs.Applying.{Halt, Denied, NoNumber, Held, apply_within}
+use Rattle.xfr_model.specs.Read.{Fault, record_item, request_fault}
+use Rattle.xfr_model.specs.Machine.{Place, is_at_end, Run, run_items}
+use Rattle.xfr_model.specs.Applying.{Halt, Denied, NoNumber, Held, apply_within}
 use Rattle.xfr_client.specs.Rest.{Rest}
 use Rattle.xfr_client.specs.Interpreting.{Interpreting}
 use Rattle.xfr_client.specs.Updating.{Updating}

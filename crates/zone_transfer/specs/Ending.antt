@@ -1,7 +1,7 @@
 -- What an answer of a transfer says of its outcome; want of memory says nothing.
 use Rattle.std.specs.Prelude.{Option, Some, None, Result, Ok, Err}
 use Rattle.zone_model.specs.Edits as edits
-use Rattle.zone_model.specs.Read as faults
+use Rattle.xfr_model.specs.Read as faults
 use Rattle.xfr_course.specs.Outcome as outcomes
 use Rattle.zone_transfer.specs.declared.outcome.SyncOk.{SyncOk}
 use Rattle.zone_transfer.specs.declared.outcome.SyncOk.TheVariants as done

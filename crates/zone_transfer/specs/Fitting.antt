@@ -9,7 +9,7 @@ use Rattle.tsig_port.specs.Checked.{taken_message}
 use Rattle.tsig_port.specs.Signing.{IsKey}
 use Rattle.zone_model.specs.Version.{Version}
 use Rattle.zone_model.specs.TransferText.{Axfr}
-use Rattle.zone_model.specs.Messages.{HaveData}
+use Rattle.xfr_model.specs.Messages.{HaveData}
 use Rattle.zone_model.specs.TransferLaws.{IsPublished}
 use Rattle.zone_model.specs.Offer.{whole_text}
 use Rattle.xfr_server.specs.Texts.{transfer_message}

@@ -25,13 +25,7 @@ pub use Rattle.zone_model.specs.Edits
 pub use Rattle.zone_model.specs.Difference
 pub use Rattle.zone_model.specs.TransferText
 pub use Rattle.zone_model.specs.Spells
-pub use Rattle.zone_model.specs.Messages
-pub use Rattle.zone_model.specs.Read
-pub use Rattle.zone_model.specs.Carried
 pub use Rattle.zone_model.specs.Updates
-pub use Rattle.zone_model.specs.Interpreter
-pub use Rattle.zone_model.specs.Machine
-pub use Rattle.zone_model.specs.Applying
 pub use Rattle.zone_model.specs.Session
 pub use Rattle.zone_model.specs.Commits
 pub use Rattle.zone_model.specs.History

@@ -6,7 +6,7 @@ use Rattle.tsig_port.specs.Checked.{answer_fault, taken_message, passing, first_
 use Rattle.tsig_port.specs.declared.errors.ValidationError.{ValidationError}
 use Rattle.zone_model.specs.Commits.{Commit}
 use Rattle.zone_model.specs.TransferText.{Mode}
-use Rattle.zone_model.specs.Messages.{ReadMessage, type_of, message_of}
+use Rattle.xfr_model.specs.Messages.{ReadMessage, type_of, message_of}
 use Rattle.dns_wire.specs.declared.builder.PushError.TheVariants.{ShortBuf}
 use Rattle.zone_transfer.specs.declared.outcome.SyncError.{SyncError}
 use Rattle.zone_transfer.specs.declared.outcome.SyncError.TheVariants as why

@@ -9,7 +9,7 @@ use Rattle.zone_model.specs.Commits.{Commit}
 use Rattle.zone_model.specs.Session.{Session}
 use Rattle.zone_model.specs.Updates.{Update, Progress}
 use Rattle.zone_model.specs.TransferText.{Mode}
-use Rattle.zone_model.specs.Machine.{Place, AtStart, AtSecond, InWhole, InDeletes, InAdds, AtEnd}
+use Rattle.xfr_model.specs.Machine.{Place, AtStart, AtSecond, InWhole, InDeletes, InAdds, AtEnd}
 use Rattle.xfr_course.specs.Outcome.{Outcome, Updated, UpToDate, Ended, Tsig, Short}
 use Rattle.xfr_course.specs.Client.{run_message}
 use Rattle.xfr_course.specs.Courses.{has_header}

@@ -1,5 +1,5 @@
 use Rattle.std.proofs.Common.{Some, true, subst, sym, ap, ◌∙◌}
-use Rattle.zone_model.specs.Machine.{run_items, AtStart}
+use Rattle.xfr_model.specs.Machine.{run_items, AtStart}
 use Rattle.zone_model.specs.TransferText.{Axfr}
 use Rattle.xfr_client.specs.Places.{place_of}
 use Rattle.xfr_client.specs.Items.{items_left}

@@ -1,5 +1,5 @@
 use Rattle.std.proofs.Common.{map, ap, ◌∙◌}
-use Rattle.zone_model.specs.Read.{record_item}
+use Rattle.xfr_model.specs.Read.{record_item}
 use Rattle.xfr_client.proofs.Sections.{left_behind}
 use Rattle.xfr_client.proofs.interpreter.behind_first.Goals as goal
 

@@ -1,6 +1,6 @@
 use Rattle.std.proofs.Common.{◌≡◌, true, sym, ◌∙◌}
 use Rattle.std.proofs.lemmas.Result.{err_from_is_err_and}
-use Rattle.zone_model.specs.Read.{is_transfer_head}
+use Rattle.xfr_model.specs.Read.{is_transfer_head}
 use Rattle.xfr_client.proofs.FirstMessage.{fault_asks, head_one, begins_good}
 use Rattle.xfr_client.proofs.interpreter.first_place.Goals as goal
 

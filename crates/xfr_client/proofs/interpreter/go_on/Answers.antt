@@ -1,6 +1,6 @@
 use Rattle.std.proofs.Common.{◌≡◌, None, true, false, subst, sym, ap, ◌∙◌}
-use Rattle.zone_model.specs.Machine.{run_items}
-use Rattle.zone_model.specs.Read.{is_transfer_head}
+use Rattle.xfr_model.specs.Machine.{run_items}
+use Rattle.xfr_model.specs.Read.{is_transfer_head}
 use Rattle.zone_model.specs.TransferText.{Axfr}
 use Rattle.xfr_client.specs.Places.{place_of}
 use Rattle.xfr_client.specs.Items.{items_left}

@@ -1,7 +1,7 @@
 use Rattle.std.proofs.Common.{◌≡◌, length, is_some}
 use Rattle.zone_model.specs.TransferText.{Axfr}
-use Rattle.zone_model.specs.Read.{first_fault}
-use Rattle.zone_model.specs.Machine.{run_items}
+use Rattle.xfr_model.specs.Read.{first_fault}
+use Rattle.xfr_model.specs.Machine.{run_items}
 use Rattle.xfr_client.specs.Places.{place_of}
 use Rattle.xfr_client.specs.Items.{items_left}
 use Rattle.xfr_client.proofs.interpreter.run_over.Given as goal

@@ -1,5 +1,5 @@
 use Rattle.std.proofs.Common.{refl, IsTrue, false, inl, inr, ◌≡◌, ◌⊎◌, Some, None}
-use Rattle.zone_model.specs.Read.{NotValid}
+use Rattle.xfr_model.specs.Read.{NotValid}
 use Rattle.zone_model.specs.ZoneRows.{history_3}
 use Rattle.xfr_course.specs.Outcome.{Updated, UpToDate, Ended}
 use Rattle.xfr_course.proofs.transfer_examples.success_row.Goals as goal

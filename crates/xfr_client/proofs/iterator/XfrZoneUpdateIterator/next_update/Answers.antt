@@ -1,9 +1,9 @@
 use Rattle.std.proofs.Common.{◌≡◌, ◌∷◌, true, false, Option, Some, None, Result, Err, subst, sym, ap, ◌∙◌}
 use Rattle.dns_label.specs.declared.octets.ParseError.{ParseError}
 use Rattle.dns_rdata.specs.Records.{Record}
-use Rattle.zone_model.specs.Read.{Good}
+use Rattle.xfr_model.specs.Read.{Good}
 use Rattle.zone_model.specs.TransferText.{Axfr}
-use Rattle.zone_model.specs.Machine.{step, AtEnd}
+use Rattle.xfr_model.specs.Machine.{step, AtEnd}
 use Rattle.xfr_client.specs.declared.place.Told.{Told}
 use Rattle.xfr_client.specs.declared.place.Told.TheVariants as told
 use Rattle.xfr_client.specs.declared.update.ZoneUpdate.{ZoneUpdate}

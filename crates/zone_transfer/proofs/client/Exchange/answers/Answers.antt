@@ -1,5 +1,5 @@
 use Rattle.std.proofs.Common.{◌≡◌, sym, ap, ◌∙◌, refl}
-use Rattle.zone_model.specs.Read.{OtherAnswer, NotValid}
+use Rattle.xfr_model.specs.Read.{OtherAnswer, NotValid}
 use Rattle.zone_transfer.specs.SoFar.{asked_id, asked_question}
 use Rattle.zone_transfer.proofs.Answering.{id_refused, unread_refused, parsed_answers}
 use Rattle.zone_transfer.proofs.client.Exchange.answers.Goals as goal

@@ -1,6 +1,6 @@
 use Rattle.std.proofs.Common.{◌≡◌, true, sym, ap, ◌∙◌, subst}
 use Rattle.std.proofs.lemmas.Result.{err_from_is_err_and}
-use Rattle.zone_model.specs.Machine.{is_at_end}
+use Rattle.xfr_model.specs.Machine.{is_at_end}
 use Rattle.xfr_client.specs.Interpreting.{is_over}
 use Rattle.zone_transfer.specs.SoFar.{client_so_far}
 use Rattle.zone_transfer.specs.Steps.{Ahead}

@@ -1,5 +1,0 @@
-use Rattle.zone_model.proofs.ReadingBuilt.{built_is_read}
-use Rattle.zone_model.proofs.reading_laws.built_is_read.Goals as goal
-
-pub returns : goal.returns
-returns c = built_is_read

@@ -1,5 +1,0 @@
-use Rattle.zone_model.proofs.Applied.{commits_spelling}
-use Rattle.zone_model.proofs.reading_laws.commits_spelling.Goals as goal
-
-pub returns : goal.returns
-returns c = commits_spelling

@@ -1,5 +1,0 @@
-use Rattle.zone_model.proofs.Limits.{commits_within}
-use Rattle.zone_model.proofs.reading_laws.commits_within.Goals as goal
-
-pub returns : goal.returns
-returns c = commits_within

@@ -1,5 +1,0 @@
-use Rattle.zone_model.proofs.PageReading.{pages_are_read}
-use Rattle.zone_model.proofs.reading_laws.pages_are_read.Goals as goal
-
-pub returns : goal.returns
-returns c = pages_are_read

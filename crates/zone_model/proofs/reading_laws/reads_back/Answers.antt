@@ -1,5 +1,0 @@
-use Rattle.zone_model.proofs.Texts.{reads_back}
-use Rattle.zone_model.proofs.reading_laws.reads_back.Goals as goal
-
-pub returns : goal.returns
-returns c = reads_back

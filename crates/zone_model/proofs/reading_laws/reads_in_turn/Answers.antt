@@ -1,5 +1,0 @@
-use Rattle.zone_model.proofs.InTurn.{reads_in_turn}
-use Rattle.zone_model.proofs.reading_laws.reads_in_turn.Goals as goal
-
-pub returns : goal.returns
-returns c = reads_in_turn

@@ -1,5 +1,0 @@
-use Rattle.zone_model.proofs.OneReading.{only_this}
-use Rattle.zone_model.proofs.reading_laws.reads_only.Goals as goal
-
-pub returns : goal.returns
-returns c = only_this

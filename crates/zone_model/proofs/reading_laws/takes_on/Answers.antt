@@ -1,5 +1,0 @@
-use Rattle.zone_model.proofs.InTurn.{takes_on}
-use Rattle.zone_model.proofs.reading_laws.takes_on.Goals as goal
-
-pub returns : goal.returns
-returns c = takes_on
