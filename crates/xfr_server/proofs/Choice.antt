@@ -4,7 +4,7 @@ use Rattle.std.specs.Prelude.{Result, Ok, is_some}
 use Rattle.dns_wire.specs.Parse.{sole_question_in}
 use Rattle.zone_model.specs.Offer.{Offer}
 use Rattle.xfr_server.specs.Transfers.{asked_serial, is_ixfr, chosen, choice_of}
-use Rattle.xfr_providers.specs.declared.providers.XfrDataProviderError.{XfrDataProviderError}
+use Rattle.xfr_server.specs.declared.providers.XfrDataProviderError.{XfrDataProviderError}
 use Rattle.xfr_server.specs.declared.transfer.XfrMode.{XfrMode}
 
 here : (told : Option ℕ → Result Offer XfrDataProviderError) (mode : XfrMode) (udp : Bool) (message : List ℕ) (offer : Offer)

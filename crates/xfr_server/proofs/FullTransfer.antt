@@ -18,7 +18,7 @@ use Rattle.xfr_server.specs.Signing.{Signer, can_be_signed, signed_reply, signed
 use Rattle.xfr_server.specs.Serving.{SendsIn, SendsTransfer}
 use Rattle.xfr_server.specs.SignedServing.{SendsBy, SendsSigned, accepted_request, signer_for, SendsChecked}
 use Rattle.xfr_server.specs.FullTransfer.{SendsWhole}
-use Rattle.xfr_providers.specs.declared.providers.XfrDataProviderError.{XfrDataProviderError}
+use Rattle.xfr_server.specs.declared.providers.XfrDataProviderError.{XfrDataProviderError}
 use Rattle.xfr_services.specs.declared.requests.Request.{Request}
 use Rattle.xfr_services.specs.declared.services.CallResult.{CallResult}
 use Rattle.xfr_services.specs.declared.requests.TransportSpecificContext.{TransportSpecificContext}

@@ -1,4 +1,4 @@
-pub use Rattle.xfr_providers.proofs.Granted
+pub mod Granted
 pub mod Headers
 pub mod Answers
 pub mod Adding

@@ -17,7 +17,7 @@ use Rattle.xfr_model.specs.Read.{request_fault}
 use Rattle.xfr_server.specs.Items.{Sending, sent_by}
 use Rattle.xfr_server.specs.Texts.{transfer_message}
 use Rattle.xfr_server.specs.Transfers.{transfer_mode, asked_serial, asks_for_apex}
-use Rattle.xfr_providers.specs.declared.providers.XfrDataProviderError.{XfrDataProviderError}
+use Rattle.xfr_server.specs.declared.providers.XfrDataProviderError.{XfrDataProviderError}
 use Rattle.xfr_services.specs.declared.requests.Request.{Request}
 use Rattle.xfr_services.specs.declared.requests.TransportSpecificContext.TheVariants.{NonUdp}
 use Rattle.xfr_server.specs.declared.transfer.XfrMode.TheVariants.{Axfr}

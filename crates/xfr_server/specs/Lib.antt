@@ -4,7 +4,7 @@ pub use Rattle.xfr_services.specs.Replying
 pub use Rattle.xfr_services.specs.Signing
 pub use Rattle.xfr_services.specs.SignedStreams
 pub use Rattle.xfr_services.specs.SignedServing
-pub use Rattle.xfr_providers.specs.Offers
+pub mod Offers
 pub mod Texts
 pub mod Transfers
 pub mod Choosing

@@ -7,7 +7,7 @@ ghost use Rattle.xfr_server.specs.Transfers as transfers;
 ghost use Rattle.xfr_server.specs.Transfers.Choice.{Refuse, SoaAlone, Whole};
 ghost use Rattle.xfr_server.specs.declared.transfer.XfrMode.TheVariants.{Axfr, Ixfr};
 ghost use Rattle.xfr_services.specs.declared.requests.TransportSpecificContext.TheVariants.{Udp, NonUdp};
-ghost use Rattle.xfr_providers.specs.declared.providers.XfrDataProviderError.TheVariants.{ParseError, UnknownZone, Refused, TemporarilyUnavailable};
+ghost use Rattle.xfr_server.specs.declared.providers.XfrDataProviderError.TheVariants.{ParseError, UnknownZone, Refused, TemporarilyUnavailable};
 
 /// The parts of a choice: types that ask for a transfer, rcodes of refusals, octets that a reply may have, and versions that are no news.
 pub fn part_row()

@@ -3,6 +3,7 @@ ghost use Rattle.std.specs.Prelude.{List, Option};
 ghost use Rattle.tsig_port.specs.Tsig.{TsigKey};
 ghost use Rattle.zone_model.specs.Offer.{Offer};
 ghost use Rattle.xfr_server.specs.Items.{Sending};
+ghost use Rattle.xfr_server.specs.Offers.{HistoryGrants};
 ghost use Rattle.xfr_server.specs.FullTransfer.{SendsWhole, WholeIsTaken, TransferIsMessage};
 ghost use Rattle.xfr_services.specs.declared.requests.Request.{Request as RequestOf};
 
@@ -24,4 +25,9 @@ pub fn full_transfers_are_sent<
 pub fn full_transfers_are_taken()
     ensures taken { WholeIsTaken }
     ensures wire { TransferIsMessage }
+{}
+
+/// A provider with a history offers what it keeps to one who signed with a key that it grants.
+pub fn granted_keys_are_offered()
+    ensures { HistoryGrants }
 {}

@@ -1,18 +1,17 @@
-//! What a primary answers: the transfer service, and the stack of services with it. Requests, services and signing stand in
-//! `xfr_services`, providers of zones in `xfr_providers`, and can be had here too.
+//! What a primary answers, and to whom: providers, which it asks what it may send (RFC 5936, 5), the transfer service, and the stack
+//! of services with it. Requests, services and signing stand in `xfr_services`, and can be had here too.
 #![tactic(auto)]
 
 mod examples;
 mod laws;
+pub mod providers;
 mod replies;
 mod set_records;
 mod texts;
 pub mod transfer;
 
+pub use providers::{HistoryProvider, XfrData, XfrDataProvider, XfrDataProviderError};
 pub use transfer::{XfrMiddlewareStream, XfrMiddlewareSvc, XfrMode};
-pub use xfr_providers::{
-    HistoryProvider, XfrData, XfrDataProvider, XfrDataProviderError, providers,
-};
 pub use xfr_services::{
     CallResult, PostprocessingState, RefuseSvc, Replies, ReplyStream, Request, Service,
     ServiceError, ServiceFeedback, TransportSpecificContext, TsigMiddlewareSvc, TsigStream,

@@ -10,6 +10,7 @@ ghost use Rattle.xfr_server.specs.Transfers as transfers;
 ghost use Rattle.xfr_server.specs.Choosing.{Chooses, choice_shown, is_no_news};
 ghost use Rattle.xfr_server.specs.Streams.{items_left, TransferLeft};
 
+use crate::providers::{XfrDataProvider, XfrDataProviderError};
 use crate::texts;
 use dns_name::{Opcode, Rcode, Rtype, Serial, ToName};
 use dns_rdata::{ParsedRecord, ZoneRecordData};
@@ -18,7 +19,6 @@ use std::alloc::{AllocError, Global};
 use std::cmp::Ordering;
 use std::fmt;
 use std::marker::Model;
-use xfr_providers::{XfrDataProvider, XfrDataProviderError};
 use xfr_services::{
     CallResult, Replies, ReplyStream, Request, Service, ServiceError, ServiceFeedback,
     TransportSpecificContext, replies,

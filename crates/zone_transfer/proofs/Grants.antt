@@ -21,7 +21,7 @@ use Rattle.zone_model.proofs.Folded.{same_name-Decides}
 use Rattle.xfr_server.specs.FullTransfer.{IsGrantedAxfr}
 use Rattle.xfr_server.specs.Offers.{answer_to, key_id}
 use Rattle.xfr_server.specs.Transfers.{asked_serial, asks_for_apex}
-use Rattle.xfr_providers.specs.declared.providers.XfrDataProviderError.{XfrDataProviderError}
+use Rattle.xfr_server.specs.declared.providers.XfrDataProviderError.{XfrDataProviderError}
 use Rattle.xfr_server.proofs.Granted.{history_grants}
 use Rattle.zone_transfer.specs.SoFar.{Asking, request_message, asked_question, asked_octets}
 use Rattle.zone_transfer.specs.Serving.{request_at}

@@ -6,7 +6,7 @@ use Rattle.tsig_port.specs.Checked.{taken_message}
 use Rattle.tsig_port.specs.ServerCheck.{Keys}
 use Rattle.zone_model.specs.Offer.{Offer}
 use Rattle.xfr_server.specs.Transfers.{asked_serial}
-use Rattle.xfr_providers.specs.declared.providers.XfrDataProviderError.{XfrDataProviderError}
+use Rattle.xfr_server.specs.declared.providers.XfrDataProviderError.{XfrDataProviderError}
 use Rattle.zone_transfer.specs.SoFar.{Asking, asked_octets}
 
 -- the primary knows the secondary's key, and its provider makes that offer to one who signs with it

@@ -4,7 +4,7 @@ ghost use Rattle.std.specs.Prelude.{◌&&◌, ◌==◌};
 ghost use Rattle.std.specs.List.{list_any};
 ghost use Rattle.dns_name.specs.Names.{same_name};
 ghost use Rattle.zone_model.specs.Offer.{is_granted};
-ghost use Rattle.xfr_providers.specs.Offers.{algorithm_number, key_id};
+ghost use Rattle.xfr_server.specs.Offers.{algorithm_number, key_id};
 
 use dns_name::{KeyName, ParseError, ParsedName, Serial, ToName};
 use dns_wire::Question;
@@ -86,7 +86,7 @@ pub enum XfrDataProviderError {
 
 impl From<AllocError> for XfrDataProviderError {
     ghost use Rattle.std.specs.Prelude.{◌≡◌};
-    ghost use Rattle.xfr_providers.specs.declared.providers.XfrDataProviderError.{XfrDataProviderError};
+    ghost use Rattle.xfr_server.specs.declared.providers.XfrDataProviderError.{XfrDataProviderError};
 
     ghost from_gives = { λ e s. s ≡ XfrDataProviderError.Memory };
 
@@ -97,7 +97,7 @@ impl From<AllocError> for XfrDataProviderError {
 
 impl From<ParseError> for XfrDataProviderError {
     ghost use Rattle.std.specs.Prelude.{◌≡◌};
-    ghost use Rattle.xfr_providers.specs.declared.providers.XfrDataProviderError.{XfrDataProviderError};
+    ghost use Rattle.xfr_server.specs.declared.providers.XfrDataProviderError.{XfrDataProviderError};
 
     ghost from_gives = { λ e s. s ≡ XfrDataProviderError.ParseError };
 
@@ -110,8 +110,8 @@ impl From<ParseError> for XfrDataProviderError {
 pub trait XfrDataProvider<M> {
     ghost use Rattle.std.specs.Prelude.{ℕ, List, Option, Result};
     ghost use Rattle.zone_model.specs.Offer.{Offer};
-    ghost use Rattle.xfr_providers.specs.declared.providers.XfrDataProviderError.{XfrDataProviderError};
-    ghost use Rattle.xfr_providers.specs.Offers.{Answers};
+    ghost use Rattle.xfr_server.specs.declared.providers.XfrDataProviderError.{XfrDataProviderError};
+    ghost use Rattle.xfr_server.specs.Offers.{Answers};
 
     /// What is answered to a message with this metadata and this serial, where memory is ample.
     ghost told: { Self → List ℕ → M → Option ℕ → Result Offer XfrDataProviderError };
@@ -163,7 +163,7 @@ impl Model for HistoryProvider {
 
     ghost Value = { Provider };
 
-    ghost use Rattle.xfr_providers.specs.Offers.{grant_ids};
+    ghost use Rattle.xfr_server.specs.Offers.{grant_ids};
 
     ghost view = { λ p. record { kept = p.kept.version; differences = []; grants = grant_ids p.grants.items; compatibility = p.compatibility_mode } };
 }
@@ -225,7 +225,7 @@ impl HistoryProvider {
 impl<K: KeyRef> XfrDataProvider<Option<K>> for HistoryProvider {
     ghost use Rattle.std.specs.Prelude.{option_map};
     ghost use Rattle.dns_wire.specs.Parse.{sole_question_in};
-    ghost use Rattle.xfr_providers.specs.Offers.{answer_to, key_id};
+    ghost use Rattle.xfr_server.specs.Offers.{answer_to, key_id};
 
     ghost told = { λ p message key asked. answer_to p (sole_question_in message) (option_map (λ k. key_id (K.the_key k)) key) asked };
 

@@ -1,7 +1,7 @@
 -- What holds of a grant holds of it as it is seen, and what is granted is offered.
 use Rattle.std.proofs.Common.{◌≡◌, Bool, List, [], ◌∷◌, map, ◌||◌, refl, ap}
 use Rattle.std.specs.List.{list_any}
-use Rattle.xfr_providers.specs.Offers.{HistoryGrants}
+use Rattle.xfr_server.specs.Offers.{HistoryGrants}
 
 pub any_map : {X Y : Type 0} (f : X → Y) (test : Y → Bool) (xs : List X) → list_any test (map f xs) ≡ list_any (λ x. test (f x)) xs
 any_map f test [] = refl

@@ -7,9 +7,9 @@ use Rattle.tsig_keys.specs.declared.algorithms.Algorithm.{Algorithm}
 use Rattle.tsig_keys.specs.declared.algorithms.Algorithm.TheVariants.{Sha1, Sha256, Sha384, Sha512}
 use Rattle.zone_model.specs.Offer.{Offer, Denial, Provider, is_granted, offer_of, offered}
 use Rattle.zone_model.specs.Offer.Denial.{UnknownZone as NoSuchZone, NotGranted}
-use Rattle.xfr_providers.specs.declared.providers.Grant.{Grant}
-use Rattle.xfr_providers.specs.declared.providers.XfrDataProviderError.{XfrDataProviderError}
-use Rattle.xfr_providers.specs.declared.providers.XfrDataProviderError.TheVariants.{ParseError, UnknownZone, Refused, TemporarilyUnavailable, Memory}
+use Rattle.xfr_server.specs.declared.providers.Grant.{Grant}
+use Rattle.xfr_server.specs.declared.providers.XfrDataProviderError.{XfrDataProviderError}
+use Rattle.xfr_server.specs.declared.providers.XfrDataProviderError.TheVariants.{ParseError, UnknownZone, Refused, TemporarilyUnavailable, Memory}
 
 -- the number that an algorithm is granted by
 abbrev pub algorithm_number : Algorithm → ℕ

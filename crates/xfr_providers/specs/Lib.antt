@@ -1,2 +1,0 @@
-pub use Rattle.xfr_services.specs.Requests
-pub mod Offers
