@@ -8,7 +8,7 @@ use Rattle.xfr_model.specs.Read.{Fault, NotValid, Malformed, Item, Good, Bad, me
 use Rattle.zone_model.specs.TransferText.{Axfr, Ixfr, is_soa}
 use Rattle.xfr_model.specs.Interpreter.{mode_asked}
 use Rattle.xfr_model.specs.Machine.{first_step}
-use Rattle.xfr_client.specs.declared.place.Place.{Place}
+use Rattle.xfr_client.specs.declared.interpreter_state.Place.{Place}
 use Rattle.xfr_client.specs.declared.protocol.Error.{Error}
 use Rattle.xfr_client.specs.Interpreting.{BeginsAt, IsPlaceAt}
 

@@ -10,8 +10,8 @@ use Rattle.zone_model.specs.TransferText.{Mode, Axfr, Ixfr}
 use Rattle.xfr_model.specs.Interpreter.{mode_asked}
 use Rattle.xfr_model.specs.Machine.{Run, went, then_run, first_step, run_items}
 use Rattle.xfr_model.specs.Machine as machine
-use Rattle.xfr_client.specs.declared.place.Place.{Place}
-use Rattle.xfr_client.specs.declared.place.Place.TheVariants.{AtSecond, InWhole, InDeletes, InAdds, AtEnd}
+use Rattle.xfr_client.specs.declared.interpreter_state.Place.{Place}
+use Rattle.xfr_client.specs.declared.interpreter_state.Place.TheVariants.{AtSecond, InWhole, InDeletes, InAdds, AtEnd}
 use Rattle.xfr_client.specs.declared.protocol.Error.{Error}
 use Rattle.xfr_client.specs.declared.protocol.Error.TheVariants as error
 use Rattle.xfr_client.specs.declared.update.ZoneUpdate.{ZoneUpdate}

@@ -11,7 +11,7 @@ use Rattle.zone_model.specs.Updates.{Update, DeleteAllRecords}
 use Rattle.xfr_model.specs.Interpreter.{mode_asked}
 use Rattle.xfr_model.specs.Machine.{Run, run_items, is_at_end, first_step}
 use Rattle.xfr_model.specs.Machine as machine
-use Rattle.xfr_client.specs.declared.place.Place.{Place}
+use Rattle.xfr_client.specs.declared.interpreter_state.Place.{Place}
 use Rattle.xfr_client.specs.declared.protocol.Error.{Error}
 use Rattle.xfr_client.specs.declared.protocol.Error.TheVariants as error
 use Rattle.xfr_client.specs.Places.{place_of, is_at_second}

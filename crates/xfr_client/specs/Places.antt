@@ -2,8 +2,8 @@
 use Rattle.std.specs.Prelude.{ℕ, Bool, true, false, Option, Some, None}
 use Rattle.dns_rdata.specs.Soa.{serial_of}
 use Rattle.xfr_model.specs.Machine as machine
-use Rattle.xfr_client.specs.declared.place.Place.{Place}
-use Rattle.xfr_client.specs.declared.place.Place.TheVariants.{AtSecond, InWhole, InDeletes, InAdds, AtEnd}
+use Rattle.xfr_client.specs.declared.interpreter_state.Place.{Place}
+use Rattle.xfr_client.specs.declared.interpreter_state.Place.TheVariants.{AtSecond, InWhole, InDeletes, InAdds, AtEnd}
 
 abbrev pub place_of : Place → machine.Place
 place_of (AtSecond s) = machine.AtSecond s

@@ -6,7 +6,7 @@ use Rattle.zone_model.specs.Updates.{Update}
 use Rattle.zone_model.specs.TransferText.{Axfr}
 use Rattle.xfr_model.specs.Read.{Unreadable, AfterEnd}
 use Rattle.xfr_model.specs.Machine.{Run, went, then_run, run_items}
-use Rattle.xfr_client.specs.declared.place.Place.{Place}
+use Rattle.xfr_client.specs.declared.interpreter_state.Place.{Place}
 use Rattle.xfr_client.specs.declared.update.ZoneUpdate.{ZoneUpdate}
 use Rattle.xfr_client.specs.declared.protocol.IterationError.{IterationError}
 use Rattle.xfr_client.specs.declared.protocol.IterationError.TheVariants as error

@@ -4,9 +4,9 @@ use Rattle.zone_model.specs.Updates.{Update, DeleteAllRecords, AddRecord}
 use Rattle.xfr_model.specs.Read.{Fault, AfterEnd}
 use Rattle.xfr_model.specs.Machine.{Run}
 use Rattle.xfr_model.specs.Machine as machine
-use Rattle.xfr_client.specs.declared.place.Place.{Place}
-use Rattle.xfr_client.specs.declared.place.Told.{Told}
-use Rattle.xfr_client.specs.declared.place.Told.TheVariants as told
+use Rattle.xfr_client.specs.declared.interpreter_state.Place.{Place}
+use Rattle.xfr_client.specs.declared.interpreter_state.Told.{Told}
+use Rattle.xfr_client.specs.declared.interpreter_state.Told.TheVariants as told
 use Rattle.xfr_client.specs.Places.{place_of}
 use Rattle.xfr_client.specs.Causes.{update_of}
 

@@ -13,8 +13,8 @@ ghost use Rattle.xfr_client.specs.Rest.{updates_in_hand};
 ghost use Rattle.xfr_client.specs.Interpreting.{Interprets, Refuses, interpreting_of, is_over, TakenOr, told_first, sections_here, IsReadAs, good_header, good_counts, good_head, unreached_fault, unreached, Asks, BeginsAt, IsPlaceAt};
 
 use crate::first_soa::{first_soa, serial_of};
+use crate::interpreter_state::{Place, step};
 use crate::iterator::XfrZoneUpdateIterator;
-use crate::place::{Place, step};
 use crate::protocol::Error;
 use crate::section::next_found;
 use crate::update::ZoneUpdate;

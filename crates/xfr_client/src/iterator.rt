@@ -2,7 +2,7 @@
 ghost use Rattle.std.specs.Prelude.{◌≡◌, false};
 ghost use Rattle.xfr_client.specs.Rest.{NextTold, rest_of};
 
-use crate::place::{Place, Told, step};
+use crate::interpreter_state::{Place, Told, step};
 use crate::protocol::IterationError;
 use crate::section::next_found;
 use crate::update::ZoneUpdate;

@@ -7,8 +7,8 @@
 
 mod first_soa;
 mod interpreter;
+mod interpreter_state;
 mod iterator;
-mod place;
 pub mod protocol;
 mod section;
 pub mod update;

@@ -20,7 +20,7 @@ use Rattle.xfr_model.specs.Messages.{ReadMessage}
 use Rattle.xfr_model.specs.Read.{request_fault}
 use Rattle.zone_model.specs.TransferText.{is_soa}
 use Rattle.zone_model.proofs.Folded.{same_name-Decides}
-use Rattle.xfr_server.specs.Texts.{transfer_header}
+use Rattle.xfr_server.specs.TransferMessage.{transfer_header}
 use Rattle.xfr_server.specs.Transfers.{transfer_mode, mode_of_type}
 use Rattle.xfr_server.specs.FullTransfer.{WholeIsTaken, TransferIsMessage}
 use Rattle.xfr_server.specs.declared.transfer.XfrMode.{XfrMode}

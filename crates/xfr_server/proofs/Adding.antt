@@ -11,7 +11,7 @@ use Rattle.zone_model.specs.Version.{RecordSet, Version, set_at}
 use Rattle.zone_model.specs.Answer.{apex_soa_record, first_only, records_of, records_of_option}
 use Rattle.zone_model.specs.Offer.{whole_text}
 use Rattle.zone_model.specs.Walk.{Stop, walk}
-use Rattle.xfr_server.specs.Texts.{transfer_message, with_answers, have_room, AddsAnswers, Writes, is_soa_stop, stop_records}
+use Rattle.xfr_server.specs.TransferMessage.{transfer_message, with_answers, have_room, AddsAnswers, Writes, is_soa_stop, stop_records}
 use Rattle.xfr_server.proofs.Answers.{with_none, with_more, with_append, room_none, room_more, room_short, room_full, room_behind, room_refused, held_transfer, written_transfer}
 use Rattle.xfr_server.proofs.Middle.{middle_by_stops}
 

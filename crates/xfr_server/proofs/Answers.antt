@@ -11,7 +11,7 @@ use Rattle.dns_wire.specs.Wire.{header_in}
 use Rattle.dns_wire.specs.Parse.{questions_in}
 use Rattle.dns_wire.proofs.Pushing.{message_wire-more_answers, answers-counted}
 use Rattle.dns_wire.proofs.Questions.{not_fitting}
-use Rattle.xfr_server.specs.Texts.{transfer_header, transfer_message, with_answers, have_room, can_hold}
+use Rattle.xfr_server.specs.TransferMessage.{transfer_header, transfer_message, with_answers, have_room, can_hold}
 
 -- ---- one step
 

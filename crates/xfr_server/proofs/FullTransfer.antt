@@ -11,7 +11,7 @@ use Rattle.tsig_port.specs.ServerCheck.{Keys, Verdict}
 use Rattle.zone_model.specs.Version.{has_one_apex_soa}
 use Rattle.zone_model.specs.Offer.{Offer, whole_text}
 use Rattle.xfr_server.specs.Items.{Sending, sent_by, all_given}
-use Rattle.xfr_server.specs.Texts.{transfer_header, transfer_message, can_hold}
+use Rattle.xfr_server.specs.TransferMessage.{transfer_header, transfer_message, can_hold}
 use Rattle.xfr_server.specs.Transfers.{chosen, transfer_replies, reply_limit, transaction, asked_serial, asks_for_apex}
 use Rattle.xfr_server.specs.Transfers.Choice.{Whole}
 use Rattle.xfr_server.specs.Signing.{Signer, can_be_signed, signed_reply, signed_items}

@@ -10,7 +10,7 @@ use Rattle.dns_wire.specs.declared.builder.PushError.{PushError}
 use Rattle.zone_model.specs.Version.{RecordSet, Version, set_at}
 use Rattle.zone_model.specs.Answer.{apex_soa_record, records_of}
 use Rattle.zone_model.specs.Walk.{Stop}
-use Rattle.xfr_server.specs.Texts.{with_answers, have_room, AddsAnswers, stop_records}
+use Rattle.xfr_server.specs.TransferMessage.{with_answers, have_room, AddsAnswers, stop_records}
 use Rattle.xfr_server.proofs.Answers.{with_more, with_append, room_more, room_behind}
 use Rattle.xfr_server.proofs.Adding.{adds_one, refused_first, refused_front, refused_as, added_all, soa_empty, soa_first}
 

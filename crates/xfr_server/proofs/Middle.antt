@@ -7,7 +7,7 @@ use Rattle.zone_model.specs.Version.{Version}
 use Rattle.zone_model.specs.Answer.{records_of}
 use Rattle.zone_model.specs.Offer.{is_apex_soa}
 use Rattle.zone_model.specs.Walk.{Stop, walk, records_of_version}
-use Rattle.xfr_server.specs.Texts.{is_soa_stop, stop_records}
+use Rattle.xfr_server.specs.TransferMessage.{is_soa_stop, stop_records}
 
 -- records of which all pass, or none
 all_pass : {X : Type 0} (p : Record → Bool) (f : X → Record) (ds : List X) → ((d : X) → p (f d) ≡ true) → filter p (map f ds) ≡ map f ds

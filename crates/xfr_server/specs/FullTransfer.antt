@@ -15,7 +15,7 @@ use Rattle.xfr_model.specs.Messages.{read_of}
 use Rattle.zone_model.specs.Offer.{Offer, whole_text}
 use Rattle.xfr_model.specs.Read.{request_fault}
 use Rattle.xfr_server.specs.Items.{Sending, sent_by}
-use Rattle.xfr_server.specs.Texts.{transfer_message}
+use Rattle.xfr_server.specs.TransferMessage.{transfer_message}
 use Rattle.xfr_server.specs.Transfers.{transfer_mode, asked_serial, asks_for_apex}
 use Rattle.xfr_server.specs.declared.providers.XfrDataProviderError.{XfrDataProviderError}
 use Rattle.xfr_services.specs.declared.requests.Request.{Request}

@@ -5,7 +5,7 @@ pub use Rattle.xfr_services.specs.Signing
 pub use Rattle.xfr_services.specs.SignedStreams
 pub use Rattle.xfr_services.specs.SignedServing
 pub mod Offers
-pub mod Texts
+pub mod TransferMessage
 pub mod Transfers
 pub mod Choosing
 pub mod Streams

@@ -14,7 +14,7 @@ use Rattle.zone_model.specs.Offer.{Offer, whole_text}
 use Rattle.xfr_server.specs.Items.{one_reply, reply_item, feedback_item}
 pub use Rattle.xfr_server.specs.Requests.{is_udp}
 use Rattle.xfr_server.specs.Replying.{notimp, refused, error_reply, error_replies}
-use Rattle.xfr_server.specs.Texts.{transfer_message, can_hold}
+use Rattle.xfr_server.specs.TransferMessage.{transfer_message, can_hold}
 use Rattle.xfr_services.specs.declared.requests.TransportSpecificContext.{TransportSpecificContext}
 use Rattle.xfr_services.specs.declared.requests.TransportSpecificContext.TheVariants.{Udp, NonUdp}
 use Rattle.xfr_server.specs.declared.providers.XfrDataProviderError.{XfrDataProviderError}

@@ -7,8 +7,8 @@ mod laws;
 pub mod providers;
 mod replies;
 mod set_records;
-mod texts;
 pub mod transfer;
+mod transfer_message;
 
 pub use providers::{HistoryProvider, XfrData, XfrDataProvider, XfrDataProviderError};
 pub use transfer::{XfrMiddlewareStream, XfrMiddlewareSvc, XfrMode};

@@ -2,7 +2,7 @@
 ghost use Rattle.std.specs.Prelude.{[]};
 ghost use Rattle.dns_wire.specs.Wire.{message_wire};
 ghost use Rattle.dns_wire.specs.Builds.{Builds};
-ghost use Rattle.xfr_server.specs.Texts.{transfer_message};
+ghost use Rattle.xfr_server.specs.TransferMessage.{transfer_message};
 
 use dns_name::Rcode;
 use dns_wire::{AnswerBuilder, MessageBuf, MessageBuilder, PushError};

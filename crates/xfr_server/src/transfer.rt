@@ -11,7 +11,7 @@ ghost use Rattle.xfr_server.specs.Choosing.{Chooses, choice_shown, is_no_news};
 ghost use Rattle.xfr_server.specs.Streams.{items_left, TransferLeft};
 
 use crate::providers::{XfrDataProvider, XfrDataProviderError};
-use crate::texts;
+use crate::transfer_message;
 use dns_name::{Opcode, Rcode, Rtype, Serial, ToName};
 use dns_rdata::{ParsedRecord, ZoneRecordData};
 use dns_wire::{AdditionalBuilder, Message, MessageBuf, PushError, RecordSection};
@@ -263,7 +263,7 @@ fn reply_with(
     if !mode.is_ixfr() && is_udp {
         return Reply::Error(Rcode::NOTIMP);
     }
-    let Some(serial) = texts::zone_serial(&zone) else {
+    let Some(serial) = transfer_message::zone_serial(&zone) else {
         return Reply::Error(Rcode::SERVFAIL);
     };
     if mode.is_ixfr() && is_caught_up(serial, asked) {
@@ -377,7 +377,7 @@ fn soa_alone(
 ) -> Result<Replies, ServiceError>
     ensures { Makes (option_map one_reply (transfers.soa_reply request.now limit zone.now.version)) result }
 {
-    match texts::soa_message(alloc, request, limit, zone) {
+    match transfer_message::soa_message(alloc, request, limit, zone) {
         Ok(reply) => Ok(Replies::single(alloc, reply)?),
         Err(PushError::Memory) => Err(ServiceError::Memory),
         Err(PushError::ShortBuf | PushError::CountOverflow) => {
@@ -397,7 +397,7 @@ fn whole_zone(
 ) -> Result<Replies, ServiceError>
     ensures { Makes (transfers.whole_replies request.now limit is_udp zone.now.version) result }
 {
-    match texts::whole_message(alloc, request, limit, zone) {
+    match transfer_message::whole_message(alloc, request, limit, zone) {
         Ok(reply) if is_udp => Ok(Replies::single(alloc, reply)?),
         Ok(reply) => Ok(transaction(alloc, reply)?),
         Err(PushError::Memory) => Err(ServiceError::Memory),

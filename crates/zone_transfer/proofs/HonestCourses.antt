@@ -18,7 +18,7 @@ use Rattle.xfr_model.specs.Read.{request_fault}
 use Rattle.dns_name.specs.NameOrder.{same_name_equiv}
 use Rattle.zone_model.proofs.Valid.{one_soa}
 use Rattle.zone_model.proofs.WholeText.{whole_is, whole_spells}
-use Rattle.xfr_server.specs.Texts.{transfer_header}
+use Rattle.xfr_server.specs.TransferMessage.{transfer_header}
 use Rattle.xfr_server.proofs.Accepted.{whole_is_taken}
 use Rattle.xfr_server.proofs.Answers.{wire_length}
 use Rattle.xfr_course.specs.Outcome.{Outcome, Course}

@@ -20,7 +20,7 @@ use Rattle.zone_model.specs.Offer.{whole_text}
 use Rattle.xfr_model.proofs.ReadingBuilt.{built_is_read}
 use Rattle.zone_model.proofs.Valid.{one_soa}
 use Rattle.zone_model.proofs.WholeText.{middle_of, soa_of, whole_is}
-use Rattle.xfr_server.specs.Texts.{transfer_header}
+use Rattle.xfr_server.specs.TransferMessage.{transfer_header}
 use Rattle.xfr_server.proofs.Accepted.{transfer_is_message}
 use Rattle.xfr_server.proofs.Answers.{wire_length}
 use Rattle.xfr_course.specs.Courses.{has_header}

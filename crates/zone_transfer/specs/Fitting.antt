@@ -12,7 +12,7 @@ use Rattle.zone_model.specs.TransferText.{Axfr}
 use Rattle.xfr_model.specs.Messages.{HaveData}
 use Rattle.zone_model.specs.TransferLaws.{IsPublished}
 use Rattle.zone_model.specs.Offer.{whole_text}
-use Rattle.xfr_server.specs.Texts.{transfer_message}
+use Rattle.xfr_server.specs.TransferMessage.{transfer_message}
 use Rattle.xfr_course.specs.Outcome.{Outcome}
 use Rattle.xfr_course.specs.Courses.{has_header}
 use Rattle.xfr_course.specs.Success.{Succeeds}

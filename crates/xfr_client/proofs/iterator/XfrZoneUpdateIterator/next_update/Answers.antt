@@ -4,8 +4,8 @@ use Rattle.dns_rdata.specs.Records.{Record}
 use Rattle.xfr_model.specs.Read.{Good}
 use Rattle.zone_model.specs.TransferText.{Axfr}
 use Rattle.xfr_model.specs.Machine.{step, AtEnd}
-use Rattle.xfr_client.specs.declared.place.Told.{Told}
-use Rattle.xfr_client.specs.declared.place.Told.TheVariants as told
+use Rattle.xfr_client.specs.declared.interpreter_state.Told.{Told}
+use Rattle.xfr_client.specs.declared.interpreter_state.Told.TheVariants as told
 use Rattle.xfr_client.specs.declared.update.ZoneUpdate.{ZoneUpdate}
 use Rattle.xfr_client.specs.declared.protocol.IterationError.TheVariants as error
 use Rattle.xfr_client.specs.Places.{place_of}

@@ -1,7 +1,7 @@
 use Rattle.std.proofs.lemmas.Result.{err_from_is_err_and}
 use Rattle.zone_model.specs.Answer.{apex_soa_record}
 use Rattle.xfr_server.proofs.Adding.{writes_text, refuses_text}
-use Rattle.xfr_server.proofs.texts.soa_message.Goals as goal
+use Rattle.xfr_server.proofs.transfer_message.soa_message.Goals as goal
 
 pub returns-in_err-push_soa : goal.returns-in_err-push_soa
 returns-in_err-push_soa c =

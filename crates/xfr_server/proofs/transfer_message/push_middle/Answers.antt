@@ -1,9 +1,9 @@
 use Rattle.std.proofs.lemmas.Result.{err_from_is_err_and}
 use Rattle.std.specs.Prelude.{flat_map}
 use Rattle.zone_model.specs.Walk.{walk}
-use Rattle.xfr_server.specs.Texts.{stop_records}
+use Rattle.xfr_server.specs.TransferMessage.{stop_records}
 use Rattle.xfr_server.proofs.Loops.{stop_refused, stop_added, stops_done}
-use Rattle.xfr_server.proofs.texts.push_middle.Goals as goal
+use Rattle.xfr_server.proofs.transfer_message.push_middle.Goals as goal
 
 pub loop-stop-preserved : goal.loop-stop-preserved
 loop-stop-preserved c =

@@ -5,7 +5,7 @@ use Rattle.zone_sets.specs.TypedEntries.{untyped}
 use Rattle.zone_versions.proofs.TypedStops.{untyped_typed}
 use Rattle.xfr_server.proofs.Adding.{adds_none, soa_none}
 use Rattle.xfr_server.proofs.Loops.{record_with, no_soa_data, pushed_soa}
-use Rattle.xfr_server.proofs.texts.push_soa.Goals as goal
+use Rattle.xfr_server.proofs.transfer_message.push_soa.Goals as goal
 
 pub returns-in_default : goal.returns-in_default
 returns-in_default c =

@@ -1,8 +1,8 @@
 use Rattle.std.proofs.Common.{◌≡◌}
 use Rattle.std.specs.Prelude.{flat_map}
 use Rattle.zone_model.specs.Walk.{walk}
-use Rattle.xfr_server.specs.Texts.{with_answers, have_room, stop_records}
-use Rattle.xfr_server.proofs.texts.push_middle.Given as goal
+use Rattle.xfr_server.specs.TransferMessage.{with_answers, have_room, stop_records}
+use Rattle.xfr_server.proofs.transfer_message.push_middle.Given as goal
 
 abbrev pub invariant-loop-stop : goal.invariant-loop-stop
 invariant-loop-stop l = record {

@@ -1,7 +1,7 @@
 use Rattle.std.proofs.lemmas.Result.{err_from_is_err_and}
 use Rattle.dns_rdata.specs.ZoneData.{data_fields}
 use Rattle.xfr_server.proofs.Loops.{rest_refused, rest_added, rest_done}
-use Rattle.xfr_server.proofs.texts.push_set.Goals as goal
+use Rattle.xfr_server.proofs.transfer_message.push_set.Goals as goal
 
 pub returns-in_err-push : goal.returns-in_err-push
 returns-in_err-push c =

@@ -1,7 +1,7 @@
 use Rattle.std.proofs.lemmas.Result.{err_from_is_err_and}
 use Rattle.zone_model.specs.Offer.{whole_text}
 use Rattle.xfr_server.proofs.Adding.{writes_text, refuses_text}
-use Rattle.xfr_server.proofs.texts.whole_message.Goals as goal
+use Rattle.xfr_server.proofs.transfer_message.whole_message.Goals as goal
 
 pub returns-in_err-push_text : goal.returns-in_err-push_text
 returns-in_err-push_text c =

@@ -1,8 +1,8 @@
 use Rattle.std.proofs.Common.{◌≡◌, length, map}
 use Rattle.dns_rdata.specs.ZoneData.{data_fields}
 use Rattle.zone_model.specs.Answer.{records_of}
-use Rattle.xfr_server.specs.Texts.{with_answers, have_room}
-use Rattle.xfr_server.proofs.texts.push_set.Given as goal
+use Rattle.xfr_server.specs.TransferMessage.{with_answers, have_room}
+use Rattle.xfr_server.proofs.transfer_message.push_set.Given as goal
 
 abbrev pub invariant-records : goal.invariant-records
 invariant-records l = record {

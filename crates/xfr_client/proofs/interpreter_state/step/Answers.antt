@@ -1,4 +1,4 @@
-use Rattle.xfr_client.proofs.place.step.Goals as goal
+use Rattle.xfr_client.proofs.interpreter_state.step.Goals as goal
 
 pub returns-in-AtSecond-clause-says : goal.returns-in-AtSecond-clause-says
 returns-in-AtSecond-clause-says c mode = rw c.in-AtSecond.is (c.at_second.ensures.says mode)

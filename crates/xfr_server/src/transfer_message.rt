@@ -7,7 +7,7 @@ ghost use Rattle.zone_model.specs.Answer.{apex_soa_record, records_of};
 ghost use Rattle.zone_model.specs.Difference.{zone_serial as serial_of_version};
 ghost use Rattle.zone_model.specs.Offer.{whole_text};
 ghost use Rattle.zone_model.specs.Walk.{walk};
-ghost use Rattle.xfr_server.specs.Texts.{transfer_message, Writes, AddsAnswers, is_soa_stop, stop_records};
+ghost use Rattle.xfr_server.specs.TransferMessage.{transfer_message, Writes, AddsAnswers, is_soa_stop, stop_records};
 
 use crate::replies::start_transfer;
 use crate::set_records::SetRecord;

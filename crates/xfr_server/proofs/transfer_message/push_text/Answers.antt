@@ -1,6 +1,6 @@
 use Rattle.std.proofs.lemmas.Result.{err_from_is_err_and}
 use Rattle.xfr_server.proofs.Adding.{whole_without_first, whole_without_middle, whole_with_all}
-use Rattle.xfr_server.proofs.texts.push_text.Goals as goal
+use Rattle.xfr_server.proofs.transfer_message.push_text.Goals as goal
 
 pub returns-in_err-push_soa : goal.returns-in_err-push_soa
 returns-in_err-push_soa c =
