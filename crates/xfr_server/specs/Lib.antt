@@ -2,7 +2,6 @@ pub use Rattle.xfr_services.specs.Requests
 pub use Rattle.xfr_services.specs.Items
 pub use Rattle.xfr_services.specs.Replying
 pub use Rattle.xfr_services.specs.Signing
-pub use Rattle.xfr_services.specs.SignedStreams
 pub use Rattle.xfr_services.specs.SignedServing
 pub mod Offers
 pub mod TransferMessage

@@ -1,4 +1,2 @@
-pub use Rattle.zone_versions.specs.Causes
-pub use Rattle.zone_versions.specs.Puts
 pub mod Pending
 pub mod Nodes
