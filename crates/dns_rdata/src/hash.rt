@@ -70,7 +70,7 @@ pub(crate) fn hash_name<N: Labelled, H: Hasher>(name: &N, state: &mut H)
 }
 
 /// The numbers and the digest as one piece.
-#[tactic(auto, unfolding(rdata_octets::specs::OctetFields::ds_head))]
+#[tactic(auto, unfolding(rdata_types::specs::OctetFields::ds_head))]
 fn hash_digest<O: AsSlice<u8> + Drop, H: Hasher>(digest: &Ds<O>, state: &mut H)
     ensures { state.new ≡ fold H.write state.old (fields_hash (ds_fields digest.now)) }
 {

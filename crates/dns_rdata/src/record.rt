@@ -121,7 +121,7 @@ impl<N: Labelled + Drop, D: RecordData + Drop> Record<N, D> {
         [a, b, c, d, e, f, g, h, i, j]
     }
 
-    #[tactic(auto, using(rdata_octets::proofs::Writing::begins, crate::proofs::Writing::record_parts, std::proofs::lemmas::List::append_assoc))]
+    #[tactic(auto, using(rdata_types::proofs::Writing::begins, crate::proofs::Writing::record_parts, std::proofs::lemmas::List::append_assoc))]
     fn compose_parts(&self, out: &mut Vec<u8>) -> Result<(), AllocError>
         ensures ok { OnOk result (out.new.items ≡ out.old.items ++ record_wire self.now) }
         ensures begins { take (length out.old.items) out.new.items ≡ out.old.items }
@@ -147,7 +147,7 @@ impl<'m> Record<ParsedName<'m>, ParsedRecordData<'m>> {
     }
 
     /// Whether the octets are those of the record as it is sent, without compression.
-    #[tactic(auto, using(rdata_octets::proofs::Fronts::both_fronts, rdata_octets::proofs::Fronts::wrong_second, rdata_octets::proofs::Fronts::wrong_front, crate::proofs::Writing::record_regrouped))]
+    #[tactic(auto, using(rdata_types::proofs::Fronts::both_fronts, rdata_types::proofs::Fronts::wrong_second, rdata_types::proofs::Fronts::wrong_front, crate::proofs::Writing::record_regrouped))]
     pub fn is_spelled(&self, octets: &[u8]) -> bool
         ensures { result ≡ bytes_eq (record_wire self.now) octets.now }
     {

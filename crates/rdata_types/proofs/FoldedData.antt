@@ -5,8 +5,8 @@ use Rattle.std.specs.Cmp.Lexicographic.{bytes_decides}
 use Rattle.std.proofs.lemmas.Bool.{and_parts}
 use Rattle.dns_name.specs.Names.{Name, fold}
 use Rattle.dns_name.proofs.FoldedLabels.{equal_names}
-use Rattle.rdata_octets.specs.Records.{Field, fold_field, same_field, same_data}
-use Rattle.rdata_octets.specs.Records.Field.{Octets, DomainName}
+use Rattle.rdata_types.specs.Records.{Field, fold_field, same_field, same_data}
+use Rattle.rdata_types.specs.Records.Field.{Octets, DomainName}
 
 same_octets : (a b : List ℕ) → Octets a ≡ Octets b → a ≡ b
 same_octets a b e = cc e

@@ -1,7 +1,8 @@
-pub use Rattle.rdata_octets.proofs.Fronts
-pub use Rattle.rdata_octets.proofs.Writing
-pub use Rattle.rdata_octets.proofs.Strings
-pub use Rattle.rdata_octets.proofs.Comparing
+pub mod Fronts
+pub mod Writing
+pub mod Strings
+pub mod Texts
+pub mod Comparing
 pub mod Numbers
 pub mod FoldedData
 pub mod ReadData

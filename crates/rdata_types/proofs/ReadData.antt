@@ -8,9 +8,9 @@ use Rattle.dns_name.specs.Octets.{◌>>=◌, octets_at}
 use Rattle.dns_name.specs.Compression.{name_at}
 use Rattle.dns_name.proofs.NameReading.{bound, guarded}
 use Rattle.dns_name.proofs.NameBounds.{read_is_name}
-use Rattle.rdata_octets.specs.Records.{Field, Part, part_allows, rest_at, field_at, fields_at, are_strings}
-use Rattle.rdata_octets.specs.Records.Field.{Octets, DomainName}
-use Rattle.rdata_octets.specs.Records.Part.{Exactly, AtLeast, Strings, Named}
+use Rattle.rdata_types.specs.Records.{Field, Part, part_allows, rest_at, field_at, fields_at, are_strings}
+use Rattle.rdata_types.specs.Records.Field.{Octets, DomainName}
+use Rattle.rdata_types.specs.Records.Part.{Exactly, AtLeast, Strings, Named}
 
 inside : {A : Type 0} (x y : A) → Some x ≡ Some y → x ≡ y
 inside x y e = ap (λ r. unwrap_or r x) e

@@ -6,8 +6,8 @@ use Rattle.std.specs.declared.cmp.Ordering.{Ordering}
 use Rattle.std.specs.declared.cmp.Ordering.TheVariants.{Less, Greater}
 use Rattle.std.specs.Cmp.Lexicographic.{slice_cmp}
 use Rattle.dns_name.specs.Names.{canonical_cmp}
-use Rattle.rdata_octets.specs.Records.{Field}
-use Rattle.rdata_octets.specs.Records.Field.{Octets, DomainName}
+use Rattle.rdata_types.specs.Records.{Field}
+use Rattle.rdata_types.specs.Records.Field.{Octets, DomainName}
 
 abbrev pub field_cmp : Field → Field → Ordering
 field_cmp (Octets a) (Octets b) = slice_cmp nat_cmp a b

@@ -5,8 +5,8 @@ use Rattle.std.specs.Ordering.{eq_by_cmp, ordering_reverse, is_eq, is_lt}
 use Rattle.std.specs.Cmp.{IsTotalOrder}
 use Rattle.std.specs.Cmp.Lexicographic.{lists_total, lists_ties, texts_ties, nat_list_cmp_total}
 use Rattle.dns_name.specs.NameOrder.{canonical_total, canonical_ties}
-use Rattle.rdata_octets.specs.Records.{Field, same_field, same_data}
-use Rattle.rdata_octets.specs.Records.Field.{Octets, DomainName}
+use Rattle.rdata_types.specs.Records.{Field, same_field, same_data}
+use Rattle.rdata_types.specs.Records.Field.{Octets, DomainName}
 use Rattle.rdata_types.specs.DataOrder.{field_cmp, data_cmp}
 
 field_turned : (f g : Field) → field_cmp f g ≡ ordering_reverse (field_cmp g f)

@@ -3,9 +3,10 @@ pub use Rattle.dns_name.specs.Codes
 pub use Rattle.dns_name.specs.Names
 pub use Rattle.dns_name.specs.Compression
 pub use Rattle.dns_name.specs.Serial
-pub use Rattle.rdata_octets.specs.Records
-pub use Rattle.rdata_octets.specs.DataValues
-pub use Rattle.rdata_octets.specs.OctetFields
+pub mod Records
+pub mod DataValues
+pub mod Texts
+pub mod OctetFields
 pub mod Soa
 pub mod DataFields
 pub mod SameData

@@ -4,8 +4,8 @@ use Rattle.std.proofs.Common.{sym, true≢false}
 use Rattle.std.specs.Cmp.{IsEquivalence}
 use Rattle.std.specs.Cmp.Lexicographic.{lists_equiv, nat_list_eq_equiv}
 use Rattle.dns_name.specs.NameOrder.{same_name_equiv}
-use Rattle.rdata_octets.specs.Records.{Field, same_field, same_data}
-use Rattle.rdata_octets.specs.Records.Field.{Octets, DomainName}
+use Rattle.rdata_types.specs.Records.{Field, same_field, same_data}
+use Rattle.rdata_types.specs.Records.Field.{Octets, DomainName}
 
 field_itself : (f : Field) → same_field f f ≡ true
 field_itself (Octets a) = nat_list_eq_equiv.refl a

@@ -2,8 +2,8 @@
 ghost use Rattle.std.specs.Prelude.{◌≡◌, ◌∷◌, [], codes, true, false};
 ghost use Rattle.std.specs.declared.cmp.Ordering.TheVariants.{Less, Equal, Greater};
 ghost use Rattle.dns_name.specs.Names.{Name};
-ghost use Rattle.rdata_octets.specs.Records.{data_wire};
-ghost use Rattle.rdata_octets.specs.Records.Field.{Octets, DomainName};
+ghost use Rattle.rdata_types.specs.Records.{data_wire};
+ghost use Rattle.rdata_types.specs.Records.Field.{Octets, DomainName};
 ghost use Rattle.rdata_types.specs.DataFields.{name_fields, minfo_fields, mx_fields, srv_fields, soa_fields};
 ghost use Rattle.rdata_types.specs.DataOrder.{data_cmp};
 

@@ -1,11 +1,12 @@
 // Where mail goes.
 ghost use Rattle.std.specs.Prelude.{◌≡◌, ◌≤◌, ◌+◌, ◌++◌, IfOk, OnOk, OnErr, Some, None, length, take};
 ghost use Rattle.std.specs.Str.{bytes_eq};
-ghost use Rattle.rdata_octets.specs.Records.{data_wire, fields_at, parts, same_data};
+ghost use Rattle.rdata_types.specs.Records.{data_wire, fields_at, parts, same_data};
 ghost use Rattle.rdata_types.specs.DataFields.{minfo_fields, mx_fields};
 
+use crate::fields::{RecordData, ends_at};
+use crate::spelling::{after_front, after_name};
 use dns_name::{Labelled, ParseError, ParsedName, Rtype, StoredName, ToName, parse_u16};
-use rdata_octets::{RecordData, after_front, after_name, ends_at};
 use std::alloc::{AllocError, Global};
 
 /// The mailboxes of a mailing list or mailbox (MINFO; RFC 1035, 3.3.7).
@@ -48,7 +49,7 @@ impl<N: Labelled + Drop> Minfo<N> {
     }
 
     /// Whether the octets are those of the data as they are sent, without compression.
-    #[tactic(auto, using(rdata_octets::proofs::Fronts::one_front, rdata_octets::proofs::Fronts::wrong_front))]
+    #[tactic(auto, using(crate::proofs::Fronts::one_front, crate::proofs::Fronts::wrong_front))]
     pub fn is_spelled(&self, octets: &[u8]) -> bool
         ensures { result ≡ bytes_eq (data_wire (minfo_fields N.labels self.now)) octets.now }
     {
@@ -58,7 +59,7 @@ impl<N: Labelled + Drop> Minfo<N> {
         self.emailbx.to_key_name().as_slice() == rest
     }
 
-    #[tactic(auto, using(rdata_octets::proofs::Writing::begins, std::proofs::lemmas::List::append_assoc))]
+    #[tactic(auto, using(crate::proofs::Writing::begins, std::proofs::lemmas::List::append_assoc))]
     fn compose_parts(&self, out: &mut Vec<u8>) -> Result<(), AllocError>
         ensures ok { OnOk result (out.new.items ≡ out.old.items ++ data_wire (minfo_fields N.labels self.now)) }
         ensures begins { take (length out.old.items) out.new.items ≡ out.old.items }
@@ -80,7 +81,7 @@ impl<N: ToName + Drop> Minfo<N> {
 
 impl<'m> Minfo<ParsedName<'m>> {
     /// The two names in the `len` octets at place `pos` of a message, which they fill exactly; else an error.
-    #[tactic(auto, unfolding(rdata_octets::specs::Records::fields_at))]
+    #[tactic(auto, unfolding(crate::specs::Records::fields_at))]
     pub fn parse(
         message: &'m [u8],
         pos: usize,
@@ -164,7 +165,7 @@ impl<N: Labelled + Drop> Mx<N> {
     }
 
     /// Whether the octets are those of the data as they are sent, without compression.
-    #[tactic(auto, using(rdata_octets::proofs::Fronts::one_front, rdata_octets::proofs::Fronts::wrong_front))]
+    #[tactic(auto, using(crate::proofs::Fronts::one_front, crate::proofs::Fronts::wrong_front))]
     pub fn is_spelled(&self, octets: &[u8]) -> bool
         ensures { result ≡ bytes_eq (data_wire (mx_fields N.labels self.now)) octets.now }
     {
@@ -174,7 +175,7 @@ impl<N: Labelled + Drop> Mx<N> {
         self.exchange.to_key_name().as_slice() == rest
     }
 
-    #[tactic(auto, using(rdata_octets::proofs::Writing::begins, std::proofs::lemmas::List::append_assoc))]
+    #[tactic(auto, using(crate::proofs::Writing::begins, std::proofs::lemmas::List::append_assoc))]
     fn compose_parts(&self, out: &mut Vec<u8>) -> Result<(), AllocError>
         ensures ok { OnOk result (out.new.items ≡ out.old.items ++ data_wire (mx_fields N.labels self.now)) }
         ensures begins { take (length out.old.items) out.new.items ≡ out.old.items }
@@ -197,7 +198,7 @@ impl<N: ToName + Drop> Mx<N> {
 
 impl<'m> Mx<ParsedName<'m>> {
     /// The preference and the name in the `len` octets at place `pos` of a message, which they fill exactly; else an error.
-    #[tactic(auto, unfolding(rdata_octets::specs::Records::fields_at))]
+    #[tactic(auto, unfolding(crate::specs::Records::fields_at))]
     pub fn parse(message: &'m [u8], pos: usize, len: u16) -> Result<Mx<ParsedName<'m>>, ParseError>
         ensures found { IfOk result (λ d. fields_at (parts 15) message.now (pos + len) pos ≡ Some (mx_fields (λ n. n) d)) }
         ensures none { OnErr result (fields_at (parts 15) message.now (pos + len) pos ≡ None) }

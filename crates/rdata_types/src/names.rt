@@ -1,14 +1,14 @@
 // Data that are one domain name.
 ghost use Rattle.std.specs.Prelude.{◌≡◌, ◌+◌, IfOk, OnErr, Some, None};
 ghost use Rattle.std.specs.Str.{bytes_eq};
-ghost use Rattle.rdata_octets.specs.Records.{data_wire, fields_at, parts, same_data};
+ghost use Rattle.rdata_types.specs.Records.{data_wire, fields_at, parts, same_data};
 ghost use Rattle.rdata_types.specs.DataFields.{name_fields};
 
+use crate::fields::{RecordData, ends_at};
 use crate::name_types::{
     CnameType, MbType, MdType, MfType, MgType, MrType, NameType, NsType, PtrType,
 };
 use dns_name::{Labelled, ParseError, ParsedName, Rtype, StoredName, ToName};
-use rdata_octets::{RecordData, ends_at};
 use std::alloc::{AllocError, Global};
 use std::marker::{Model, PhantomData};
 
@@ -169,7 +169,7 @@ impl<N: ToName + Drop, T: NameType> NameData<N, T> {
 
 impl<'m, T: NameType> NameData<ParsedName<'m>, T> {
     /// The name in the `len` octets at place `pos` of a message, which it fills exactly; else an error.
-    #[tactic(auto, unfolding(rdata_octets::specs::Records::fields_at))]
+    #[tactic(auto, unfolding(crate::specs::Records::fields_at))]
     pub fn parse(
         message: &'m [u8],
         pos: usize,

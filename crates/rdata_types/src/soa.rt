@@ -2,14 +2,15 @@
 ghost use Rattle.std.specs.Prelude.{◌≡◌, ◌≤◌, ◌+◌, ◌++◌, IfOk, OnOk, OnErr, Some, None, length, take, slice_range};
 ghost use Rattle.std.specs.Str.{bytes_eq};
 ghost use Rattle.dns_name.specs.Octets.{u32_octets};
-ghost use Rattle.rdata_octets.specs.Records.{data_wire, fields_at, parts, same_data};
+ghost use Rattle.rdata_types.specs.Records.{data_wire, fields_at, parts, same_data};
 ghost use Rattle.rdata_types.specs.Soa.{serial_of};
 ghost use Rattle.rdata_types.specs.DataFields.{soa_fields, soa_times};
 
+use crate::fields::{RecordData, ends_at};
+use crate::spelling::after_name;
 use dns_name::{
     Labelled, ParseError, ParsedName, Rtype, Serial, StoredName, ToName, Ttl, parse_octets,
 };
-use rdata_octets::{RecordData, after_name, ends_at};
 use std::alloc::{AllocError, Global};
 
 /// The start of a zone of authority (SOA; RFC 1035, 3.3.13). The times are seconds.
@@ -132,7 +133,7 @@ impl<N: Labelled + Drop> Soa<N> {
         [a, b, c, d, e, f, g, h, i, j, k, l, m, n, o, p, q, r, s, t]
     }
 
-    #[tactic(auto, using(rdata_octets::proofs::Writing::begins, std::proofs::lemmas::List::append_assoc))]
+    #[tactic(auto, using(crate::proofs::Writing::begins, std::proofs::lemmas::List::append_assoc))]
     fn compose_parts(&self, out: &mut Vec<u8>) -> Result<(), AllocError>
         ensures ok { OnOk result (out.new.items ≡ out.old.items ++ data_wire (soa_fields N.labels self.now)) }
         ensures begins { take (length out.old.items) out.new.items ≡ out.old.items }
@@ -164,7 +165,7 @@ impl<N: Labelled + Drop> Soa<N> {
 
 impl<N: Labelled + Drop> Soa<N> {
     /// Whether the octets are those of the data as they are sent, without compression.
-    #[tactic(auto, using(rdata_octets::proofs::Fronts::both_fronts, rdata_octets::proofs::Fronts::wrong_second, rdata_octets::proofs::Fronts::wrong_front))]
+    #[tactic(auto, using(crate::proofs::Fronts::both_fronts, crate::proofs::Fronts::wrong_second, crate::proofs::Fronts::wrong_front))]
     pub fn is_spelled(&self, octets: &[u8]) -> bool
         ensures { result ≡ bytes_eq (data_wire (soa_fields N.labels self.now)) octets.now }
     {
@@ -201,7 +202,7 @@ fn number_at(octets: &[u8], at: usize) -> u32
 
 impl<'m> Soa<ParsedName<'m>> {
     /// The SOA data in the `len` octets at place `pos` of a message, which they fill exactly; else an error.
-    #[tactic(auto, unfolding(rdata_octets::specs::Records::fields_at))]
+    #[tactic(auto, unfolding(crate::specs::Records::fields_at))]
     pub fn parse(message: &'m [u8], pos: usize, len: u16) -> Result<Soa<ParsedName<'m>>, ParseError>
         ensures found { IfOk result (λ soa. fields_at (parts 6) message.now (pos + len) pos ≡ Some (soa_fields (λ n. n) soa)) }
         ensures none { OnErr result (fields_at (parts 6) message.now (pos + len) pos ≡ None) }

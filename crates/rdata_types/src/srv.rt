@@ -1,11 +1,12 @@
 // Where a service is.
 ghost use Rattle.std.specs.Prelude.{◌≡◌, ◌≤◌, ◌+◌, ◌++◌, IfOk, OnOk, OnErr, Some, None, length, take};
 ghost use Rattle.std.specs.Str.{bytes_eq};
-ghost use Rattle.rdata_octets.specs.Records.{data_wire, fields_at, parts, same_data};
+ghost use Rattle.rdata_types.specs.Records.{data_wire, fields_at, parts, same_data};
 ghost use Rattle.rdata_types.specs.DataFields.{srv_fields, srv_numbers};
 
+use crate::fields::{RecordData, ends_at};
+use crate::spelling::after_front;
 use dns_name::{Labelled, ParseError, ParsedName, Rtype, StoredName, ToName, parse_octets};
-use rdata_octets::{RecordData, after_front, ends_at};
 use std::alloc::{AllocError, Global};
 
 /// A host and port that offer a service (SRV; RFC 2782).
@@ -98,7 +99,7 @@ impl<N: Labelled + Drop> Srv<N> {
     }
 
     /// Whether the octets are those of the data as they are sent, without compression.
-    #[tactic(auto, using(rdata_octets::proofs::Fronts::one_front, rdata_octets::proofs::Fronts::wrong_front))]
+    #[tactic(auto, using(crate::proofs::Fronts::one_front, crate::proofs::Fronts::wrong_front))]
     pub fn is_spelled(&self, octets: &[u8]) -> bool
         ensures { result ≡ bytes_eq (data_wire (srv_fields N.labels self.now)) octets.now }
     {
@@ -108,7 +109,7 @@ impl<N: Labelled + Drop> Srv<N> {
         self.target.to_key_name().as_slice() == rest
     }
 
-    #[tactic(auto, using(rdata_octets::proofs::Writing::begins, std::proofs::lemmas::List::append_assoc))]
+    #[tactic(auto, using(crate::proofs::Writing::begins, std::proofs::lemmas::List::append_assoc))]
     fn compose_parts(&self, out: &mut Vec<u8>) -> Result<(), AllocError>
         ensures ok { OnOk result (out.new.items ≡ out.old.items ++ data_wire (srv_fields N.labels self.now)) }
         ensures begins { take (length out.old.items) out.new.items ≡ out.old.items }
@@ -130,7 +131,7 @@ impl<N: ToName + Drop> Srv<N> {
 
 impl<'m> Srv<ParsedName<'m>> {
     /// The numbers and the name in the `len` octets at place `pos` of a message, which they fill exactly; else an error.
-    #[tactic(auto, unfolding(rdata_octets::specs::Records::fields_at))]
+    #[tactic(auto, unfolding(crate::specs::Records::fields_at))]
     pub fn parse(message: &'m [u8], pos: usize, len: u16) -> Result<Srv<ParsedName<'m>>, ParseError>
         ensures found { IfOk result (λ d. fields_at (parts 33) message.now (pos + len) pos ≡ Some (srv_fields (λ n. n) d)) }
         ensures none { OnErr result (fields_at (parts 33) message.now (pos + len) pos ≡ None) }

@@ -1,7 +1,7 @@
 use Rattle.std.proofs.Common.{◌++◌, [], sym, ap, ◌∙◌}
 use Rattle.dns_name.specs.Octets.{u16_octets}
 use Rattle.dns_name.specs.Names.{name_wire}
-use Rattle.rdata_octets.proofs.Fronts.{wrong_front}
+use Rattle.rdata_types.proofs.Fronts.{wrong_front}
 use Rattle.rdata_types.proofs.mail.Mx.is_spelled.Goals as goal
 
 pub returns-in_default : goal.returns-in_default

@@ -2,7 +2,7 @@ use Rattle.std.proofs.Common.{[], ◌++◌, sym, ap, ◌∙◌, bytes_eq}
 use Rattle.std.proofs.lemmas.List.{append-nil}
 use Rattle.dns_name.specs.Names.{name_wire}
 use Rattle.rdata_types.specs.DataFields.{soa_times}
-use Rattle.rdata_octets.proofs.Fronts.{both_fronts}
+use Rattle.rdata_types.proofs.Fronts.{both_fronts}
 use Rattle.rdata_types.proofs.soa.Soa.is_spelled.Goals as goal
 
 pub returns : goal.returns

@@ -1,7 +1,7 @@
 use Rattle.std.proofs.Common.{◌++◌, sym, ap, ◌∙◌, bytes_eq}
 use Rattle.dns_name.specs.Names.{name_wire}
 use Rattle.rdata_types.specs.DataFields.{srv_numbers}
-use Rattle.rdata_octets.proofs.Fronts.{front_and_last}
+use Rattle.rdata_types.proofs.Fronts.{front_and_last}
 use Rattle.rdata_types.proofs.srv.Srv.is_spelled.Goals as goal
 
 pub returns : goal.returns

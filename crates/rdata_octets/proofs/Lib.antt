@@ -1,5 +1,0 @@
-pub mod Fronts
-pub mod Writing
-pub mod Strings
-pub mod Texts
-pub mod Comparing
