@@ -2,12 +2,10 @@
 
 use std::alloc::Global;
 use std::process::Abort;
-use zone_sync::program::{Status, run};
-use zone_sync::sinks::{MemorySink, Sink, StdSink, write_all};
-use zone_sync::sources::{MemorySource, Source, StdSource};
-use zone_transfer::links::Link;
-use zone_transfer::loop_link::LoopLink;
-use zone_transfer::memory_link::MemoryLink;
+use zone_sync::{
+    Link, LoopLink, MemoryLink, MemorySink, MemorySource, Sink, Source, Status, StdSink, StdSource,
+    run, write_all,
+};
 
 /// A script of a small zone: an SOA of serial 1, an NS record, and two addresses; without an `at` line the moments are 0.
 const SCRIPT: &[u8] = b"zone 076578616d706c6500 1\n\

@@ -17,10 +17,7 @@ use xfr_server::{
     CallResult, Replies, Request, Service, ServiceError, ServiceFeedback, TsigMiddlewareSvc,
 };
 use zone_sessions::{ReadZone, WalkItem, WriteZone};
-use zone_transfer::client::XfrMode;
-use zone_transfer::memory_link::MemoryLink;
-use zone_transfer::outcome::{SyncError, SyncOk};
-use zone_transfer::sync::{Moments, sync_zone};
+use zone_sync::{MemoryLink, Moments, SyncError, SyncOk, XfrMode, sync_zone};
 
 /// Words, and the octets that they stand for: the question for the whole of `example.`, none, and those of another name, type and class;
 /// the numbers of versions, as they stand before their records; the zone's SOA records with serials 1 and 2, both names the root; the

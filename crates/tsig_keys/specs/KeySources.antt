@@ -1,7 +1,7 @@
 -- Sources of the octets of new keys, and why no key is made of them.
 use Rattle.std.specs.Prelude.{◌≡◌, ℕ, List, [], Result, Err, IsOk}
-use Rattle.outside_calls.specs.Calls.{Calls}
-pub use Rattle.outside_calls.specs.Calls.{Rose}
+use Rattle.zone_devices.specs.Calls.{Calls}
+pub use Rattle.zone_devices.specs.Calls.{Rose}
 use Rattle.tsig_keys.specs.TsigKeys.{TsigKey}
 use Rattle.tsig_keys.specs.declared.errors.NewKeyError.{NewKeyError}
 use Rattle.tsig_keys.specs.declared.errors.NewKeyError.TheVariants as lengths

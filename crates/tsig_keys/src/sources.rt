@@ -1,12 +1,12 @@
 // Where the octets of new keys come from.
 ghost use Rattle.std.specs.Prelude.{◌≡◌, ◌≤◌, ◌++◌, ◌↔◌, [], false, length, IsOk, OnOk, OnErr};
-ghost use Rattle.outside_calls.specs.Calls.{no_calls, fails_next, after_call, after_fault};
+ghost use Rattle.zone_devices.specs.Calls.{no_calls, fails_next, after_call, after_fault};
 ghost use Rattle.tsig_keys.specs.KeySources.{Rose};
 
 use crate::errors::FillError;
-use outside_calls::failures::Failures;
 use rand_core::Rng;
 use std::marker::Model;
+use zone_devices::failures::Failures;
 
 /// A stream of octets that keys are made of.
 pub trait KeySource {

@@ -3,15 +3,15 @@ use Rattle.std.specs.Prelude.{◌≡◌, ◌≢◌, ℕ, List, [], ◌++◌, tak
 use Rattle.std.proofs.Common.{refl, sym, ap, ◌∙◌, subst, append-nil}
 use Rattle.dns_name.specs.Names.{Name}
 use Rattle.tsig_port.specs.Tsig.{TsigKey}
-use Rattle.zone_transfer.specs.Links.{LinkLists}
-use Rattle.zone_transfer.specs.SoFar.{Asking}
+use Rattle.zone_devices.specs.Links.{LinkLists}
+use Rattle.zone_sync.specs.SoFar.{Asking}
 use Rattle.zone_script.specs.Script as scripts
 use Rattle.zone_script.specs.Script.{script_of}
 use Rattle.zone_script.specs.ScriptReaders.{readers_so_far}
 use Rattle.zone_script.specs.Keeping.{Gives}
 use Rattle.zone_script.specs.declared.script.Script.{Script}
 use Rattle.zone_sync.specs.Notices.{bad_line, is_reported}
-use Rattle.zone_sync.specs.Streams.{with_more}
+use Rattle.zone_devices.specs.Streams.{with_more}
 use Rattle.xfr_server.specs.Items.{Sending}
 use Rattle.zone_model.specs.Commits.{Commit}
 use Rattle.zone_model.specs.Offer.{Provider}

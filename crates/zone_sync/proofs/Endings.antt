@@ -10,13 +10,13 @@ use Rattle.zone_model.specs.Offer.{Provider, is_granted}
 use Rattle.zone_model.proofs.Folded.{same_name-Decides}
 use Rattle.xfr_server.specs.Items.{Sending}
 use Rattle.xfr_server.specs.Offers.{key_id}
-use Rattle.zone_transfer.specs.Links.{LinkLists}
-use Rattle.zone_transfer.specs.SoFar.{Asking, asked_octets}
-use Rattle.zone_transfer.specs.Fitting.{Fits}
-use Rattle.zone_transfer.specs.Delivery.{WasHonest, IsGranted, Delivers}
-use Rattle.zone_transfer.specs.declared.outcome.SyncOk.{SyncOk}
-use Rattle.zone_transfer.specs.declared.outcome.SyncError.{SyncError}
-use Rattle.zone_transfer.specs.declared.outcome.SyncError.TheVariants as why
+use Rattle.zone_devices.specs.Links.{LinkLists}
+use Rattle.zone_sync.specs.SoFar.{Asking, asked_octets}
+use Rattle.zone_sync.specs.Fitting.{Fits}
+use Rattle.zone_sync.specs.Delivery.{WasHonest, IsGranted, Delivers}
+use Rattle.zone_sync.specs.declared.outcome.SyncOk.{SyncOk}
+use Rattle.zone_sync.specs.declared.outcome.SyncError.{SyncError}
+use Rattle.zone_sync.specs.declared.outcome.SyncError.TheVariants as why
 use Rattle.zone_script.specs.Script as scripts
 use Rattle.zone_script.specs.Script.{script_of}
 use Rattle.zone_script.specs.ScriptReaders.{readers_so_far}

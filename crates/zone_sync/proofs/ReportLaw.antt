@@ -7,15 +7,15 @@ use Rattle.tsig_port.specs.Tsig.{TsigKey}
 use Rattle.zone_model.specs.Commits.{Commit}
 use Rattle.zone_model.specs.Session.{Session}
 use Rattle.xfr_course.specs.Outcome.{Outcome}
-use Rattle.zone_transfer.specs.Links.{LinkLists}
-use Rattle.zone_transfer.specs.SoFar.{Asking, asks_with}
-use Rattle.zone_transfer.specs.Ending.{outcome_of}
-use Rattle.zone_transfer.specs.Delivery.{Synchronizes}
+use Rattle.zone_devices.specs.Links.{LinkLists}
+use Rattle.zone_sync.specs.SoFar.{Asking, asks_with}
+use Rattle.zone_sync.specs.Ending.{outcome_of}
+use Rattle.zone_sync.specs.Delivery.{Synchronizes}
 use Rattle.xfr_server.specs.Items.{Sending}
 use Rattle.zone_model.specs.TransferText.{Axfr}
-use Rattle.zone_transfer.specs.declared.outcome.SyncOk.{SyncOk}
-use Rattle.zone_transfer.specs.declared.outcome.SyncError.{SyncError}
-use Rattle.zone_transfer.specs.declared.outcome.SyncError.TheVariants as why
+use Rattle.zone_sync.specs.declared.outcome.SyncOk.{SyncOk}
+use Rattle.zone_sync.specs.declared.outcome.SyncError.{SyncError}
+use Rattle.zone_sync.specs.declared.outcome.SyncError.TheVariants as why
 use Rattle.zone_sync.specs.Report.{report}
 use Rattle.zone_sync.specs.Notices.{is_reported}
 use Rattle.zone_sync.specs.Reported.{Reports, status_by, asking_with}

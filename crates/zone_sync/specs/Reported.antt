@@ -7,24 +7,24 @@ use Rattle.zone_model.specs.Commits.{Commit}
 use Rattle.zone_model.specs.Session.{Session}
 use Rattle.zone_model.specs.TransferText.{Axfr}
 use Rattle.xfr_course.specs.Outcome.{Outcome}
-use Rattle.zone_transfer.specs.Links.{LinkLists}
-use Rattle.zone_transfer.specs.SoFar.{Asking, asked_octets}
-use Rattle.zone_transfer.specs.Ending.{outcome_of}
-use Rattle.zone_transfer.specs.Fitting.{Fits}
-use Rattle.zone_transfer.specs.Delivery.{Synchronizes}
+use Rattle.zone_devices.specs.Links.{LinkLists}
+use Rattle.zone_sync.specs.SoFar.{Asking, asked_octets}
+use Rattle.zone_sync.specs.Ending.{outcome_of}
+use Rattle.zone_sync.specs.Fitting.{Fits}
+use Rattle.zone_sync.specs.Delivery.{Synchronizes}
 use Rattle.xfr_server.specs.Items.{Sending}
 use Rattle.xfr_server.specs.Offers.{key_id}
 use Rattle.zone_model.specs.Offer.{Provider}
 use Rattle.zone_model.specs.Version.{Version}
 use Rattle.zone_model.specs.Edits.{close}
 use Rattle.zone_model.specs.Classify.{opened}
-use Rattle.zone_transfer.specs.declared.outcome.SyncOk.{SyncOk}
-use Rattle.zone_transfer.specs.declared.outcome.SyncError.{SyncError}
-use Rattle.zone_transfer.specs.declared.outcome.SyncError.TheVariants as why
+use Rattle.zone_sync.specs.declared.outcome.SyncOk.{SyncOk}
+use Rattle.zone_sync.specs.declared.outcome.SyncError.{SyncError}
+use Rattle.zone_sync.specs.declared.outcome.SyncError.TheVariants as why
 use Rattle.zone_script.specs.Script.{Script, script_of, secondary_version}
 use Rattle.zone_script.specs.ScriptReaders.{readers_so_far}
 use Rattle.zone_sync.specs.Report.{report}
-use Rattle.zone_sync.specs.Streams.{with_more}
+use Rattle.zone_devices.specs.Streams.{with_more}
 use Rattle.zone_sync.specs.Notices.{usage_line, fault_line, long_line, bad_line}
 use Rattle.zone_sync.specs.declared.program.Status.{Status}
 use Rattle.zone_sync.specs.declared.program.Status.TheVariants as ends

@@ -1,12 +1,12 @@
 //! The first line of a report: how the transfer ended.
 ghost use Rattle.std.specs.Prelude.{◌≡◌, ◌++◌, ◌∷◌, [], codes, decimal, ℕ, OnOk, IsSomeAnd};
 ghost use Rattle.zone_sync.specs.Report.{line, outcome_words, signature_words};
-ghost use Rattle.zone_transfer.specs.Ending.{outcome_of, refusal_outcome, message_outcome, item_outcome, update_outcome};
+ghost use Rattle.zone_sync.specs.Ending.{outcome_of, refusal_outcome, message_outcome, item_outcome, update_outcome};
 
+use crate::outcome::{SyncError, SyncOk};
 use std::alloc::{AllocError, Global};
 use tsig_port::ValidationError;
 use xfr_client::{protocol, update};
-use zone_transfer::outcome::{SyncError, SyncOk};
 
 /// The outcome line at the end of `out`; it has the number of versions made where the transfer brought one. Want of memory isn't
 /// reported.

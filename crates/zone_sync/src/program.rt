@@ -1,12 +1,12 @@
 //! The program over its streams and its link.
 ghost use Rattle.std.specs.Prelude.{◌≡◌, ◌≢◌, ◌⊎◌, ◌<◌, ◌≤◌, ℕ, List, Some, Ok, Err, map, length, take, string_bytes, IfOk, IfSome, IsTrue};
 ghost use Rattle.zone_model.specs.TransferText.{Axfr};
-ghost use Rattle.zone_transfer.specs.Links.{Rose};
-ghost use Rattle.zone_sync.specs.Streams.{with_more, emptied};
+ghost use Rattle.zone_devices.specs.Calls.{Rose};
+ghost use Rattle.zone_devices.specs.Streams.{with_more, emptied};
 ghost use Rattle.zone_sync.specs.Reported.{Reports, FitsLink, provider_of, IsDue, Took, TookFirst, status_by, asking_with};
 ghost use Rattle.zone_sync.specs.Primaries.{refuser};
-ghost use Rattle.zone_transfer.specs.Serving.{request_at};
-ghost use Rattle.zone_transfer.specs.Delivery.{WasHonest};
+ghost use Rattle.zone_sync.specs.Serving.{request_at};
+ghost use Rattle.zone_sync.specs.Delivery.{WasHonest};
 ghost use Rattle.zone_sync.specs.Notices.{bad_line, is_fault, is_reported, is_read, exit_status};
 ghost use Rattle.zone_script.specs.Script as scripts;
 ghost use Rattle.zone_script.specs.Script.{script_of};
@@ -14,24 +14,24 @@ ghost use Rattle.tsig_port.specs.Tsig.{TsigKey};
 ghost use Rattle.zone_script.specs.ScriptReaders.{readers_so_far};
 ghost use Rattle.zone_script.specs.Words.{form_of, Transfer};
 
+use crate::client::XfrMode;
+use crate::laws::history_primaries_grant;
+use crate::outcome::{SyncError, SyncOk};
 use crate::report::report_octets;
-use crate::sinks::{Sink, write_all};
-use crate::sources::Source;
-use crate::whole::{MOST_OCTETS, ReadError, read_whole};
+use crate::sync::{Moments, sync_zone};
 use dns_name::Labelled;
 use std::alloc::{AllocError, Global};
 use tsig_port::Key;
 use xfr_server::{
     HistoryProvider, PrimaryStack, RefuseSvc, Service, TsigMiddlewareSvc, XfrMiddlewareSvc,
 };
+use zone_devices::links::Link;
+use zone_devices::read_to_end::{MOST_OCTETS, ReadError, read_whole};
+use zone_devices::sinks::{Sink, write_all};
+use zone_devices::sources::Source;
 use zone_script::script::{Script, ScriptError, parse};
 use zone_script::words::is_axfr;
 use zone_sessions::ZoneApex;
-use zone_transfer::client::XfrMode;
-use zone_transfer::laws::history_primaries_grant;
-use zone_transfer::links::Link;
-use zone_transfer::outcome::{SyncError, SyncOk};
-use zone_transfer::sync::{Moments, sync_zone};
 
 /// The usage line.
 const USAGE: &[u8] = b"usage: zonesync axfr [K] / ixfr [K] / gen N SEED\n";

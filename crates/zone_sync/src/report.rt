@@ -4,17 +4,17 @@ ghost use Rattle.dns_rdata.specs.Records.{record_wire};
 ghost use Rattle.dns_rdata.specs.ZoneData.{data_fields};
 ghost use Rattle.zone_model.specs.Walk.{walk};
 ghost use Rattle.zone_sync.specs.Report.{stop_lines, report};
-ghost use Rattle.zone_transfer.specs.Ending.{outcome_of};
+ghost use Rattle.zone_sync.specs.Ending.{outcome_of};
 ghost use Rattle.zone_sync.specs.Lines.{set_record, item_line};
 
 use crate::answers::append_answers;
+use crate::outcome::{SyncError, SyncOk};
 use crate::outcome_line::append_outcome;
 use dns_name::{Class, Labelled};
 use dns_rdata::{RecordData, StoredRecordData};
 use std::alloc::{AllocError, Global};
 use zone_script::queries::Query;
 use zone_sessions::{ReadZone, WalkItem};
-use zone_transfer::outcome::{SyncError, SyncOk};
 
 /// The report of a transfer: the outcome line, with the number of versions made where it ended well, and a line `rr F HEX` for
 /// each record of a version, owners in canonical order, types ascending; F is 1 at or below a zone cut. Then what the version answers to the

@@ -4,10 +4,7 @@
 use std::alloc::{AllocError, Global};
 use std::process::ExitCode;
 use std::{env, io};
-use zone_sync::loop_link::LoopLink;
-use zone_sync::program::{Status, run};
-use zone_sync::sinks::StdSink;
-use zone_sync::sources::StdSource;
+use zone_sync::{LoopLink, Status, StdSink, StdSource, run};
 
 /// The program's words, without its name.
 fn words_of(rt: &HostRuntime) -> io::Result<Vec<String>> {

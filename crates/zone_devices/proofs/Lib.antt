@@ -1,0 +1,3 @@
+mod Honesty
+mod QueueSteps
+mod StreamSteps

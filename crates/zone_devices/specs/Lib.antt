@@ -1,0 +1,4 @@
+pub mod Calls
+pub mod Links
+pub mod Queues
+pub mod Streams

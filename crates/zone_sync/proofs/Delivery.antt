@@ -1,0 +1,373 @@
+-- Over an honest link to a granting primary a transfer ends well.
+use Rattle.std.proofs.Common.{◌≡◌, ℕ, ◌+◌, ◌-◌, ◌^◌, ◌<◌, ◌≤◌, Bool, true, false, ◌&&◌, List, [], ◌∷◌, ◌++◌, length, drop, min, append-nil, refl, sym, ap, ◌∙◌, subst, arith, ◌⊎◌, inl, inr, Option, Some, None, Result, Ok, Err}
+use Rattle.std.specs.Prelude.{unwrap_or}
+use Rattle.std.specs.List.{last_or, list_all}
+use Rattle.dns_message.specs.declared.message.ShortMessage.{ShortMessage}
+use Rattle.zone_model.specs.Version.{Version, Same}
+use Rattle.zone_model.specs.Commits.{Commit}
+use Rattle.zone_model.specs.Session.{Session}
+use Rattle.xfr_client.specs.declared.protocol.Error.TheVariants as message
+use Rattle.xfr_client.specs.declared.protocol.IterationError.TheVariants as item
+use Rattle.xfr_client.specs.declared.update.Error.TheVariants as update
+use Rattle.xfr_server.specs.Items.{Sending, Sent, sent_by}
+use Rattle.xfr_server.specs.FullTransfer.{IsSentWhole}
+use Rattle.xfr_services.specs.declared.services.ServiceError.{ServiceError}
+use Rattle.xfr_course.specs.Outcome.{Outcome, Updated, UpToDate, Ended, Course, outcome, made}
+use Rattle.xfr_course.specs.Courses.{has_header}
+use Rattle.xfr_course.specs.Success.{Succeeds}
+use Rattle.zone_devices.specs.Calls.{Rose}
+use Rattle.zone_devices.specs.Links.{Way, LinkLists, HandsOn, IsHonest, WentOn, BothWentOn, LinkWentOn}
+use Rattle.zone_sync.specs.SoFar.{Asking, asked_octets, course_so_far}
+use Rattle.zone_sync.specs.Steps.{commit_after, HasMade}
+use Rattle.zone_sync.specs.Ending.{refusal_outcome, outcome_of}
+use Rattle.zone_sync.specs.Serving.{request_at, SendsAll, SendsUntil, SendsPart, FailsAfter, HasBegun, RepliedTo, NotReplied, IsServed}
+use Rattle.zone_sync.specs.Transfers.{given_up, course_answered, AnswersCourse, Transfers, RequestsEnded, RepliesEnded, IsEnded, HasShort, ComesBefore, SyncSays}
+use Rattle.zone_sync.specs.Fitting.{sent_whole}
+use Rattle.zone_sync.specs.Delivery.{IsGranted, WasHonest, Delivers}
+use Rattle.zone_sync.specs.declared.outcome.SyncOk.{SyncOk}
+use Rattle.zone_sync.specs.declared.outcome.SyncOk.TheVariants as done
+use Rattle.zone_sync.specs.declared.outcome.SyncError.{SyncError}
+use Rattle.zone_sync.specs.declared.outcome.SyncError.TheVariants as why
+use Rattle.zone_sync.proofs.Exchanges.{none_done}
+use Rattle.zone_sync.proofs.HonestRequests.{request_has_header}
+use Rattle.zone_sync.proofs.HonestReplies.{reply, sent_is}
+use Rattle.zone_sync.proofs.HonestCourses.{whole_succeeds}
+
+-- ---- outcomes
+
+abbrev is_memory : Result SyncOk SyncError → Bool
+is_memory (Err why.Memory) = true
+is_memory answer = false
+
+answered : (c : Course) (answer : Result SyncOk SyncError) → is_memory answer ≡ false → AnswersCourse c answer → outcome_of answer ≡ Some (outcome c)
+answered c (Ok x) h k = k
+answered c (Err why.NoSoa) h k = k
+answered c (Err (why.Request x)) h k = k
+answered c (Err why.LinkFault) h k = k
+answered c (Err why.Ended) h k = k
+answered c (Err (why.Short x)) h k = k
+answered c (Err (why.Primary x)) h k = k
+answered c (Err why.TooManyMessages) h k = k
+answered c (Err (why.Tsig x)) h k = k
+answered c (Err why.OtherAnswer) h k = k
+answered c (Err (why.Xfr x)) h k = k
+answered c (Err (why.Iteration x)) h k = k
+answered c (Err (why.Update x)) h k = k
+answered c (Err why.VersionsExhausted) h k = k
+answered c (Err why.Memory) h k = absurd (cc h)
+
+-- no refusal is an outcome of success
+abbrev is_good : Option Outcome → Bool
+is_good (Some Updated) = true
+is_good (Some UpToDate) = true
+is_good _ = false
+
+refused_badly : (e : SyncError) → is_good (refusal_outcome e) ≡ false
+refused_badly why.NoSoa = refl
+refused_badly (why.Request x) = refl
+refused_badly why.LinkFault = refl
+refused_badly why.Ended = refl
+refused_badly (why.Short x) = refl
+refused_badly (why.Primary x) = refl
+refused_badly why.TooManyMessages = refl
+refused_badly (why.Tsig x) = refl
+refused_badly why.OtherAnswer = refl
+refused_badly (why.Xfr message.ParseError) = refl
+refused_badly (why.Xfr message.NotValidXfrResponse) = refl
+refused_badly (why.Xfr message.Malformed) = refl
+refused_badly (why.Xfr message.Finished) = refl
+refused_badly (why.Iteration item.ParseError) = refl
+refused_badly (why.Iteration item.AlreadyFinished) = refl
+refused_badly (why.Iteration item.SingleSoaIxfrTcpRetrySignal) = refl
+refused_badly (why.Iteration item.MissingInitialSoa) = refl
+refused_badly (why.Update update.OutOfZone) = refl
+refused_badly (why.Update update.NotSoaRecord) = refl
+refused_badly (why.Update update.IncompatibleUpdate) = refl
+refused_badly (why.Update update.InvalidData) = refl
+refused_badly (why.Update update.VersionsExhausted) = refl
+refused_badly (why.Update update.Finished) = refl
+refused_badly (why.Update update.Memory) = refl
+refused_badly why.VersionsExhausted = refl
+refused_badly why.Memory = refl
+
+good_end : (o : Outcome) → (o ≡ Updated) ⊎ (o ≡ UpToDate) → is_good (Some o) ≡ true
+good_end o (inl h) = ap (λ (x : Outcome). is_good (Some x)) h
+good_end o (inr h) = ap (λ (x : Outcome). is_good (Some x)) h
+
+-- where no reply was taken, the answer is one that comes in its place
+abbrev is_early : Result SyncOk SyncError → Bool
+is_early (Err (why.Request e)) = true
+is_early (Err why.LinkFault) = true
+is_early (Err why.Ended) = true
+is_early (Err (why.Short e)) = true
+is_early (Err (why.Primary e)) = true
+is_early (Err why.Memory) = true
+is_early answer = false
+
+in_place : (answer : Result SyncOk SyncError) → outcome_of answer ≡ Some (given_up answer) → is_early answer ≡ true
+in_place (Ok done.Updated) h = absurd (cc h)
+in_place (Ok done.UpToDate) h = absurd (cc h)
+in_place (Err why.NoSoa) h = absurd (cc h)
+in_place (Err (why.Request x)) h = refl
+in_place (Err why.LinkFault) h = refl
+in_place (Err why.Ended) h = refl
+in_place (Err (why.Short x)) h = refl
+in_place (Err (why.Primary x)) h = refl
+in_place (Err why.TooManyMessages) h = absurd (cc h)
+in_place (Err (why.Tsig x)) h = absurd (cc h)
+in_place (Err why.OtherAnswer) h = absurd (cc h)
+in_place (Err (why.Xfr message.ParseError)) h = absurd (cc h)
+in_place (Err (why.Xfr message.NotValidXfrResponse)) h = absurd (cc h)
+in_place (Err (why.Xfr message.Malformed)) h = absurd (cc h)
+in_place (Err (why.Xfr message.Finished)) h = absurd (cc h)
+in_place (Err (why.Iteration item.ParseError)) h = absurd (cc h)
+in_place (Err (why.Iteration item.AlreadyFinished)) h = absurd (cc h)
+in_place (Err (why.Iteration item.SingleSoaIxfrTcpRetrySignal)) h = absurd (cc h)
+in_place (Err (why.Iteration item.MissingInitialSoa)) h = absurd (cc h)
+in_place (Err (why.Update update.OutOfZone)) h = absurd (cc h)
+in_place (Err (why.Update update.NotSoaRecord)) h = absurd (cc h)
+in_place (Err (why.Update update.IncompatibleUpdate)) h = absurd (cc h)
+in_place (Err (why.Update update.InvalidData)) h = absurd (cc h)
+in_place (Err (why.Update update.VersionsExhausted)) h = absurd (cc h)
+in_place (Err (why.Update update.Finished)) h = absurd (cc h)
+in_place (Err (why.Update update.Memory)) h = absurd (cc h)
+in_place (Err why.VersionsExhausted) h = absurd (cc h)
+in_place (Err why.Memory) h = refl
+
+nothing_came : (a : Asking) (answer : Result SyncOk SyncError) → is_memory answer ≡ false → AnswersCourse (course_answered a [] answer) answer → is_early answer ≡ true
+nothing_came a answer h k = in_place answer (answered (course_answered a [] answer) answer h k ∙ ap Some (none_done a (given_up answer)).outcome)
+
+-- ---- what passed
+
+-- a list in front of a list of one
+one_prefix : {A : Type 0} (x : A) (xs rest : List A) → x ∷ [] ≡ xs ++ rest → (xs ≡ []) ⊎ (xs ≡ x ∷ [])
+one_prefix x [] rest h = inl refl
+one_prefix x (y ∷ []) rest h = inr (ap (λ l. first_or x l ∷ []) (sym h))
+  where
+    first_or : {A : Type 0} → A → List A → A
+    first_or d [] = d
+    first_or d (z ∷ zs) = z
+one_prefix x (y ∷ z ∷ more) rest h = absurd (cc (ap (λ l. has_two l) h))
+  where
+    has_two : {A : Type 0} → List A → Bool
+    has_two [] = false
+    has_two (a ∷ []) = false
+    has_two (a ∷ b ∷ more) = true
+
+no_prefix : {A : Type 0} (xs rest : List A) → [] ≡ xs ++ rest → xs ≡ []
+no_prefix [] rest h = refl
+no_prefix (x ∷ xs) rest h = absurd (cc h)
+
+drop_front : {A : Type 0} (xs ys : List A) → drop (length xs) (xs ++ ys) ≡ ys
+drop_front [] ys = refl
+drop_front (x ∷ xs) ys = drop_front xs ys
+
+since : (old new more : List (List ℕ)) → new ≡ old ++ more → drop (length old) new ≡ more
+since old new more h = ap (λ l. drop (length old) l) h ∙ drop_front old more
+
+-- an honest way handed a first part of what it took, and all of it where it said that no more come
+pub record Handed (w : Way) (taken handed : List (List ℕ)) : Type 0 where
+  pub rest : List (List ℕ)
+  pub part : taken ≡ handed ++ rest
+  pub whole : w.ended ≡ true → handed ≡ taken
+
+hands_on : (old new : Way) (taken handed : List (List ℕ)) → HandsOn old new → WentOn old new taken handed → Handed new taken handed
+hands_on old new taken handed h w = record {
+  rest = h.in_order.0;
+  part = sym (since old.taken new.taken taken w.taken) ∙ h.in_order.1 ∙ ap (λ l. l ++ h.in_order.0) (since old.handed new.handed handed w.handed);
+  whole = λ e. sym (since old.handed new.handed handed w.handed) ∙ h.to_the_end (e) ∙ since old.taken new.taken taken w.taken;
+}
+
+-- ---- what the primary sent
+
+module _ (Sends : List ℕ → Option (List Sending) → Type 0) (a : Asking) (at longest : ℕ) (v : Version) (w : List ℕ) (one : sent_whole a at v ≡ w ∷ []) (grant : IsGranted Sends a at longest v) where
+  same_items : (x y : List Sending) → Some x ≡ Some y → x ≡ y
+  same_items x y h = ap (λ o. unwrap_or o []) h
+
+  sends_one : (items : List Sending) → Sends (asked_octets a) (Some items) → sent_by items ≡ record { messages = w ∷ []; fails = false }
+  sends_one items s =
+      let t = grant.sends (Some items) s in
+      ap sent_by (same_items items t.items t.some) ∙ t.messages ∙ ap (λ (l : List (List ℕ)). one_sent l) one
+    where
+      one_sent : List (List ℕ) → Sent
+      one_sent l = record { messages = l; fails = false }
+
+  sends_all : (sent : List (List ℕ)) → SendsAll (Sends (asked_octets a)) sent → sent ≡ w ∷ []
+  sends_all sent k = ap (λ s. s.messages) (sym k.all ∙ sends_one k.items k.sends)
+
+  has_begun : (sent : List (List ℕ)) → HasBegun (Sends (asked_octets a)) sent → (sent ≡ []) ⊎ (sent ≡ w ∷ [])
+  has_begun sent (inl h) = inl h
+  has_begun sent (inr k) = one_prefix w sent k.rest (ap (λ s. s.messages) (sym (sends_one k.items k.sends)) ∙ k.part)
+
+  never_fails : (sent : List (List ℕ)) → FailsAfter (Sends (asked_octets a)) sent → ⊥
+  never_fails sent (inl h) = let t = grant.sends None h.0 in cc t.some
+  never_fails sent (inr k) = cc (ap (λ s. s.fails) (sym (sends_one k.items k.sends) ∙ k.until))
+
+  was_sent : (sent : List (List ℕ)) (answer : Result SyncOk SyncError) → RepliedTo (Sends (asked_octets a)) sent answer → (sent ≡ []) ⊎ (sent ≡ w ∷ [])
+  was_sent sent (Ok x) k = inr (sends_all sent k)
+  was_sent sent (Err why.NoSoa) k = inr (sends_all sent k)
+  was_sent sent (Err (why.Request x)) k = inr (sends_all sent k)
+  was_sent sent (Err why.LinkFault) k = has_begun sent k
+  was_sent sent (Err why.Ended) k = inr (sends_all sent k)
+  was_sent sent (Err (why.Short x)) k = has_begun sent k
+  was_sent sent (Err (why.Primary x)) k = absurd (never_fails sent k)
+  was_sent sent (Err why.TooManyMessages) k = inr (sends_all sent k)
+  was_sent sent (Err (why.Tsig x)) k = inr (sends_all sent k)
+  was_sent sent (Err why.OtherAnswer) k = inr (sends_all sent k)
+  was_sent sent (Err (why.Xfr x)) k = inr (sends_all sent k)
+  was_sent sent (Err (why.Iteration x)) k = inr (sends_all sent k)
+  was_sent sent (Err (why.Update x)) k = inr (sends_all sent k)
+  was_sent sent (Err why.VersionsExhausted) k = inr (sends_all sent k)
+  was_sent sent (Err why.Memory) k = has_begun sent k
+
+  not_asked : (sent replies : List (List ℕ)) (answer : Result SyncOk SyncError) → NotReplied sent replies answer → replies ≡ []
+  not_asked sent replies (Ok x) k = k.1
+  not_asked sent replies (Err why.NoSoa) k = k.1
+  not_asked sent replies (Err (why.Request x)) k = k.1
+  not_asked sent replies (Err why.LinkFault) k = k.1
+  not_asked sent replies (Err why.Ended) k = k.1
+  not_asked sent replies (Err (why.Short x)) k = k.1
+  not_asked sent replies (Err (why.Primary x)) k = absurd k
+  not_asked sent replies (Err why.TooManyMessages) k = k.1
+  not_asked sent replies (Err (why.Tsig x)) k = k.1
+  not_asked sent replies (Err why.OtherAnswer) k = k.1
+  not_asked sent replies (Err (why.Xfr x)) k = k.1
+  not_asked sent replies (Err (why.Iteration x)) k = k.1
+  not_asked sent replies (Err (why.Update x)) k = k.1
+  not_asked sent replies (Err why.VersionsExhausted) k = k.1
+  not_asked sent replies (Err why.Memory) k = k.1
+
+  -- the replies that came: none, or the whole text
+  came : (heard sent replies : List (List ℕ)) (answer : Result SyncOk SyncError) → (heard ≡ []) ⊎ (heard ≡ asked_octets a ∷ []) → IsServed Sends heard sent replies answer → (rest : List (List ℕ)) → sent ≡ replies ++ rest → (replies ≡ []) ⊎ (replies ≡ w ∷ [])
+  came heard sent replies answer (inl h) s rest p = inl (not_asked sent replies answer (subst (λ (l : List (List ℕ)). IsServed Sends l sent replies answer) h s))
+  came heard sent replies answer (inr h) s rest p = of_sent (was_sent sent answer (subst (λ (l : List (List ℕ)). IsServed Sends l sent replies answer) h s))
+    where
+      of_sent : (sent ≡ []) ⊎ (sent ≡ w ∷ []) → (replies ≡ []) ⊎ (replies ≡ w ∷ [])
+      of_sent (inl e) = inl (no_prefix replies rest (sym e ∙ p))
+      of_sent (inr e) = one_prefix w replies rest (sym e ∙ p)
+
+-- ---- the version that is current then
+
+current_version : (base : Commit) (vs : List Version) → last_or (Some base.version) vs ≡ Some (commit_after base vs).version
+current_version base [] = refl
+current_version base (v ∷ more) = current_version (record { number = base.number + 1; version = v }) more
+
+same_version_as : (u v : Version) → Some u ≡ Some v → u ≡ v
+same_version_as u v h = ap (λ o. unwrap_or o u) h
+
+leaves : (a : Asking) (before handles : List Commit) (s : Session) (vs : List Version) (c : Course) (v : Version) → c.base ≡ a.base.version → vs ≡ made c → HasMade a.base before s handles vs → Succeeds c v → Same s.current.version v
+leaves a before handles s vs c v base is m k =
+    let last = sym (current_version a.base vs) ∙ ap (λ l. last_or (Some a.base.version) l) is ∙ ap (λ b. last_or (Some b) (made c)) (sym base) ∙ k.stands in
+    subst (λ (u : Version). Same u v) (sym (ap (λ x. x.version) m.current ∙ same_version_as (commit_after a.base vs).version k.last last)) k.same
+
+-- ---- the answer
+
+base_of : (a : Asking) (replies : List (List ℕ)) (gave : Outcome) → (course_so_far a replies gave).base ≡ a.base.version
+unfolding course_so_far
+base_of a replies gave = refl
+
+module _ (Sends : List ℕ → Option (List Sending) → Type 0) (a : Asking) (at longest : ℕ) (v : Version) (w : List ℕ) (one : sent_whole a at v ≡ w ∷ []) (grant : IsGranted Sends a at longest v)
+    (headed : has_header (asked_octets a) ≡ true) (course : (gave : Outcome) → Succeeds (course_so_far a (w ∷ []) gave) v) (o n : LinkLists) (before handles : List Commit) (s : Session) where
+  whole : (x : SyncOk) → Transfers a (w ∷ []) before handles s (Ok x) → Same s.current.version v
+  whole x t = leaves a before handles s t.versions (course_so_far a (w ∷ []) Ended) v (base_of a (w ∷ []) Ended) t.spelt t.made (course Ended)
+
+  not_refused : (e : SyncError) → is_memory (Err e) ≡ false → Transfers a (w ∷ []) before handles s (Err e) → ⊥
+  not_refused e m t =
+      let c = course_answered a (w ∷ []) (Err e) in
+      cc (sym (refused_badly e) ∙ ap is_good (answered c (Err e) m t.answers) ∙ good_end (outcome c) (course (given_up (Err e))).how)
+
+  not_none : (answer : Result SyncOk SyncError) → is_memory answer ≡ false → is_early answer ≡ false → Transfers a [] before handles s answer → ⊥
+  not_none answer m l t = cc (sym l ∙ nothing_came a answer m t.answers)
+
+  abbrev Says : Result SyncOk SyncError → Type 0
+  Says answer = SyncSays Sends a longest (Some o) (Some n) before handles s answer
+
+  module _ (f g : ℕ) (h : IsHonest o n f g) where
+    heard_is : (answer : Result SyncOk SyncError) (k : Says answer) → k.asked ≡ asked_octets a ∷ [] → (k.heard ≡ []) ⊎ (k.heard ≡ asked_octets a ∷ [])
+    heard_is answer k q = let r = hands_on o.requests n.requests k.asked k.heard h.requests k.link.requests in one_prefix (asked_octets a) k.heard r.rest (sym q ∙ r.part)
+
+    replies_are : (answer : Result SyncOk SyncError) (k : Says answer) → k.asked ≡ asked_octets a ∷ [] → (k.replies ≡ []) ⊎ (k.replies ≡ w ∷ [])
+    replies_are answer k q =
+        let r = hands_on o.replies n.replies k.sent k.replies h.replies k.link.replies in
+        came Sends a at longest v w one grant k.heard k.sent k.replies answer (heard_is answer k q) k.served r.rest r.part
+
+    transfers_of : (answer : Result SyncOk SyncError) (k : Says answer) (replies : List (List ℕ)) → k.replies ≡ replies → Transfers a replies before handles s answer
+    transfers_of answer k replies e = subst (λ (l : List (List ℕ)). Transfers a l before handles s answer) e k.transfers
+
+    -- Ok
+    ends_well : (x : SyncOk) (k : Says (Ok x)) → k.asked ≡ asked_octets a ∷ [] → (k.replies ≡ []) ⊎ (k.replies ≡ w ∷ []) → Same s.current.version v
+    ends_well x k q (inl e) = absurd (not_none (Ok x) refl refl (transfers_of (Ok x) k [] e))
+    ends_well x k q (inr e) = whole x (transfers_of (Ok x) k (w ∷ []) e)
+
+    -- a refusal that only a reply can bring
+    never : (e : SyncError) (k : Says (Err e)) → is_memory (Err e) ≡ false → is_early (Err e) ≡ false → (k.replies ≡ []) ⊎ (k.replies ≡ w ∷ []) → ⊥
+    never e k m l (inl r) = not_none (Err e) m l (transfers_of (Err e) k [] r)
+    never e k m l (inr r) = not_refused e m (transfers_of (Err e) k (w ∷ []) r)
+
+    -- no message is too short
+    long : (heard : List (List ℕ)) → (heard ≡ []) ⊎ (heard ≡ asked_octets a ∷ []) → HasShort heard → ⊥
+    long heard (inl e) x = cc (ap (λ l. list_all has_header l) (sym e) ∙ x)
+    long heard (inr e) x = cc (sym (ap (λ b. b && true) headed) ∙ ap (λ l. list_all has_header l) (sym e) ∙ x)
+
+    not_short : (x : ShortMessage) (k : Says (Err (why.Short x))) → k.asked ≡ asked_octets a ∷ [] → (k.replies ≡ []) ⊎ (k.replies ≡ w ∷ []) → ⊥
+    not_short x k q (inr r) = not_refused (why.Short x) refl (transfers_of (Err (why.Short x)) k (w ∷ []) r)
+    not_short x k q (inl r) = by_short (k.short x refl)
+      where
+        by_short : HasShort k.heard ⊎ HasShort k.replies → ⊥
+        by_short (inl y) = long k.heard (heard_is (Err (why.Short x)) k q) y
+        by_short (inr y) = cc (ap (λ l. list_all has_header l) (sym r) ∙ y)
+
+    -- the link doesn't end before the reply
+    not_ended : (k : Says (Err why.Ended)) → k.asked ≡ asked_octets a ∷ [] → (k.replies ≡ []) ⊎ (k.replies ≡ w ∷ []) → ⊥
+    not_ended k q (inr r) = not_refused why.Ended refl (transfers_of (Err why.Ended) k (w ∷ []) r)
+    not_ended k q (inl r) = by_heard (heard_is (Err why.Ended) k q)
+      where
+        by_heard : (k.heard ≡ []) ⊎ (k.heard ≡ asked_octets a ∷ []) → ⊥
+        by_heard (inl e) =
+            let ended = subst (λ (l : List (List ℕ)). IsEnded l (Some n)) e (k.ended refl) in
+            cc (sym e ∙ (hands_on o.requests n.requests k.asked k.heard h.requests k.link.requests).whole ended ∙ q)
+        by_heard (inr e) =
+            let ended = subst (λ (l : List (List ℕ)). IsEnded l (Some n)) e (k.ended refl) in
+            let all = subst (λ (l : List (List ℕ)). IsServed Sends l k.sent k.replies (Err why.Ended)) e k.served in
+            cc (sym r ∙ (hands_on o.replies n.replies k.sent k.replies h.replies k.link.replies).whole ended ∙ sends_all Sends a at longest v w one grant k.sent all)
+
+    not_primary : (x : ServiceError) (k : Says (Err (why.Primary x))) → (k.heard ≡ []) ⊎ (k.heard ≡ asked_octets a ∷ []) → ⊥
+    not_primary x k (inl e) = subst (λ (l : List (List ℕ)). IsServed Sends l k.sent k.replies (Err (why.Primary x))) e k.served
+    not_primary x k (inr e) = never_fails Sends a at longest v w one grant k.sent (subst (λ (l : List (List ℕ)). IsServed Sends l k.sent k.replies (Err (why.Primary x))) e k.served)
+
+    was_asked : (answer : Result SyncOk SyncError) → (ComesBefore answer → ⊥) → (k : Says answer) → k.asked ≡ asked_octets a ∷ []
+    was_asked answer later k = either k.request
+      where
+        either : (k.asked ≡ asked_octets a ∷ []) ⊎ (ComesBefore answer × (k.asked ≡ []) × (k.heard ≡ [])) → k.asked ≡ asked_octets a ∷ []
+        either (inl q) = q
+        either (inr b) = absurd (later b.0)
+
+    pub delivers : f < 2 ^ 64 - 1 → (answer : Result SyncOk SyncError) → Says answer → (answer ≡ Err why.LinkFault → Rose f g) → Delivers v s answer
+    delivers few (Ok x) k fault = let q = was_asked (Ok x) (λ b. b) k in ends_well x k q (replies_are (Ok x) k q)
+    delivers few (Err why.Memory) k fault = tt
+    delivers few (Err why.LinkFault) k fault = absurd (no_rise (fault refl))
+      where
+        no_rise : Rose f g → ⊥
+        no_rise (inl r) = let e = h.no_fault in omega (arith, e, r)
+        no_rise (inr r) = let e = h.no_fault in omega (arith, e, r, few)
+    delivers few (Err (why.Request x)) k fault = let l = (k.too_long x refl).1 in let fits = grant.request_fits in absurd (omega (arith, l, fits))
+    delivers few (Err (why.Short x)) k fault = let q = was_asked (Err (why.Short x)) (λ b. b) k in absurd (not_short x k q (replies_are (Err (why.Short x)) k q))
+    delivers few (Err why.Ended) k fault = let q = was_asked (Err why.Ended) (λ b. b) k in absurd (not_ended k q (replies_are (Err why.Ended) k q))
+    delivers few (Err (why.Primary x)) k fault = let q = was_asked (Err (why.Primary x)) (λ b. b) k in absurd (not_primary x k (heard_is (Err (why.Primary x)) k q))
+    delivers few (Err why.NoSoa) k fault = let q = was_asked (Err why.NoSoa) (λ b. b) k in absurd (never why.NoSoa k refl refl (replies_are (Err why.NoSoa) k q))
+    delivers few (Err why.TooManyMessages) k fault = let q = was_asked (Err why.TooManyMessages) (λ b. b) k in absurd (never why.TooManyMessages k refl refl (replies_are (Err why.TooManyMessages) k q))
+    delivers few (Err (why.Tsig x)) k fault = let q = was_asked (Err (why.Tsig x)) (λ b. b) k in absurd (never (why.Tsig x) k refl refl (replies_are (Err (why.Tsig x)) k q))
+    delivers few (Err why.OtherAnswer) k fault = let q = was_asked (Err why.OtherAnswer) (λ b. b) k in absurd (never why.OtherAnswer k refl refl (replies_are (Err why.OtherAnswer) k q))
+    delivers few (Err (why.Xfr x)) k fault = let q = was_asked (Err (why.Xfr x)) (λ b. b) k in absurd (never (why.Xfr x) k refl refl (replies_are (Err (why.Xfr x)) k q))
+    delivers few (Err (why.Iteration x)) k fault = let q = was_asked (Err (why.Iteration x)) (λ b. b) k in absurd (never (why.Iteration x) k refl refl (replies_are (Err (why.Iteration x)) k q))
+    delivers few (Err (why.Update x)) k fault = let q = was_asked (Err (why.Update x)) (λ b. b) k in absurd (never (why.Update x) k refl refl (replies_are (Err (why.Update x)) k q))
+    delivers few (Err why.VersionsExhausted) k fault = let q = was_asked (Err why.VersionsExhausted) (λ b. b) k in absurd (never why.VersionsExhausted k refl refl (replies_are (Err why.VersionsExhausted) k q))
+
+-- ---- where the link tells its lists
+
+pub delivered : (Sends : List ℕ → Option (List Sending) → Type 0) (a : Asking) (at longest : ℕ) (v : Version) (old new : Option LinkLists) (f g : ℕ) (before handles : List Commit) (s : Session) (answer : Result SyncOk SyncError)
+    → IsGranted Sends a at longest v → WasHonest old new f g → SyncSays Sends a longest old new before handles s answer → (answer ≡ Err why.LinkFault → Rose f g) → Delivers v s answer
+delivered Sends a at longest v None new f g before handles s answer grant h k fault = absurd h
+delivered Sends a at longest v (Some o) None f g before handles s answer grant h k fault = absurd h
+delivered Sends a at longest v (Some o) (Some n) f g before handles s answer grant h k fault =
+    delivers Sends a at longest v (reply a at v) (sent_is a at v) grant (request_has_header a) (λ gave. subst (λ (l : List (List ℕ)). Succeeds (course_so_far a l gave) v) (sent_is a at v) (whole_succeeds a at v gave grant.fits)) o n before handles s f g h.0 h.1 answer k fault

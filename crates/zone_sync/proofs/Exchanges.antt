@@ -1,0 +1,196 @@
+-- A transfer from the request on.
+use Rattle.std.proofs.Common.{◌≡◌, ℕ, ◌<◌, ◌≤◌, Bool, true, false, ◌&&◌, List, [], ◌∷◌, ◌++◌, length, min, append-nil, refl, sym, ap, ◌∙◌, subst, arith, ◌⊎◌, inl, inr, Option, Some, None, IsSome, Result, Ok, Err}
+use Rattle.std.proofs.lemmas.Bool.{lt-leb}
+use Rattle.dns_wire.specs.declared.builder.PushError.{PushError}
+use Rattle.dns_wire.specs.declared.builder.PushError.TheVariants.{ShortBuf, CountOverflow}
+use Rattle.dns_wire.specs.declared.builder.PushError.TheVariants as push
+use Rattle.dns_message.specs.declared.message.ShortMessage.{ShortMessage}
+use Rattle.zone_model.specs.Commits.{Commit}
+use Rattle.zone_model.specs.Session.{Session, rolled_back}
+use Rattle.xfr_course.specs.Outcome.{Outcome, Ended, LinkFault, Short, Primary, RequestTooLong}
+use Rattle.xfr_course.specs.Courses.{has_header}
+use Rattle.zone_sync.specs.SoFar.{Asking, asked_octets, course_so_far, fault_so_far, client_so_far, IsTooLong}
+use Rattle.zone_sync.specs.Steps.{HasMade}
+use Rattle.zone_sync.specs.Standing.{ClientState, Stands}
+use Rattle.zone_sync.specs.Refusals.{of_link}
+use Rattle.zone_devices.specs.Links.{LinkLists, LinkWentOn}
+use Rattle.xfr_server.specs.Items.{Sending}
+use Rattle.zone_sync.specs.Serving.{SendsAll, ServedBy, IsServed}
+use Rattle.zone_sync.specs.Transfers.{RequestsEnded, IsEnded, HasShort, Transfers, Serves, ComesLater, EndsSo, ComesBefore, SyncSays}
+use Rattle.zone_devices.specs.declared.links.LinkError.{LinkError}
+use Rattle.zone_devices.specs.declared.links.LinkError.TheVariants as links
+use Rattle.zone_sync.specs.declared.outcome.SyncOk.{SyncOk}
+use Rattle.zone_sync.specs.declared.outcome.SyncError.{SyncError}
+use Rattle.zone_sync.specs.declared.outcome.SyncError.TheVariants as why
+use Rattle.zone_sync.proofs.Standings.{none_passed}
+use Rattle.zone_sync.proofs.Outcomes.{stop_few}
+use Rattle.zone_sync.proofs.Clients.{made_rolled}
+use Rattle.zone_sync.proofs.Passing.{nothing_yet, link_on}
+use Rattle.zone_sync.proofs.Replying.{Amounts, amounts}
+use Rattle.zone_sync.proofs.Replies.{err_same}
+use Rattle.zone_sync.proofs.Serving.{replied_to}
+
+-- ---- no reply was taken
+
+pub none_done : (a : Asking) (gave : Outcome) → Amounts (course_so_far a [] gave) gave []
+unfolding client_so_far
+none_done a gave = amounts a [] gave gave gave (none_passed (fault_so_far a)) (omega (arith)) (stop_few gave [] refl (omega (arith))) refl
+
+abbrev EndsBefore : SyncError → Type 0
+EndsBefore why.Memory = Unit {0}
+EndsBefore why.LinkFault = Unit {0}
+EndsBefore why.Ended = Unit {0}
+EndsBefore (why.Request x) = Unit {0}
+EndsBefore (why.Short x) = Unit {0}
+EndsBefore (why.Primary x) = Unit {0}
+EndsBefore e = ⊥
+
+ends_before : (a : Asking) (s : Session) (before handles : List Commit) (e : SyncError) → EndsBefore e → HasMade a.base before s handles [] → Transfers a [] before handles s (Err e)
+ends_before a s before handles why.Memory x m = record { versions = []; spelt = record { rest = []; is = (none_done a Ended).made }; made = m; answers = tt }
+ends_before a s before handles why.LinkFault x m = record { versions = []; spelt = sym (none_done a LinkFault).made; made = m; answers = ap Some (sym (none_done a LinkFault).outcome) }
+ends_before a s before handles why.Ended x m = record { versions = []; spelt = sym (none_done a Ended).made; made = m; answers = ap Some (sym (none_done a Ended).outcome) }
+ends_before a s before handles (why.Request e) x m = record { versions = []; spelt = sym (none_done a RequestTooLong).made; made = m; answers = ap Some (sym (none_done a RequestTooLong).outcome) }
+ends_before a s before handles (why.Short e) x m = record { versions = []; spelt = sym (none_done a Short).made; made = m; answers = ap Some (sym (none_done a Short).outcome) }
+ends_before a s before handles (why.Primary e) x m = record { versions = []; spelt = sym (none_done a Primary).made; made = m; answers = ap Some (sym (none_done a Primary).outcome) }
+ends_before a s before handles why.NoSoa x m = absurd x
+ends_before a s before handles why.TooManyMessages x m = absurd x
+ends_before a s before handles (why.Tsig e) x m = absurd x
+ends_before a s before handles why.OtherAnswer x m = absurd x
+ends_before a s before handles (why.Xfr e) x m = absurd x
+ends_before a s before handles (why.Iteration e) x m = absurd x
+ends_before a s before handles (why.Update e) x m = absurd x
+ends_before a s before handles why.VersionsExhausted x m = absurd x
+
+-- the one request, or none
+abbrev pub IsAsked : Asking → List (List ℕ) → List (List ℕ) → SyncError → Type 0
+IsAsked a asked heard e = (asked ≡ asked_octets a ∷ []) ⊎ (ComesBefore (Err e) × (asked ≡ []) × (heard ≡ []))
+
+abbrev TooLong : Asking → ℕ → SyncError → Type 0
+TooLong a longest e = (x : PushError) → e ≡ why.Request x → (x ≡ ShortBuf) × (min longest 65535 < length (asked_octets a))
+
+at_rest : (a : Asking) (s : Session) (before : List Commit) → s.current ≡ a.base → HasMade a.base before s before []
+at_rest a s before h = record { current = h; behind = sym (append-nil before) }
+
+says : (Sends : List ℕ → Option (List Sending) → Type 0) (a : Asking) (longest : ℕ) (old new : Option LinkLists) (before : List Commit) (s : Session) (e : SyncError) (asked heard sent : List (List ℕ)) → LinkWentOn old new asked heard sent [] → IsAsked a asked heard e
+    → IsServed Sends heard sent [] (Err e) → EndsBefore e → s.current ≡ a.base → TooLong a longest e → ((x : ShortMessage) → e ≡ why.Short x → HasShort heard) → (e ≡ why.Ended → IsEnded heard new) → SyncSays Sends a longest old new before before s (Err e)
+says Sends a longest old new before s e asked heard sent link request served ends current too_long short ended = record {
+  asked = asked;
+  heard = heard;
+  sent = sent;
+  replies = [];
+  link = link;
+  request = request;
+  served = served;
+  transfers = ends_before a s before before e ends (at_rest a s before current);
+  too_long = λ x h. too_long x (err_same e (why.Request x) h);
+  short = λ x h. inl (short x (err_same e (why.Short x) h));
+  ended = λ h. ended (err_same e why.Ended h);
+}
+
+-- the request isn't made
+pub not_made : (Sends : List ℕ → Option (List Sending) → Type 0) (a : Asking) (longest most : ℕ) (old : Option LinkLists) (before : List Commit) (s : Session) (e : SyncError) → most ≡ longest → IsTooLong (min most 65535) (asked_octets a) e → s.current ≡ a.base → SyncSays Sends a longest old old before before s (Err e)
+not_made Sends a longest most old before s why.Memory m h c = says Sends a longest old old before s why.Memory [] [] [] (nothing_yet old) (inr (tt, refl, refl)) (refl, refl) tt c (λ x k. absurd (cc k)) (λ x k. absurd (cc k)) (λ k. absurd (cc k))
+not_made Sends a longest most old before s (why.Request ShortBuf) m h c =
+    says Sends a longest old old before s (why.Request ShortBuf) [] [] [] (nothing_yet old) (inr (tt, refl, refl)) (refl, refl) tt c (λ x k. (cc k, subst (λ n. min n 65535 < length (asked_octets a)) m h)) (λ x k. absurd (cc k)) (λ k. absurd (cc k))
+not_made Sends a longest most old before s (why.Request CountOverflow) m h c = absurd h
+not_made Sends a longest most old before s (why.Request push.Memory) m h c = absurd h
+not_made Sends a longest most old before s why.NoSoa m h c = absurd h
+not_made Sends a longest most old before s why.LinkFault m h c = absurd h
+not_made Sends a longest most old before s why.Ended m h c = absurd h
+not_made Sends a longest most old before s (why.Short x) m h c = absurd h
+not_made Sends a longest most old before s (why.Primary x) m h c = absurd h
+not_made Sends a longest most old before s why.TooManyMessages m h c = absurd h
+not_made Sends a longest most old before s (why.Tsig x) m h c = absurd h
+not_made Sends a longest most old before s why.OtherAnswer m h c = absurd h
+not_made Sends a longest most old before s (why.Xfr x) m h c = absurd h
+not_made Sends a longest most old before s (why.Iteration x) m h c = absurd h
+not_made Sends a longest most old before s (why.Update x) m h c = absurd h
+not_made Sends a longest most old before s why.VersionsExhausted m h c = absurd h
+
+-- the link fails before it hands the request
+asks_or_not : (a : Asking) (asked : List (List ℕ)) (e : SyncError) → ComesBefore (Err e) → (asked ≡ asked_octets a ∷ []) ⊎ (asked ≡ []) → IsAsked a asked [] e
+asks_or_not a asked e c (inl h) = inl h
+asks_or_not a asked e c (inr h) = inr (c, h, refl)
+
+pub not_carried : (Sends : List ℕ → Option (List Sending) → Type 0) (a : Asking) (longest : ℕ) (old new : Option LinkLists) (before : List Commit) (s : Session) (x : LinkError) (asked : List (List ℕ)) → LinkWentOn old new asked [] [] [] → (asked ≡ asked_octets a ∷ []) ⊎ (asked ≡ []) → s.current ≡ a.base
+    → SyncSays Sends a longest old new before before s (Err (of_link x))
+not_carried Sends a longest old new before s links.Failed asked l r c =
+    says Sends a longest old new before s why.LinkFault asked [] [] l (asks_or_not a asked why.LinkFault tt r) (refl, refl) tt c (λ x k. absurd (cc k)) (λ x k. absurd (cc k)) (λ k. absurd (cc k))
+not_carried Sends a longest old new before s links.Memory asked l r c =
+    says Sends a longest old new before s why.Memory asked [] [] l (asks_or_not a asked why.Memory tt r) (refl, refl) tt c (λ x k. absurd (cc k)) (λ x k. absurd (cc k)) (λ k. absurd (cc k))
+
+-- it ends
+pub not_handed : (Sends : List ℕ → Option (List Sending) → Type 0) (a : Asking) (longest : ℕ) (old new : Option LinkLists) (before : List Commit) (s : Session) (asked : List (List ℕ)) → LinkWentOn old new asked [] [] [] → asked ≡ asked_octets a ∷ [] → s.current ≡ a.base → RequestsEnded new
+    → SyncSays Sends a longest old new before before s (Err why.Ended)
+not_handed Sends a longest old new before s asked l r c e = says Sends a longest old new before s why.Ended asked [] [] l (inl r) (refl, refl) tt c (λ x k. absurd (cc k)) (λ x k. absurd (cc k)) (λ k. e)
+
+-- it hands on what is no message
+pub headless : (m : List ℕ) → length m < 12 → HasShort (m ∷ [])
+headless m h = ap (λ b. b && true) (lt-leb 12 (length m) h)
+
+pub no_message : (Sends : List ℕ → Option (List Sending) → Type 0) (a : Asking) (longest : ℕ) (old new : Option LinkLists) (before : List Commit) (s : Session) (x : ShortMessage) (asked : List (List ℕ)) (heard : List ℕ) → LinkWentOn old new asked (heard ∷ []) [] [] → asked ≡ asked_octets a ∷ [] → s.current ≡ a.base
+    → HasShort (heard ∷ []) → SyncSays Sends a longest old new before before s (Err (why.Short x))
+no_message Sends a longest old new before s x asked heard l r c short = says Sends a longest old new before s (why.Short x) asked (heard ∷ []) [] l (inl r) (inl refl) tt c (λ y k. absurd (cc k)) (λ y k. short) (λ k. absurd (cc k))
+
+-- the primary fails, or the link as it replies
+pub not_served : (Sends : List ℕ → Option (List Sending) → Type 0) (a : Asking) (longest : ℕ) (old told new : Option LinkLists) (before : List Commit) (s : Session) (e : SyncError) (asked : List (List ℕ)) (heard : List ℕ) → LinkWentOn old told asked (heard ∷ []) [] [] → asked ≡ asked_octets a ∷ [] → s.current ≡ a.base
+    → Serves (Sends heard) told new (Err e) → SyncSays Sends a longest old new before before s (Err e)
+not_served Sends a longest old told new before s e asked heard l r c k = ends_so e k.by
+  where
+    on : LinkWentOn old new (asked ++ []) (heard ∷ []) k.sent []
+    on = link_on old told new asked (heard ∷ []) [] [] [] [] k.sent [] l k.link
+
+    is : asked ++ [] ≡ asked_octets a ∷ []
+    is = append-nil asked ∙ r
+
+    ends_so : (e : SyncError) → ServedBy (Sends heard) k.sent (Err e) → SyncSays Sends a longest old new before before s (Err e)
+    ends_so why.LinkFault by = says Sends a longest old new before s why.LinkFault (asked ++ []) (heard ∷ []) k.sent on (inl is) by tt c (λ x k. absurd (cc k)) (λ x k. absurd (cc k)) (λ k. absurd (cc k))
+    ends_so why.Memory by = says Sends a longest old new before s why.Memory (asked ++ []) (heard ∷ []) k.sent on (inl is) by tt c (λ x k. absurd (cc k)) (λ x k. absurd (cc k)) (λ k. absurd (cc k))
+    ends_so (why.Primary x) by = says Sends a longest old new before s (why.Primary x) (asked ++ []) (heard ∷ []) k.sent on (inl is) by tt c (λ x k. absurd (cc k)) (λ x k. absurd (cc k)) (λ k. absurd (cc k))
+    ends_so (why.Request x) by = absurd by
+    ends_so why.NoSoa by = absurd by
+    ends_so why.Ended by = absurd by
+    ends_so (why.Short x) by = absurd by
+    ends_so why.TooManyMessages by = absurd by
+    ends_so (why.Tsig x) by = absurd by
+    ends_so why.OtherAnswer by = absurd by
+    ends_so (why.Xfr x) by = absurd by
+    ends_so (why.Iteration x) by = absurd by
+    ends_so (why.Update x) by = absurd by
+    ends_so why.VersionsExhausted by = absurd by
+
+-- the replies come
+pub replied : (Sends : List ℕ → Option (List Sending) → Type 0) (a : Asking) (longest : ℕ) (old told mid new : Option LinkLists) (before later : List Commit) (s : Session) (answer : Result SyncOk SyncError) (asked : List (List ℕ)) (heard : List ℕ)
+    → LinkWentOn old told asked (heard ∷ []) [] [] → asked ≡ asked_octets a ∷ [] → Serves (Sends heard) told mid (Ok tt) → EndsSo a mid new before later s answer → SyncSays Sends a longest old new before later s answer
+replied Sends a longest old told mid new before later s answer asked heard l r v k = record {
+  asked = (asked ++ []) ++ [];
+  heard = heard ∷ [];
+  sent = v.sent ++ [];
+  replies = k.taken;
+  link = link_on old mid new (asked ++ []) (heard ∷ []) v.sent [] [] [] [] k.taken (link_on old told mid asked (heard ∷ []) [] [] [] [] v.sent [] l v.link) k.link;
+  request = inl (append-nil (asked ++ []) ∙ append-nil asked ∙ r);
+  served = replied_to (Sends heard) (v.sent ++ []) answer k.later (subst (SendsAll (Sends heard)) (sym (append-nil v.sent)) v.by);
+  transfers = k.transfers;
+  too_long = λ x h. absurd (subst ComesLater h k.later);
+  short = λ x h. inr (k.short x h);
+  ended = k.ended;
+}
+
+-- a rollback at the end changes nothing of it
+pub rolled_says : (Sends : List ℕ → Option (List Sending) → Type 0) (a : Asking) (longest : ℕ) (old new : Option LinkLists) (before later : List Commit) (s t : Session) (answer : Result SyncOk SyncError) → s ≡ rolled_back t → SyncSays Sends a longest old new before later t answer → SyncSays Sends a longest old new before later s answer
+rolled_says Sends a longest old new before later s t answer e k = record {
+  asked = k.asked;
+  heard = k.heard;
+  sent = k.sent;
+  replies = k.replies;
+  link = k.link;
+  request = k.request;
+  served = k.served;
+  transfers = record { versions = k.transfers.versions; spelt = k.transfers.spelt; made = made_rolled a.base before later s t k.transfers.versions e k.transfers.made; answers = k.transfers.answers };
+  too_long = k.too_long;
+  short = k.short;
+  ended = k.ended;
+}
+
+pub under_way : (a : Asking) (c : ClientState) (s : Session) (before handles : List Commit) → Stands c s a [] before handles → IsSome c.exchange
+under_way a c s before handles st = subst IsSome (sym st.under_way) refl

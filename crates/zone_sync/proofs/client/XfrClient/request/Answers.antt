@@ -1,0 +1,77 @@
+use Rattle.std.proofs.Common.{◌≡◌, [], ℕ, ◌%◌, ◌^◌, ◌≤◌, ◌<◌, length, min, refl, sym, ap, ◌∙◌, subst, arith}
+use Rattle.std.proofs.lemmas.Result.{err_from_is_err_and}
+use Rattle.zone_model.specs.TransferText.{Mode}
+use Rattle.zone_model.specs.Commits.{Commit}
+use Rattle.zone_sync.specs.Modes.{mode_of}
+use Rattle.zone_sync.specs.SoFar.{Asking, asked_octets}
+use Rattle.zone_sync.specs.Standing.{asking_of}
+use Rattle.zone_sync.proofs.Requests.{question_is, built_is, sign_refused, sign_added, same_mac, begins}
+use Rattle.tsig_port.specs.States.{ClientStands}
+use Rattle.zone_sync.proofs.client.XfrClient.request.Goals as goal
+
+pub returns-in_err-sequence-clause-refused : goal.returns-in_err-sequence-clause-refused
+returns-in_err-sequence-clause-refused c =
+    let a = asking_of c.args.self.now c.args.session.now.current in
+    let v = c.self.view_is in
+    let zone = c.in_ok-zone.ensures.current ∙ ap (λ s. s.current) c.rollback.ensures in
+    let key = c.duplicate.ensures ∙ ap (λ s. s.key) v in
+    let at = ap (λ s. s.at) v in
+    let id = ap (λ n. n % 65536) (c.from.ensures ∙ at) in
+    let question = question_is a c.in_ok-zone.zone c.question_of-question.result (mode_of c.self.inside.mode) zone (ap (λ s. s.mode) v) c.question_of-question.ensures in
+    let is = built_is a (c.from.result % 65536) c.question_of-question.result c.in_ok-items.items id question c.in_ok-items.ensures.ok in
+    let p = err_from_is_err_and c.from_residual-in_err-sequence.result c.from_residual-in_err-sequence.ensures.1 in
+    rw (p.1, p.2) (sign_refused a c.duplicate.result c.in_ok-items.items c.request.new.message c.self.inside.at c.args.max_len c.in_err-sequence.field-0.0 key is at c.in_err-sequence.ensures.signed)
+
+pub returns-then-as_slice-max_len-clause-refused : goal.returns-then-as_slice-max_len-clause-refused
+returns-then-as_slice-max_len-clause-refused c =
+    let a = asking_of c.args.self.now c.args.session.now.current in
+    let v = c.self.view_is in
+    let zone = c.in_ok-zone.ensures.current ∙ ap (λ s. s.current) c.rollback.ensures in
+    let key = c.duplicate.ensures ∙ ap (λ s. s.key) v in
+    let at = ap (λ s. s.at) v in
+    let id = ap (λ n. n % 65536) (c.from.ensures ∙ at) in
+    let question = question_is a c.in_ok-zone.zone c.question_of-question.result (mode_of c.self.inside.mode) zone (ap (λ s. s.mode) v) c.question_of-question.ensures in
+    let is = built_is a (c.from.result % 65536) c.question_of-question.result c.in_ok-items.items id question c.in_ok-items.ensures.ok in
+    let made = sign_added a c.duplicate.result c.in_ok-items.items c.request.new.message c.self.inside.at key is at c.in_ok-sequence.ensures.signed in
+    let whole : c.finish-message.result ≡ asked_octets a = c.finish-message.ensures.value ∙ made in
+    let size : length c.finish-message.result ≡ length (asked_octets a) = ap length whole in
+    let long = c.if-as_slice-max_len.true in
+    let slice = ap length c.as_slice.ensures.value in
+    omega (arith, size, long, slice)
+
+pub returns-clause-ok : goal.returns-clause-ok
+returns-clause-ok c =
+    let a = asking_of c.args.self.now c.args.session.now.current in
+    let v = c.self.view_is in
+    let zone = c.in_ok-zone.ensures.current ∙ ap (λ s. s.current) c.rollback.ensures in
+    let key = c.duplicate.ensures ∙ ap (λ s. s.key) v in
+    let at = ap (λ s. s.at) v in
+    let id = ap (λ n. n % 65536) (c.from.ensures ∙ at) in
+    let question = question_is a c.in_ok-zone.zone c.question_of-question.result (mode_of c.self.inside.mode) zone (ap (λ s. s.mode) v) c.question_of-question.ensures in
+    let is = built_is a (c.from.result % 65536) c.question_of-question.result c.in_ok-items.items id question c.in_ok-items.ensures.ok in
+    let made = sign_added a c.duplicate.result c.in_ok-items.items c.request.new.message c.self.inside.at key is at c.in_ok-sequence.ensures.signed in
+    let whole : c.finish-message.result ≡ asked_octets a = c.finish-message.ensures.value ∙ made in
+    let short = c.if-as_slice-max_len.false in
+    let most = c.finish-message.ensures.most in
+    let slice = ap length c.as_slice.ensures.value in
+    (whole, omega (arith, short, most, slice))
+
+pub returns-clause-begun : goal.returns-clause-begun
+returns-clause-begun c handles =
+    let a = asking_of c.args.self.now c.args.session.now.current in
+    let v = c.self.view_is in
+    let zone = c.in_ok-zone.ensures.current ∙ ap (λ s. s.current) c.rollback.ensures in
+    let key = c.duplicate.ensures ∙ ap (λ s. s.key) v in
+    let at = ap (λ s. s.at) v in
+    let id = ap (λ n. n % 65536) (c.from.ensures ∙ at) in
+    let question = question_is a c.in_ok-zone.zone c.question_of-question.result (mode_of c.self.inside.mode) zone (ap (λ s. s.mode) v) c.question_of-question.ensures in
+    let is = built_is a (c.from.result % 65536) c.question_of-question.result c.in_ok-items.items id question c.in_ok-items.ensures.ok in
+    let stands = begins a (record { sequence = c.in_ok-sequence.sequence; id = c.from.result % 65536; question = c.question_of-question.result; interpreter = c.new.result; updater = c.new-2.result }) c.handle.new.self handles
+    (c.in_ok-sequence.ensures.begun.0 ∙ key) (subst (λ m. ClientStands (λ k. k) c.in_ok-sequence.sequence m []) (same_mac a c.duplicate.result c.in_ok-items.items c.self.inside.at key is at) c.in_ok-sequence.ensures.begun.1) id question c.new.ensures c.new-2.ensures
+    (ap (λ s. s.current) c.handle.ensures.same ∙ ap (λ s. s.current) c.rollback.ensures) (ap (λ s. s.pending) c.handle.ensures.same ∙ ap (λ s. s.pending) c.rollback.ensures) (subst (λ (z : Commit). z.number < 2 ^ 64) zone (omega (arith, c.version-number.ensures, c.version-number.type_inv))) in
+    record {
+      asks = ap (λ s. asking_of s a.base) v;
+      exchange = record { sequence = c.in_ok-sequence.sequence; id = c.from.result % 65536; question = c.question_of-question.result; interpreter = c.new.result; updater = c.new-2.result };
+      under_way = refl;
+      stands = stands;
+    }

@@ -1,0 +1,16 @@
+use Rattle.std.proofs.Common.{◌≡◌, ◌-◌, ◌≤◌, List, [], IsSome}
+use Rattle.zone_model.specs.Commits.{Commit}
+use Rattle.zone_sync.specs.SoFar.{Asking}
+use Rattle.zone_sync.specs.Standing.{Stands}
+use Rattle.zone_sync.specs.Transfers.{TakenSoFar}
+use Rattle.zone_sync.proofs.sync.take_replies.Given as goal
+
+abbrev pub invariant-taking : goal.invariant-taking
+invariant-taking g l =
+    (g.L.Link.faults l.link ≡ g.L.Link.faults l.initial.link)
+    × (l.count ≤ 65536)
+    × IsSome l.client.exchange
+    × ((a : Asking) (before : List Commit) → Stands l.initial.client l.initial.session a [] before l.initial.made.items → TakenSoFar a (g.L.Link.lists l.initial.link) (g.L.Link.lists l.link) l.client l.session before l.made.items l.count)
+
+abbrev pub decreases-taking : goal.decreases-taking
+decreases-taking g l = 65536 - l.count

@@ -1,0 +1,40 @@
+-- A transfer over an honest link to a granting primary: when it has to end well, and what it leaves (RFC 5936, 2 and 6).
+use Rattle.std.specs.Prelude.{◌≡◌, ℕ, ◌<◌, ◌≤◌, ◌-◌, ◌^◌, List, [], ◌∷◌, length, min, Option, Some, None, Result, Ok, Err}
+use Rattle.zone_model.specs.Version.{Version, Same}
+use Rattle.zone_model.specs.Commits.{Commit}
+use Rattle.zone_model.specs.Session.{Session}
+use Rattle.xfr_server.specs.Items.{Sending}
+use Rattle.xfr_server.specs.FullTransfer.{IsSentWhole}
+use Rattle.zone_devices.specs.Links.{LinkLists, IsHonest}
+use Rattle.zone_sync.specs.SoFar.{Asking, asked_octets}
+use Rattle.zone_sync.specs.Serving.{request_at}
+use Rattle.zone_sync.specs.Fitting.{Fits}
+use Rattle.zone_sync.specs.Transfers.{SyncSays}
+use Rattle.zone_sync.specs.declared.outcome.SyncOk.{SyncOk}
+use Rattle.zone_sync.specs.declared.outcome.SyncError.{SyncError}
+use Rattle.zone_sync.specs.declared.outcome.SyncError.TheVariants as why
+
+-- a link that tells its lists was honest from one state to another, and its count of faults doesn't stand at the greatest number
+abbrev pub WasHonest : Option LinkLists → Option LinkLists → ℕ → ℕ → Type 0
+WasHonest (Some old) (Some new) faults_old faults_new = IsHonest old new faults_old faults_new × (faults_old < 2 ^ 64 - 1)
+WasHonest _ _ faults_old faults_new = ⊥
+
+-- the premises: to the secondary's request a primary sends the whole text of a version, and the secondary fits both and the link
+pub record IsGranted (Sends : List ℕ → Option (List Sending) → Type 0) (a : Asking) (at longest : ℕ) (v : Version) : Type 0 where
+  pub sends : (sent : Option (List Sending)) → Sends (asked_octets a) sent → IsSentWhole (request_at (asked_octets a) at) a.key v sent
+  pub fits : Fits a at v
+  pub request_fits : length (asked_octets a) ≤ min longest 65535
+
+-- the secondary's current version is the primary's, or memory ran out
+abbrev pub Delivers : Version → Session → Result SyncOk SyncError → Type 0
+Delivers v s (Ok done) = Same s.current.version v
+Delivers v s (Err why.Memory) = Unit {0}
+Delivers v s (Err e) = ⊥
+
+-- The headline: whatever octets the link hands back, exactly the versions that the checked text spells are committed, in order, and the answer is its
+-- outcome; nothing is pending then; and over an honest link to a primary that grants a version the answer is Ok or want of memory, and after Ok
+-- that version is current.
+pub record Synchronizes (Sends : List ℕ → Option (List Sending) → Type 0) (a : Asking) (at longest : ℕ) (old new : Option LinkLists) (faults_old faults_new : ℕ) (before handles : List Commit) (s : Session) (answer : Result SyncOk SyncError) : Type 0 where
+  pub says : SyncSays Sends a longest old new before handles s answer
+  pub settled : s.pending ≡ s.current.version
+  pub delivers : (v : Version) → IsGranted Sends a at longest v → WasHonest old new faults_old faults_new → Delivers v s answer

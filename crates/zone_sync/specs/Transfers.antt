@@ -1,0 +1,139 @@
+-- A transfer whole: what it commits and answers, whatever octets the link hands back (RFC 5936, 6; RFC 8945, 5.3).
+use Rattle.std.specs.Prelude.{◌≡◌, ℕ, ◌<◌, ◌⊎◌, true, false, List, [], ◌∷◌, ◌++◌, Option, Some, None, Result, Ok, Err, length, min}
+use Rattle.std.specs.List.{list_all}
+use Rattle.dns_wire.specs.declared.builder.PushError.{PushError}
+use Rattle.dns_wire.specs.declared.builder.PushError.TheVariants.{ShortBuf}
+use Rattle.dns_message.specs.declared.message.ShortMessage.{ShortMessage}
+use Rattle.xfr_course.specs.Courses.{has_header}
+use Rattle.zone_sync.specs.Standing.{ClientState, Stands}
+use Rattle.zone_model.specs.Version.{Version}
+use Rattle.zone_model.specs.Commits.{Commit}
+use Rattle.zone_model.specs.Session.{Session}
+use Rattle.xfr_course.specs.Outcome.{Outcome, LinkFault, Ended, Short, Primary, RequestTooLong, Course, made, outcome}
+use Rattle.xfr_course.specs.Client.{IsPart}
+use Rattle.zone_sync.specs.SoFar.{Asking, asked_octets, course_so_far}
+use Rattle.zone_sync.specs.Steps.{HasMade}
+use Rattle.zone_sync.specs.Ending.{outcome_of}
+use Rattle.zone_devices.specs.Links.{LinkLists, LinkWentOn}
+use Rattle.zone_sync.specs.Serving.{ServedBy, SentOf, IsServed}
+use Rattle.xfr_server.specs.Items.{Sending, sent_by}
+use Rattle.zone_sync.specs.declared.outcome.SyncOk.{SyncOk}
+use Rattle.zone_sync.specs.declared.outcome.SyncError.{SyncError}
+use Rattle.zone_sync.specs.declared.outcome.SyncError.TheVariants as why
+
+-- what came in place of a further reply: the request wasn't made, the link or the primary failed, a message was no message; else the link ended
+abbrev pub given_up : Result SyncOk SyncError → Outcome
+given_up (Err (why.Request e)) = RequestTooLong
+given_up (Err why.LinkFault) = LinkFault
+given_up (Err (why.Short e)) = Short
+given_up (Err (why.Primary e)) = Primary
+given_up answer = Ended
+
+-- the course of a transfer that was answered so
+abbrev pub course_answered : Asking → List (List ℕ) → Result SyncOk SyncError → Course
+course_answered a replies answer = course_so_far a replies (given_up answer)
+
+-- the versions that the checked text spells, in order, as far as there are numbers; where memory ran out a first part of them
+abbrev pub AreSpelt : Course → Result SyncOk SyncError → List Version → Type 0
+AreSpelt c (Err why.Memory) versions = IsPart versions (made c)
+AreSpelt c answer versions = versions ≡ made c
+
+-- the outcome of the course is the answer, unless memory ran out
+abbrev pub AnswersCourse : Course → Result SyncOk SyncError → Type 0
+AnswersCourse c (Err why.Memory) = Unit {0}
+AnswersCourse c answer = outcome_of answer ≡ Some (outcome c)
+
+-- What a transfer does, of which the link handed these replies: it commits exactly the versions that the checked text spells, in order, gives a handle of
+-- each, and answers the outcome.
+pub record Transfers (a : Asking) (replies : List (List ℕ)) (before handles : List Commit) (s : Session) (answer : Result SyncOk SyncError) : Type 0 where
+  pub versions : List Version
+  pub spelt : AreSpelt (course_answered a replies answer) answer versions
+  pub made : HasMade a.base before s handles versions
+  pub answers : AnswersCourse (course_answered a replies answer) answer
+
+-- ---- what passed over the link
+
+-- the last take of a reply was told that no more come; or that of the request, where none was handed
+abbrev pub RepliesEnded : Option LinkLists → Type 0
+RepliesEnded None = Unit {0}
+RepliesEnded (Some l) = l.replies.ended ≡ true
+
+abbrev pub RequestsEnded : Option LinkLists → Type 0
+RequestsEnded None = Unit {0}
+RequestsEnded (Some l) = l.requests.ended ≡ true
+
+abbrev pub IsEnded : List (List ℕ) → Option LinkLists → Type 0
+IsEnded [] l = RequestsEnded l
+IsEnded (m ∷ more) l = RepliesEnded l
+
+-- whether one of these has fewer octets than a header
+abbrev pub HasShort : List (List ℕ) → Type 0
+HasShort messages = list_all has_header messages ≡ false
+
+-- ---- parts of a transfer
+
+-- a primary's replies, given to the link
+pub record Serves (Sends : Option (List Sending) → Type 0) (old new : Option LinkLists) (answer : Result (Unit {0}) SyncError) : Type 0 where
+  pub sent : List (List ℕ)
+  pub link : LinkWentOn old new [] [] sent []
+  pub by : ServedBy Sends sent answer
+
+-- the same of a stream that gives these items
+pub record SendsItems (items : List Sending) (old new : Option LinkLists) (answer : Result (Unit {0}) SyncError) : Type 0 where
+  pub sent : List (List ℕ)
+  pub link : LinkWentOn old new [] [] sent []
+  pub by : SentOf items sent answer
+
+-- .. and so far: what is left goes on with what was sent
+pub record SentSoFar (items : List Sending) (Left : List Sending → Type 0) (old new : Option LinkLists) : Type 0 where
+  pub sent : List (List ℕ)
+  pub rest : List Sending
+  pub left : Left rest
+  pub link : LinkWentOn old new [] [] sent []
+  pub joined : sent_by items ≡ record { messages = sent ++ (sent_by rest).messages; fails = (sent_by rest).fails }
+
+-- no answer of a reply is one that comes before it
+abbrev pub ComesLater : Result SyncOk SyncError → Type 0
+ComesLater (Err (why.Request e)) = ⊥
+ComesLater (Err (why.Primary e)) = ⊥
+ComesLater answer = Unit {0}
+
+-- replies taken until the outcome is met
+pub record EndsSo (a : Asking) (old new : Option LinkLists) (before handles : List Commit) (s : Session) (answer : Result SyncOk SyncError) : Type 0 where
+  pub taken : List (List ℕ)
+  pub link : LinkWentOn old new [] [] [] taken
+  pub transfers : Transfers a taken before handles s answer
+  pub short : (e : ShortMessage) → answer ≡ Err (why.Short e) → HasShort taken
+  pub ended : answer ≡ Err why.Ended → RepliesEnded new
+  pub later : ComesLater answer
+
+-- .. and so far
+pub record TakenSoFar (a : Asking) (old new : Option LinkLists) (c : ClientState) (s : Session) (before handles : List Commit) (n : ℕ) : Type 0 where
+  pub taken : List (List ℕ)
+  pub count : length taken ≡ n
+  pub link : LinkWentOn old new [] [] [] taken
+  pub stands : Stands c s a taken before handles
+
+-- the answers of a transfer without a request: it can't be made, or the link refuses it
+abbrev pub ComesBefore : Result SyncOk SyncError → Type 0
+ComesBefore (Err (why.Request e)) = Unit {0}
+ComesBefore (Err why.LinkFault) = Unit {0}
+ComesBefore (Err why.Memory) = Unit {0}
+ComesBefore answer = ⊥
+
+-- What passed and what was done, from the request on, where a primary sends so.
+pub record SyncSays (Sends : List ℕ → Option (List Sending) → Type 0) (a : Asking) (longest : ℕ) (old new : Option LinkLists) (before handles : List Commit) (s : Session) (answer : Result SyncOk SyncError) : Type 0 where
+  pub asked : List (List ℕ)
+  pub heard : List (List ℕ)
+  pub sent : List (List ℕ)
+  pub replies : List (List ℕ)
+  pub link : LinkWentOn old new asked heard sent replies
+  -- the one request is the secondary's, signed
+  pub request : (asked ≡ asked_octets a ∷ []) ⊎ (ComesBefore answer × (asked ≡ []) × (heard ≡ []))
+  -- what it sent is the primary's answer to the request that it heard
+  pub served : IsServed Sends heard sent replies answer
+  pub transfers : Transfers a replies before handles s answer
+  -- the causes of what comes in place of a reply
+  pub too_long : (e : PushError) → answer ≡ Err (why.Request e) → (e ≡ ShortBuf) × (min longest 65535 < length (asked_octets a))
+  pub short : (e : ShortMessage) → answer ≡ Err (why.Short e) → HasShort heard ⊎ HasShort replies
+  pub ended : answer ≡ Err why.Ended → IsEnded heard new

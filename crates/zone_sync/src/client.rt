@@ -1,0 +1,335 @@
+//! The secondary's half of a transfer.
+ghost use Rattle.std.specs.Prelude.{◌≡◌, ◌≢◌, ◌≤◌, ◌<◌, ◌⊎◌, [], ℕ, Bool, false, List, min, length, IsSome, IfOk, IfErr, OnOk, OnErr, is_some, Some, None};
+ghost use Rattle.dns_wire.specs.Wire.{message_wire, same_question};
+ghost use Rattle.tsig_port.specs.States.{ClientStands};
+ghost use Rattle.zone_model.specs.Commits.{Commit};
+ghost use Rattle.zone_model.specs.Session.{rolled_back};
+ghost use Rattle.zone_model.specs.TransferText.{Axfr};
+ghost use Rattle.xfr_model.specs.Messages.{ReadMessage, type_of, message_of};
+ghost use Rattle.xfr_model.specs.Machine.{Place};
+ghost use Rattle.zone_model.specs.Updates.{Progress};
+ghost use Rattle.xfr_client.specs.Causes.{update_of};
+ghost use Rattle.zone_sync.specs.Modes.{mode_of};
+ghost use Rattle.zone_sync.specs.SoFar.{Asking, asked_octets, asked_mac, asked_id, asked_question, message_so_far, asking, asks_other, IsTooLong};
+ghost use Rattle.zone_sync.specs.Standing.{asking_of, Stands, TakesReply, ExchangeStands, IsUnderWay};
+ghost use Rattle.zone_sync.specs.Replies.{AnswersReply, AnswersRequest, IsAnswerTo, TestsReply, TakesMessage};
+ghost use Rattle.zone_sync.specs.Steps.{Ahead, TakesOne, TakesAll};
+
+use crate::outcome::{SyncError, SyncOk};
+use dns_name::{KeyName, Labelled, ParsedName, Rtype, ToName};
+use dns_rdata::ReadRecord;
+use dns_wire::{AdditionalBuilder, Header, MessageBuf, MessageBuilder, PushError, Question};
+use std::alloc::Global;
+use std::marker::Model;
+use tsig_port::{ClientSequence, Key, Time48, ValidationError};
+use xfr_client::{
+    XfrResponseInterpreter, XfrZoneUpdateIterator, ZoneUpdate, ZoneUpdater, protocol, update,
+};
+use zone_sessions::{ReadZone, WriteZone};
+
+/// What is asked for.
+#[derive(Clone, Copy, Debug, PartialEq, Eq)]
+pub enum XfrMode {
+    /// The whole zone (RFC 5936).
+    Axfr,
+}
+
+impl XfrMode {
+    /// The type of the question that asks for it.
+    fn qtype(self) -> Rtype
+        ensures { result ≡ type_of (mode_of self) }
+    {
+        match self {
+            XfrMode::Axfr => Rtype::AXFR,
+        }
+    }
+}
+
+/// A request that was made, and how far its replies have led.
+#[derive(Drop)]
+pub(crate) struct Exchange {
+    sequence: ClientSequence<Key>,
+    id: u16,
+    question: Question<KeyName>,
+    interpreter: XfrResponseInterpreter,
+    updater: ZoneUpdater,
+}
+
+/// A secondary in one transfer: it makes the request, and takes the replies one by one into a session, with which it is handed each
+/// of them. One client goes with one session, which nothing else edits meanwhile.
+#[derive(Drop)]
+pub struct XfrClient {
+    alloc: Global,
+    key: Key,
+    mode: XfrMode,
+    at: Time48,
+    exchange: Option<Exchange>,
+}
+
+impl Model for XfrClient {
+    ghost use Rattle.zone_sync.specs.Modes.{mode_of};
+    ghost use Rattle.zone_sync.specs.Standing.{ClientState};
+
+    ghost Value = { ClientState };
+
+    ghost view = { λ c. record { key = c.key; mode = mode_of c.mode; at = c.at; exchange = c.exchange } };
+}
+
+impl XfrClient {
+    /// A client that made no request yet. It signs, and checks signatures, at this moment.
+    pub fn new(alloc: Global, key: &Key, mode: XfrMode, at: Time48) -> XfrClient
+        ensures { result ≡ record { key = key.now; mode = mode_of mode; at = at; exchange = None } }
+    {
+        XfrClient {
+            alloc,
+            key: key.duplicate(),
+            mode,
+            at,
+            exchange: None,
+        }
+    }
+
+    /// Whether a request was made, and neither an outcome nor a refusal came since.
+    pub fn is_open(&self) -> bool
+        ensures { result ≡ is_some self.now.exchange }
+    {
+        self.exchange.is_some()
+    }
+
+    /// Drops what is pending, and makes the signed request: the id is the low 16 bits of the moment, all flags are 0, and the
+    /// question is the zone's apex (RFC 5936, 2.1). `Request(ShortBuf)` where it has more octets than these or than a message.
+    pub fn request(
+        &mut self,
+        session: &mut WriteZone<'_>,
+        max_len: usize,
+    ) -> Result<MessageBuf, SyncError>
+        ensures ok { IfOk result (λ m. (m ≡ asked_octets (asking_of self.old session.old.current)) × (length m ≤ min max_len 65535)) }
+        // The client stands for no reply yet.
+        ensures begun { OnOk result ((handles : List Commit) → Stands self.new session.new (asking_of self.old session.old.current) [] handles handles) }
+        ensures refused { IfErr result (λ e. IsTooLong (min max_len 65535) (asked_octets (asking_of self.old session.old.current)) e) }
+        // Nothing is pending, and the current version stays.
+        ensures session { session.new ≡ record (rolled_back session.old) { has_handle = session.new.has_handle } }
+        ensures closed { OnErr result (self.new.exchange ≡ None) }
+        ensures asks { asking_of self.new session.new.current ≡ asking_of self.old session.old.current }
+    {
+        self.exchange = None;
+        session.rollback();
+        let zone = session.handle()?;
+        // For the proof: a version's number has 64 bits.
+        let _number = zone.version();
+        let question = self.question_of(&zone);
+        let id = (u64::from(self.at) % 65_536) as u16;
+        let mut items = ask(self.alloc, id, &question)?;
+        let sequence = ClientSequence::request(self.key.duplicate(), &mut items, self.at)?;
+        let message = items.finish();
+        if message.as_slice().len() > max_len {
+            return Err(SyncError::Request(PushError::ShortBuf));
+        }
+        self.exchange = Some(Exchange {
+            sequence,
+            id,
+            question,
+            interpreter: XfrResponseInterpreter::new(),
+            updater: ZoneUpdater::new(self.alloc),
+        });
+        Ok(message)
+    }
+
+    /// The question that asks for a zone.
+    fn question_of(&self, zone: &ReadZone) -> Question<KeyName>
+        ensures { result ≡ record { qname = zone.now.version.apex; qtype = type_of self.now.mode; qclass = zone.now.version.class } }
+    {
+        Question::new(
+            zone.apex_name().to_key_name(),
+            self.mode.qtype(),
+            zone.class(),
+        )
+    }
+
+    /// Takes a reply: checks its signature, and applies the updates that it says. The outcome, where the transfer ends with it, is
+    /// told, and so is a refusal; after either the client isn't open and nothing is pending. Each version that is committed gives
+    /// a handle at the end of `made`. Nothing waits, so nothing is asked of `rt`.
+    pub fn take<R>(
+        &mut self,
+        rt: &R,
+        session: &mut WriteZone<'_>,
+        octets: Vec<u8>,
+        made: &mut Vec<ReadZone>,
+    ) -> Result<Option<SyncOk>, SyncError>
+        requires { IsSome self.old.exchange }
+        ensures takes { (base : Commit) (taken : List (List ℕ)) (before : List Commit) → Stands self.old session.old (asking_of self.old base) taken before made.old.items
+            → TakesReply (asking_of self.old base) self.new session.new before made.new.items taken octets.items result }
+        ensures asks { (base : Commit) → asking_of self.new base ≡ asking_of self.old base }
+        ensures closed { result ≢ Ok None → self.new.exchange ≡ None }
+        ensures open { result ≡ Ok None → IsSome self.new.exchange }
+        ensures pending { result ≢ Ok None → session.new.pending ≡ session.new.current.version }
+        // .. and no difference is wanted of the next commit.
+        ensures wish { result ≢ Ok None → session.new.compares ≡ false }
+    {
+        let Some(mut exchange) = self.exchange.take() else {
+            unreachable!()
+        };
+        match exchange.take(rt, session, octets, self.at, made) {
+            Ok(None) => {
+                self.exchange = Some(exchange);
+                Ok(None)
+            }
+            Ok(Some(outcome)) => {
+                session.rollback();
+                Ok(Some(outcome))
+            }
+            Err(error) => {
+                session.rollback();
+                Err(error)
+            }
+        }
+    }
+}
+
+impl Exchange {
+    /// Takes a reply: its signature, its tests and its updates.
+    fn take<R>(
+        &mut self,
+        rt: &R,
+        session: &mut WriteZone<'_>,
+        octets: Vec<u8>,
+        at: Time48,
+        made: &mut Vec<ReadZone>,
+    ) -> Result<Option<SyncOk>, SyncError>
+        ensures { (a : Asking) (taken : List (List ℕ)) (before : List Commit) → a.at ≡ at → a.mode ≡ Axfr → ExchangeStands self.old session.old a taken before made.old.items
+            → TakesMessage a self.new session.new before made.new.items taken octets.items result }
+    {
+        let message = self.checked(octets, at)?;
+        let updates = self.read(&message)?;
+        apply_all(rt, session, &mut self.updater, updates, made)?;
+        if self.interpreter.is_finished() {
+            Ok(Some(SyncOk::Updated))
+        } else {
+            Ok(None)
+        }
+    }
+
+    /// A reply that has a header, and whose signature passes the tests after those taken before; it loses its TSIG. An unsigned one
+    /// is refused, though the sequence takes it: a transfer's replies are each to be covered as they are applied (RFC 8945, 5.3.1).
+    fn checked(&mut self, octets: Vec<u8>, at: Time48) -> Result<MessageBuf, SyncError>
+        ensures answers { (a : Asking) (taken : List (List ℕ)) → a.at ≡ at → self.old.sequence.key ≡ a.key → ClientStands (λ k. k) self.old.sequence (asked_mac a) taken
+            → AnswersReply a taken octets.items self.new.sequence result }
+        ensures others { self.new ≡ record self.old { sequence = self.new.sequence } }
+    {
+        let mut message = MessageBuf::from_octets(octets)?;
+        self.sequence.answer(&mut message, at)?;
+        if self.sequence.unsigned() > 0 {
+            return Err(SyncError::Tsig(ValidationError::TooManyUnsigned));
+        }
+        Ok(message)
+    }
+
+    /// What a checked reply says, where it answers the request and is one of a transfer.
+    fn read<'m>(&mut self, message: &'m MessageBuf) -> Result<XfrZoneUpdateIterator<'m>, SyncError>
+        ensures tests { (a : Asking) (begun : Bool) (place : Place) → a.mode ≡ Axfr → self.old.id ≡ asked_id a → self.old.question ≡ asked_question a
+            → self.old.interpreter ≡ record { begun = begun; place = place; signalled = false } → IsUnderWay begun place
+            → TestsReply a begun place (message_so_far message.now) self.new.interpreter result }
+        ensures others { self.new ≡ record self.old { interpreter = self.new.interpreter } }
+    {
+        self.answers(message)?;
+        Ok(self.interpreter.interpret_response(message)?)
+    }
+
+    /// Tests that a reply has the request's id, and the request's question where it has one (RFC 5936, 2.2.1 and 2.2.2), and that
+    /// it still parses: a name in it may have pointed into the header.
+    fn answers(&self, message: &MessageBuf) -> Result<(), SyncError>
+        ensures { (a : Asking) → self.now.id ≡ asked_id a → self.now.question ≡ asked_question a → AnswersRequest a (message_so_far message.now) message.now result }
+    {
+        if message.header().id != self.id {
+            return Err(SyncError::OtherAnswer);
+        }
+        match message.end() {
+            Err(_) => Err(SyncError::Xfr(protocol::Error::NotValidXfrResponse)),
+            Ok(_) => self.questions_answer(message),
+        }
+    }
+
+    /// Tests that a reply that parses has the request's question where it has one.
+    fn questions_answer(&self, message: &MessageBuf) -> Result<(), SyncError>
+        ensures { (m : ReadMessage) → message_of message.now ≡ Some m → IsAnswerTo (asks_other self.now.question m.questions) result }
+    {
+        if self.asks_else(message) {
+            return Err(SyncError::OtherAnswer);
+        }
+        Ok(())
+    }
+
+    /// Whether a reply has one question, which isn't the request's.
+    fn asks_else(&self, message: &MessageBuf) -> bool
+        ensures { (m : ReadMessage) → message_of message.now ≡ Some m → result ≡ asks_other self.now.question m.questions }
+    {
+        match message.sole_question() {
+            Ok(question) => !self.is_asked(&question),
+            Err(_) => false,
+        }
+    }
+
+    /// Whether a question is the request's.
+    fn is_asked(&self, question: &Question<ParsedName<'_>>) -> bool
+        ensures { result ≡ same_question self.now.question question.now }
+    {
+        self.question.qname().name_eq(question.qname())
+            && self.question.qtype() == question.qtype()
+            && self.question.qclass() == question.qclass()
+    }
+}
+
+/// The question of a request, unsigned yet.
+fn ask(alloc: Global, id: u16, question: &Question<KeyName>) -> Result<AdditionalBuilder, SyncError>
+    ensures ok { IfOk result (λ b. b ≡ record { octets = message_wire (asking id question.now); limit = 65535 }) }
+    ensures refused { IfErr result (λ e. IsTooLong 65535 (message_wire (asking id question.now)) e) }
+{
+    let mut builder = MessageBuilder::new(alloc)?;
+    builder.set_header(Header::new(id));
+    let mut questions = builder.question();
+    questions.push(question)?;
+    Ok(questions.answer().authority().additional())
+}
+
+/// Applies the updates of one message in order, and adds a handle for each version that they commit.
+fn apply_all<R>(
+    rt: &R,
+    session: &mut WriteZone<'_>,
+    updater: &mut ZoneUpdater,
+    mut updates: XfrZoneUpdateIterator<'_>,
+    made: &mut Vec<ReadZone>,
+) -> Result<(), SyncError>
+    ensures { (base : Commit) (before : List Commit) (g : Progress) → updates.entry.retry ≡ false → Ahead base before updater.old session.old made.old.items g
+        → TakesAll base before updater.new session.new made.new.items g updates.entry result }
+{
+    'updates: while let Some(update) = updates.next_update() {
+        apply_one(rt, session, updater, update?, made)?;
+    }
+    Ok(())
+}
+
+/// Applies one update, and adds a handle for the version that it commits, for which there is room beforehand.
+fn apply_one<R>(
+    rt: &R,
+    session: &mut WriteZone<'_>,
+    updater: &mut ZoneUpdater,
+    update: ZoneUpdate<ReadRecord<'_>>,
+    made: &mut Vec<ReadZone>,
+) -> Result<(), update::Error>
+    ensures { (base : Commit) (before : List Commit) (g : Progress) → Ahead base before updater.old session.old made.old.items g
+        → TakesOne base before updater.new session.new made.new.items g (update_of update.entry) result }
+{
+    if made.reserve(1).is_err() {
+        drop(update);
+        return Err(update::Error::Memory);
+    }
+    if updater.apply(rt, session, update)? {
+        let Ok(handle) = session.handle() else {
+            unreachable!()
+        };
+        let Ok(()) = made.push(handle) else {
+            unreachable!()
+        };
+    }
+    Ok(())
+}

@@ -1,0 +1,161 @@
+//! A transfer whole: both halves, and the link between them.
+ghost use Rattle.std.specs.Prelude.{◌≡◌, ◌≢◌, ◌⊎◌, [], ◌∷◌, ℕ, List, false, IsSome, IsOk, IfOk, OnOk, OnErr, option_map};
+ghost use Rattle.zone_model.specs.Commits.{Commit};
+ghost use Rattle.zone_devices.specs.Calls.{Rose};
+ghost use Rattle.zone_sync.specs.Modes.{mode_of};
+ghost use Rattle.zone_sync.specs.SoFar.{Asking, asks_with};
+ghost use Rattle.zone_sync.specs.Standing.{asking_of, Stands};
+ghost use Rattle.zone_sync.specs.Transfers.{SyncSays, EndsSo, Serves, SendsItems};
+ghost use Rattle.xfr_server.specs.Items.{Sending};
+ghost use Rattle.zone_sync.specs.Serving.{request_at};
+ghost use Rattle.zone_sync.specs.Delivery.{Synchronizes};
+
+use crate::client::{XfrClient, XfrMode};
+use crate::outcome::{SyncError, SyncOk};
+use dns_wire::MessageBuf;
+use std::alloc::Global;
+use tsig_port::{Key, Time48};
+use xfr_server::{ReplyStream, Request, Service, TransportSpecificContext};
+use zone_devices::links::Link;
+use zone_sessions::{ReadZone, WriteZone};
+
+/// How many replies a secondary takes in one transfer.
+pub const MOST_REPLIES: u32 = 65_536;
+
+/// The two ends of a transfer, as both of them know it.
+#[derive(Clone, Copy)]
+pub struct Moments {
+    /// When the primary is asked.
+    pub at_primary: Time48,
+    /// When the secondary signs its request and checks the replies.
+    pub at_secondary: Time48,
+}
+
+/// Brings a secondary's zone up to date with a primary's, over a link: what was pending is dropped, the request goes to the
+/// primary, and its replies come back, each checked and applied before the next. `made` gains a handle of each version
+/// that is committed, as they come, whatever the answer is; nothing is pending afterwards. Nothing waits, so nothing is asked of `rt`.
+pub fn sync_zone<R, P: Service<()>, L: Link>(
+    rt: &R,
+    alloc: Global,
+    primary: &P,
+    session: &mut WriteZone<'_>,
+    key: &Key,
+    mode: XfrMode,
+    link: &mut L,
+    moments: Moments,
+    made: &mut Vec<ReadZone>,
+) -> Result<SyncOk, SyncError>
+    // Whatever octets the link hands back, exactly the versions that the checked text spells are committed, in order, and the
+    // answer is the outcome. The primary is asked what the link hands it, and the link is given its replies. Nothing is pending
+    // afterwards. Over an honest link to a primary that grants a version, the answer is Ok or want of memory, and after Ok that
+    // version is current.
+    ensures headline { Synchronizes (λ m. P.Sends primary.now (request_at m moments.at_primary)) (asks_with key.now (mode_of mode) moments.at_secondary session.old.current)
+        moments.at_primary (L.longest link.old) (L.lists link.old) (L.lists link.new) (L.faults link.old) (L.faults link.new) made.old.items made.new.items session.new result }
+    // No difference is wanted of the next commit.
+    ensures wish { session.new.compares ≡ false }
+    // The causes by the link.
+    ensures failed { result ≡ Err SyncError.LinkFault → Rose (L.faults link.old) (L.faults link.new) }
+    ensures steady { result ≢ Err SyncError.LinkFault → L.faults link.new ≡ L.faults link.old }
+{
+    let mut client = XfrClient::new(alloc, key, mode, moments.at_secondary);
+    let outcome = exchange(
+        rt,
+        alloc,
+        primary,
+        &mut client,
+        session,
+        link,
+        moments.at_primary,
+        made,
+    );
+    session.rollback();
+    outcome
+}
+
+/// The request, the primary's replies, and what the secondary makes of them.
+fn exchange<R, P: Service<()>, L: Link>(
+    rt: &R,
+    alloc: Global,
+    primary: &P,
+    client: &mut XfrClient,
+    session: &mut WriteZone<'_>,
+    link: &mut L,
+    at_primary: Time48,
+    made: &mut Vec<ReadZone>,
+) -> Result<SyncOk, SyncError>
+    ensures says { SyncSays (λ m. P.Sends primary.now (request_at m at_primary)) (asking_of client.old session.old.current) (L.longest link.old) (L.lists link.old) (L.lists link.new) made.old.items made.new.items session.new result }
+    ensures failed { result ≡ Err SyncError.LinkFault → Rose (L.faults link.old) (L.faults link.new) }
+    ensures steady { result ≢ Err SyncError.LinkFault → L.faults link.new ≡ L.faults link.old }
+{
+    let request = client.request(session, link.max_len())?;
+    link.send_request(request.as_slice())?;
+    let Some(asked) = link.take_request()? else {
+        return Err(SyncError::Ended);
+    };
+    serve(
+        alloc,
+        primary,
+        MessageBuf::from_octets(asked)?,
+        link,
+        at_primary,
+    )?;
+    take_replies(rt, client, session, link, made)
+}
+
+/// Has a primary reply to a request, and gives its replies to the link.
+fn serve<P: Service<()>, L: Link>(
+    alloc: Global,
+    primary: &P,
+    message: MessageBuf,
+    link: &mut L,
+    at: Time48,
+) -> Result<(), SyncError>
+    ensures served { Serves (P.Sends primary.now (request_at message at)) (L.lists link.old) (L.lists link.new) result }
+    ensures failed { result ≡ Err SyncError.LinkFault → Rose (L.faults link.old) (L.faults link.new) }
+    ensures steady { result ≢ Err SyncError.LinkFault → L.faults link.new ≡ L.faults link.old }
+{
+    let request = Request::new(message, TransportSpecificContext::NonUdp, at, ());
+    let replies = primary.call(alloc, request)?;
+    send_replies(replies, link)
+}
+
+/// Gives all replies of a stream to a link.
+fn send_replies<S: ReplyStream, L: Link>(replies: S, link: &mut L) -> Result<(), SyncError>
+    ensures served { (items : List Sending) → S.LeftOf replies items → SendsItems items (L.lists link.old) (L.lists link.new) result }
+    ensures failed { result ≡ Err SyncError.LinkFault → Rose (L.faults link.old) (L.faults link.new) }
+    ensures steady { result ≢ Err SyncError.LinkFault → L.faults link.new ≡ L.faults link.old }
+{
+    let mut replies = replies;
+    'replies: while let Some(item) = replies.next_item() {
+        if let Some(reply) = item?.into_response() {
+            link.send_reply(reply.finish().as_slice())?;
+        }
+    }
+    Ok(())
+}
+
+/// Takes replies until the outcome is met.
+fn take_replies<R, L: Link>(
+    rt: &R,
+    client: &mut XfrClient,
+    session: &mut WriteZone<'_>,
+    link: &mut L,
+    made: &mut Vec<ReadZone>,
+) -> Result<SyncOk, SyncError>
+    requires { IsSome client.old.exchange }
+    ensures ends { (a : Asking) (before : List Commit) → Stands client.old session.old a [] before made.old.items → EndsSo a (L.lists link.old) (L.lists link.new) before made.new.items session.new result }
+    ensures failed { (a : Asking) (before : List Commit) → Stands client.old session.old a [] before made.old.items → result ≡ Err SyncError.LinkFault → Rose (L.faults link.old) (L.faults link.new) }
+    ensures steady { result ≢ Err SyncError.LinkFault → L.faults link.new ≡ L.faults link.old }
+{
+    let mut count = 0u32;
+    'taking: while count < MOST_REPLIES {
+        count += 1;
+        let Some(reply) = link.take_reply()? else {
+            return Err(SyncError::Ended);
+        };
+        if let Some(outcome) = client.take(rt, session, reply, made)? {
+            return Ok(outcome);
+        }
+    }
+    Err(SyncError::TooManyMessages)
+}
