@@ -1,9 +1,9 @@
 // Messages read: octets that aren't messages, sections and where they end.
 
 use crate::common::{composed, prints};
-use dns_message::{Message, MessageBuf, RecordSection, ShortMessage};
 use dns_name::{Rcode, Rtype};
 use dns_rdata::ParsedRecord;
+use dns_wire::{Message, MessageBuf, RecordSection, ShortMessage};
 use std::alloc::Global;
 use std::process::Abort;
 

@@ -2,7 +2,7 @@
 
 use crate::common::prints;
 use dns_name::Rtype;
-use rdata_octets::{Ds, LongRecordData, RecordData, Txt, TxtAppendError, UnknownRecordData};
+use dns_rdata::{Ds, LongRecordData, RecordData, Txt, TxtAppendError, UnknownRecordData};
 
 #[test]
 fn text_of_300_octets_has_two_strings(rt: HostRuntime) {

@@ -6,7 +6,7 @@ use std::alloc::Global;
 use std::fmt;
 use std::process::Abort;
 use tsig_port::{Algorithm, Key};
-use zone_sessions::ZoneApex;
+use zone_store::ZoneApex;
 
 /// `example.`
 pub(crate) const EXAMPLE: &[u8] = b"\x07example\0";

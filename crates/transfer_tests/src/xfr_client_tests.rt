@@ -7,7 +7,7 @@ use std::alloc::Global;
 use std::process::Abort;
 use xfr_client::protocol::{Error, IterationError};
 use xfr_client::{XfrResponseInterpreter, XfrZoneUpdateIterator, ZoneUpdater, update};
-use zone_sessions::{ReadZone, WriteZone};
+use zone_store::{ReadZone, WriteZone};
 
 /// `example.` in class IN, asked for as a whole.
 const QUESTION: &str = "076578616d706c650000fc0001";

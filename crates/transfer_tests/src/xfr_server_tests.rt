@@ -14,9 +14,10 @@ use xfr_server::{
     ServiceError, ServiceFeedback, TransportSpecificContext, TsigMiddlewareSvc,
     XfrDataProviderError, XfrMiddlewareSvc,
 };
-use zone_sessions::{ReadZone, WriteZone};
+use zone_store::{ReadZone, WriteZone};
 
-type Primary = PrimaryStack<RefuseSvc, HistoryProvider, Key>;
+/// The services of a primary whose provider has the zone's history.
+pub(crate) type Primary = PrimaryStack<RefuseSvc, HistoryProvider, Key>;
 
 fn new_record<R: Abort>(
     rt: &R,
@@ -74,7 +75,8 @@ fn example_zone<R: Abort>(rt: &R, alloc: Global) -> ReadZone {
     version
 }
 
-fn primary<R: Abort>(rt: &R, alloc: Global, grants: bool) -> Primary {
+/// A primary of the zone `example.`, which grants it to the key or to none.
+pub(crate) fn primary<R: Abort>(rt: &R, alloc: Global, grants: bool) -> Primary {
     let mut provider = HistoryProvider::new(alloc, example_zone(rt, alloc));
     let key = shared_key(rt, KEY);
     if grants {
@@ -95,7 +97,8 @@ fn axfr_question<R: Abort>(rt: &R, alloc: Global, class: Class) -> AdditionalBui
     section.additional()
 }
 
-fn at() -> Time48 {
+/// The moment of all requests.
+pub(crate) fn at() -> Time48 {
     Time48::from_u64(1000)
 }
 

@@ -16,7 +16,7 @@ use xfr_client::{protocol, update};
 use xfr_server::{
     CallResult, Replies, Request, Service, ServiceError, ServiceFeedback, TsigMiddlewareSvc,
 };
-use zone_sessions::{ReadZone, WalkItem, WriteZone};
+use zone_store::{ReadZone, WalkItem, WriteZone};
 use zone_transfer::client::XfrMode;
 use zone_transfer::memory_link::MemoryLink;
 use zone_transfer::outcome::{SyncError, SyncOk};

@@ -8,7 +8,7 @@ use std::collections::HashMap;
 use std::process::Abort;
 use std::str::FromStr;
 use std::sync::Arc;
-use tsig_keys::{
+use tsig_port::{
     Algorithm, AlgorithmError, FromRng, GenerateKeyError, Key, KeySource, KeyStore, Mac,
     MemoryKeySource, NewKeyError,
 };

@@ -4,7 +4,7 @@ use dns_name::KeyName;
 use std::cmp::Ordering;
 use std::hash::{DefaultHasher, Hash, Hasher};
 use std::process::Abort;
-use tsig_rdata::{Time48, Tsig};
+use tsig_port::{Time48, Tsig};
 
 /// Fudge, original id and error of a request.
 const REQUEST: [u16; 3] = [300, 7, 0];
