@@ -4,9 +4,16 @@ use bytes::Bytes;
 use dns_name::{Labelled, Name, NameRef, StoredName};
 use dns_rdata::{ComposeRecord, ParsedRecord, ReadRecord, record_from_octets};
 use std::alloc::Global;
-use std::fmt;
+use std::fmt::{self, Debug};
 use std::hash::{DefaultHasher, Hash, Hasher};
 use std::process::Abort;
+
+/// Asserts that a value is the one that is wanted. A call of this is proved sooner than an `assert_eq!`.
+pub(crate) fn is<R: Abort, T: PartialEq + Debug + Drop>(rt: &R, found: T, wanted: T) {
+    assert_eq!(rt; found, wanted);
+    drop(wanted);
+    drop(found);
+}
 
 /// The octets that pairs of hexadecimal digits say.
 pub fn octets<R: Abort>(rt: &R, alloc: Global, digits: &str) -> Vec<u8> {
@@ -27,7 +34,8 @@ pub fn hash_of<T: Hash>(value: &T) -> u64 {
 /// Asserts what a value prints.
 pub fn prints<R: Abort, T: fmt::Display>(rt: &R, alloc: Global, value: &T, wanted: &str) {
     let text = value.to_string(alloc).expect(rt, "memory");
-    assert_eq!(rt; text.as_str(), wanted);
+    is(rt, text.as_str(), wanted);
+    drop(text);
 }
 
 pub fn name<'o, R: Abort>(rt: &R, octets: &'o [u8]) -> NameRef<'o> {
@@ -82,8 +90,19 @@ pub fn reads_back<R: Abort>(rt: &R, alloc: Global, octets: &[u8]) {
     let again = stored.clone().expect(rt, "memory");
     let mut out = Vec::new(alloc);
     again.compose_record(&mut out).expect(rt, "memory");
-    assert_eq!(rt; out.as_slice(), octets);
+    is(rt, out.as_slice(), octets);
+    drop(out);
     drop(again);
     drop(stored);
     drop(read);
+}
+
+/// Asserts that the values stand in ascending order, each equal to itself alone.
+pub fn are_ascending<R: Abort, T: Ord + Drop>(rt: &R, values: Vec<T>) {
+    for (i, a) in values.iter().enumerate() {
+        for (j, b) in values.iter().enumerate() {
+            assert!(rt; a.cmp(b) == i.cmp(&j), "at {i} and {j}");
+        }
+    }
+    drop(values);
 }

@@ -1,9 +1,7 @@
 // Each kind of call once.
 
-use crate::common::{hash_of, prints};
+use crate::common::{are_ascending, hash_of, is, prints};
 use dns_name::{Label, NameError, OwnedLabel, ParseError};
-use std::cmp::Ordering;
-use std::process::Abort;
 
 #[test]
 fn labels(rt: HostRuntime) {
@@ -20,7 +18,7 @@ fn labels(rt: HostRuntime) {
         Label::root().is_root(),
         Label::wildcard().is_wildcard(),
     ];
-    assert_eq!(rt; truths, [true; 8]);
+    is(&rt, truths, [true; 8]);
 }
 
 #[test]
@@ -41,19 +39,14 @@ fn labels_in_place(rt: HostRuntime) {
         OwnedLabel::wildcard().is_wildcard(),
         !OwnedLabel::wildcard().is_root(),
     ];
-    assert_eq!(rt; truths, [true; 10]);
-}
-
-fn order_of<R: Abort>(rt: &R, a: &[u8], b: &[u8]) -> Ordering {
-    let a = OwnedLabel::from_slice(a).expect(rt, "a label");
-    let b = OwnedLabel::from_slice(b).expect(rt, "a label");
-    a.cmp(&b)
+    is(&rt, truths, [true; 10]);
 }
 
 /// Labels in ascending order, without case; the octets after `Z` in ASCII stay where they are.
 #[test]
 fn order(rt: HostRuntime) {
-    let labels = [
+    let mut labels = Vec::new(rt.alloc());
+    for octets in [
         b"".as_slice(),
         b"*".as_slice(),
         b"[".as_slice(),
@@ -64,13 +57,11 @@ fn order(rt: HostRuntime) {
         b"Z".as_slice(),
         b"{".as_slice(),
         b"\xc8".as_slice(),
-    ];
-    for (i, a) in labels.iter().enumerate() {
-        for (j, b) in labels.iter().enumerate() {
-            let order = order_of(&rt, *a, *b);
-            assert!(rt; order == i.cmp(&j), "at {i} and {j}");
-        }
+    ] {
+        let label = OwnedLabel::from_slice(octets).expect(&rt, "a label");
+        labels.push(label).expect(&rt, "memory");
     }
+    are_ascending(&rt, labels);
 }
 
 #[test]
@@ -80,5 +71,5 @@ fn texts(rt: HostRuntime) {
     prints(&rt, rt.alloc(), &label, text);
     prints(&rt, rt.alloc(), &OwnedLabel::from_label(&label), text);
     prints(&rt, rt.alloc(), &NameError, "not a domain name");
-    assert_eq!(rt; ParseError::from(NameError), ParseError);
+    is(&rt, ParseError::from(NameError), ParseError);
 }

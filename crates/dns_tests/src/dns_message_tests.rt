@@ -1,9 +1,9 @@
 // Messages read: octets that aren't messages, sections and where they end.
 
-use crate::common::{composed, prints};
-use dns_message::{Message, MessageBuf, RecordSection, ShortMessage};
+use crate::common::{composed, is, prints};
 use dns_name::{Rcode, Rtype};
 use dns_rdata::ParsedRecord;
+use dns_wire::{Message, MessageBuf, RecordSection, ShortMessage};
 use std::alloc::Global;
 use std::process::Abort;
 
@@ -23,7 +23,7 @@ fn eleven_octets(rt: HostRuntime) {
         Message::from_octets(&[0; 12]).is_ok(),
         MessageBuf::from_octets(octets).is_err(),
     ];
-    assert_eq!(rt; truths, [true; 3]);
+    is(&rt, truths, [true; 3]);
     prints(&rt, rt.alloc(), &ShortMessage, "fewer than 12 octets");
 }
 
@@ -52,7 +52,7 @@ fn sections_end_at_an_error(rt: HostRuntime) {
         message.sole_question().is_err(),
         message.as_message().question().count() == 0,
     ];
-    assert_eq!(rt; truths, [true; 6]);
+    is(&rt, truths, [true; 6]);
     drop(message);
 }
 
@@ -68,7 +68,7 @@ fn owner_points_to_the_question(rt: HostRuntime) {
     let mut section = message.answer().expect(&rt, "a section");
     let record = next(&rt, &mut section);
     let spelled = composed(&rt, rt.alloc(), &record.owner());
-    assert_eq!(rt; spelled.as_slice(), b"\x01e\x00".as_slice());
+    is(&rt, spelled.as_slice(), b"\x01e\x00".as_slice());
     drop(message);
 }
 
@@ -77,7 +77,7 @@ fn octets_behind_are_unread(rt: HostRuntime) {
     let message = message(&rt, rt.alloc(), COMPRESSED);
     let end = message.end().expect(&rt, "a message");
     let found = (message.as_slice().len(), end);
-    assert_eq!(rt; found, (37, 35));
+    is(&rt, found, (37, 35));
     drop(message);
 }
 
@@ -94,6 +94,6 @@ fn header_written_over(rt: HostRuntime) {
     header.rcode = Rcode::REFUSED;
     message.set_header(header);
     let due = *b"\x03\xe8\x81\x25\x00\x00\x00\x00\x00\x00\x00\x01\xff";
-    assert_eq!(rt; message.as_slice(), due.as_slice());
+    is(&rt, message.as_slice(), due.as_slice());
     drop(message);
 }

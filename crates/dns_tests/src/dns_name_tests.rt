@@ -1,9 +1,8 @@
 // Vectors from outside, and each kind of call once.
 
-use crate::common::{composed, hash_of, prints, stored};
+use crate::common::{are_ascending, composed, hash_of, is, prints, stored};
 use dns_name::{KeyName, Labelled, NameRef, ParsedName, StoredName, ToName};
 use std::alloc::Global;
-use std::cmp::Ordering;
 use std::process::Abort;
 
 const EXAMPLE: &[u8] = b"\x07example\0";
@@ -15,7 +14,7 @@ const NS_EXAMPLE: &[u8] = b"\x02ns\x07example\0";
 fn names_in_wire_form(rt: HostRuntime) {
     let name = stored(&rt, rt.alloc(), NS_EXAMPLE);
     let out = composed(&rt, rt.alloc(), &name);
-    assert_eq!(rt; out.as_slice(), NS_EXAMPLE);
+    is(&rt, out.as_slice(), NS_EXAMPLE);
     let copy = name.clone().expect(&rt, "memory");
     let again = copy.to_stored(rt.alloc()).expect(&rt, "memory");
     let found = (
@@ -23,7 +22,7 @@ fn names_in_wire_form(rt: HostRuntime) {
         name.iter_labels().count(),
         again == name,
     );
-    assert_eq!(rt; found, (12, 2, true));
+    is(&rt, found, (12, 2, true));
     drop(again);
     drop(copy);
     drop(name);
@@ -40,7 +39,7 @@ fn names_without_case(rt: HostRuntime) {
         lower.as_slice() == EXAMPLE,
         hash_of(&apex) == hash_of(&lower),
     ];
-    assert_eq!(rt; truths, [true; 4]);
+    is(&rt, truths, [true; 4]);
     drop(apex);
     drop(name);
 }
@@ -77,8 +76,8 @@ fn name_at<R: Abort>(rt: &R, place: usize) -> ParsedName<'static> {
 fn stands_at<R: Abort>(rt: &R, place: usize, want: &[u8], end: usize) {
     let (name, after) = ParsedName::parse(MESSAGE, place).expect(rt, "a name");
     let key = name.duplicate().to_key_name();
-    assert_eq!(rt; key.as_slice(), want);
-    assert_eq!(rt; after, end);
+    is(rt, key.as_slice(), want);
+    is(rt, after, end);
 }
 
 #[test]
@@ -99,7 +98,7 @@ fn pointers_that_lead_nowhere(rt: HostRuntime) {
         ParsedName::parse(to_itself, 12).is_err(),
         ParsedName::parse(to_itself, usize::MAX).is_err(),
     ];
-    assert_eq!(rt; refused, [true; 3]);
+    is(&rt, refused, [true; 3]);
 }
 
 #[test]
@@ -112,7 +111,7 @@ fn flattened(rt: HostRuntime) {
         hash_of(&question) == hash_of(&question.to_canonical()),
         flat.as_slice() == NS_EXAMPLE,
     ];
-    assert_eq!(rt; truths, [true; 3]);
+    is(&rt, truths, [true; 3]);
     drop(flat);
 }
 
@@ -128,22 +127,14 @@ fn labels_in_a_message(rt: HostRuntime) {
         second.as_slice() == b"example".as_slice(),
         labels.next().is_none(),
     ];
-    assert_eq!(rt; truths, [true; 3]);
-}
-
-fn order_of<R: Abort>(rt: &R, alloc: Global, a: &[u8], b: &[u8]) -> Ordering {
-    let a = stored(rt, alloc, a);
-    let b = stored(rt, alloc, b);
-    let order = a.cmp(&b);
-    drop(a);
-    drop(b);
-    order
+    is(&rt, truths, [true; 3]);
 }
 
 /// The order of RFC 4034, 6.1.
 #[test]
 fn canonical_order(rt: HostRuntime) {
-    let names = [
+    let mut names = Vec::new(rt.alloc());
+    for octets in [
         b"\x07example\0".as_slice(),
         b"\x01a\x07example\0".as_slice(),
         b"\x08yljkjljk\x01a\x07example\0".as_slice(),
@@ -153,13 +144,11 @@ fn canonical_order(rt: HostRuntime) {
         b"\x01\x01\x01z\x07example\0".as_slice(),
         b"\x01*\x01z\x07example\0".as_slice(),
         b"\x01\xc8\x01z\x07example\0".as_slice(),
-    ];
-    for (i, a) in names.iter().enumerate() {
-        for (j, b) in names.iter().enumerate() {
-            let order = order_of(&rt, rt.alloc(), *a, *b);
-            assert!(rt; order == i.cmp(&j), "at {i} and {j}");
-        }
+    ] {
+        let name = stored(&rt, rt.alloc(), octets);
+        names.push(name).expect(&rt, "memory");
     }
+    are_ascending(&rt, names);
 }
 
 /// Asserts what a name of these octets prints.

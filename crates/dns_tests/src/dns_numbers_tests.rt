@@ -1,6 +1,6 @@
 // Vectors from outside, and each kind of call once.
 
-use crate::common::prints;
+use crate::common::{is, prints};
 use dns_name::{
     Class, Opcode, ParseError, Rcode, Rtype, Serial, TsigRcode, Ttl, parse_octets, parse_u16,
     parse_u32, parse_u48,
@@ -152,7 +152,7 @@ fn named_numbers(rt: HostRuntime) {
     push_types(&rt, &mut out, [Rtype::from_int(65280)].as_slice());
     push_line(&rt, &mut out, Ttl::ZERO.to_int(), &Ttl::ZERO);
     push_line(&rt, &mut out, 3600, &Ttl::from_int(3600));
-    assert_eq!(rt; out.as_str(), NUMBERS);
+    is(&rt, out.as_str(), NUMBERS);
 }
 
 #[test]
@@ -185,9 +185,9 @@ fn serials(rt: HostRuntime) {
         Some(Ordering::Greater),
         Some(Ordering::Equal),
     ];
-    assert_eq!(rt; orders, wanted);
+    is(&rt, orders, wanted);
     let next = Serial::from(u32::MAX).add(2).into_int();
-    assert_eq!(rt; next, 1);
+    is(&rt, next, 1);
 }
 
 #[test]
@@ -205,8 +205,8 @@ fn numbers(rt: HostRuntime) {
         Ok((0x0102_0304_0506, 6)),
         true,
     );
-    assert_eq!(rt; found, wanted);
+    is(&rt, found, wanted);
     let (part, after) = parse_octets(octets, 5, 2).expect(&rt, "two octets");
     let truths = [part == b"\x06\x07".as_slice(), after == 7];
-    assert_eq!(rt; truths, [true; 2]);
+    is(&rt, truths, [true; 2]);
 }

@@ -1,6 +1,6 @@
 // Octets of records, composed and read back; octets that aren't records; records compared.
 
-use crate::common::{data_are_read, hash_of, is_record, name, read, reads_back};
+use crate::common::{data_are_read, hash_of, is, is_record, name, read, reads_back};
 use dns_name::{Class, Name, NameRef, Rtype, Serial, Ttl};
 use dns_rdata::{A, ComposeRecord, Ns, Record, Soa, ZoneRecordData, record_from_octets};
 use std::alloc::Global;
@@ -43,7 +43,7 @@ fn composes<R: Abort>(rt: &R, alloc: Global, owner: &[u8], data: LentData<'_>, w
     let record = Record::new(name(rt, owner), Class::IN, Ttl::from_int(3600), data);
     let mut out = Vec::new(alloc);
     record.compose_record(&mut out).expect(rt, "memory");
-    assert_eq!(rt; out.as_slice(), wanted);
+    is(rt, out.as_slice(), wanted);
     drop(record);
 }
 
@@ -51,7 +51,7 @@ fn composes<R: Abort>(rt: &R, alloc: Global, owner: &[u8], data: LentData<'_>, w
 fn are_equal<R: Abort>(rt: &R, octets: &[u8], data: LentData<'_>, wanted: bool) {
     let read = read(rt, octets);
     let equal = read.data().data_eq(&data);
-    assert_eq!(rt; equal, wanted);
+    is(rt, equal, wanted);
     drop(read);
     drop(data);
 }
@@ -86,7 +86,7 @@ fn records_are_read_back(rt: HostRuntime) {
 fn parts_are_read(rt: HostRuntime) {
     let read = read(&rt, &ADDRESS);
     let found = (read.rtype(), read.ttl().to_int(), read.compose_len());
-    assert_eq!(rt; found, (Rtype::A, 3600, 26));
+    is(&rt, found, (Rtype::A, 3600, 26));
     drop(read);
 }
 
@@ -107,13 +107,13 @@ fn data_fill_rdlength(rt: HostRuntime) {
     octets[21] = 5;
     let of_five_octets = data_are_read(&rt, &octets);
     let found = [inside, with_octet_behind, of_five_octets];
-    assert_eq!(rt; found, [true, false, false]);
+    is(&rt, found, [true, false, false]);
 }
 
 #[test]
 fn pointers_are_for_messages(rt: HostRuntime) {
     let found = [data_are_read(&rt, &POINTER), is_record(&POINTER)];
-    assert_eq!(rt; found, [true, false]);
+    is(&rt, found, [true, false]);
 }
 
 #[test]
@@ -130,7 +130,7 @@ fn records_are_equal_in_any_case(rt: HostRuntime) {
         hash == hash_of(&stored),
         hash_of(lower.data()) == hash_of(upper.data()),
     ];
-    assert_eq!(rt; truths, [true; 6]);
+    is(&rt, truths, [true; 6]);
     drop(stored);
     drop(upper);
     drop(lower);
@@ -153,7 +153,7 @@ fn hashes_differ(rt: HostRuntime) {
         digest != other_key_tag,
         digest != other_type,
     ];
-    assert_eq!(rt; truths, [true; 3]);
+    is(&rt, truths, [true; 3]);
 }
 
 /// The example of the crate's documentation.

@@ -1,6 +1,6 @@
 // Messages built and read back; limits; answers to requests.
 
-use crate::common::{composed, name, prints};
+use crate::common::{composed, is, name, prints};
 use dns_name::{Class, Name, NameRef, Rcode, Rtype, Ttl};
 use dns_rdata::{A, Record, ZoneRecordData};
 use dns_wire::{AnswerBuilder, Header, Message, MessageBuf, MessageBuilder, PushError, Question};
@@ -59,10 +59,10 @@ fn answer<R: Abort>(rt: &R, alloc: Global, rcode: Rcode) -> AnswerBuilder {
 #[test]
 fn query_reads_back(rt: HostRuntime) {
     let query = axfr_query(&rt, rt.alloc());
-    assert_eq!(rt; query.as_slice(), AXFR_QUERY.as_slice());
+    is(&rt, query.as_slice(), AXFR_QUERY.as_slice());
     let question = query.sole_question().expect(&rt, "a question");
     let spelled = composed(&rt, rt.alloc(), question.qname());
-    assert_eq!(rt; spelled.as_slice(), EXAMPLE.as_slice());
+    is(&rt, spelled.as_slice(), EXAMPLE.as_slice());
     let end = query.as_message().end().expect(&rt, "a message");
     let found = (
         query.header(),
@@ -72,8 +72,25 @@ fn query_reads_back(rt: HostRuntime) {
         end,
     );
     let wanted = (Header::new(1000), 1, Rtype::AXFR, Class::IN, 25);
-    assert_eq!(rt; found, wanted);
+    is(&rt, found, wanted);
     drop(query);
+}
+
+/// Asserts of two pushes under limits that the first was refused for want of room and changed nothing, and that the second made the
+/// message so long, with one item.
+fn is_limited<R: Abort>(
+    rt: &R,
+    found: (
+        Result<(), PushError>,
+        bool,
+        Result<(), PushError>,
+        usize,
+        u16,
+    ),
+    len: usize,
+) {
+    let wanted = (Err(PushError::ShortBuf), true, Ok(()), len, 1);
+    is(rt, found, wanted);
 }
 
 #[test]
@@ -86,9 +103,7 @@ fn push_limit(rt: HostRuntime) {
     answers.set_push_limit(27);
     let added = answers.push(&address);
     let (len, count) = (answers.as_slice().len(), answers.counts().ancount);
-    let found = (refused, unchanged, added, len, count);
-    let wanted = (Err(PushError::ShortBuf), true, Ok(()), 27, 1);
-    assert_eq!(rt; found, wanted);
+    is_limited(&rt, (refused, unchanged, added, len, count), 27);
     drop(address);
     drop(answers);
 }
@@ -103,9 +118,7 @@ fn push_limit_of_a_question(rt: HostRuntime) {
     questions.set_push_limit(25);
     let added = questions.push(&question);
     let (len, count) = (questions.as_slice().len(), questions.counts().qdcount);
-    let found = (refused, unchanged, added, len, count);
-    let wanted = (Err(PushError::ShortBuf), true, Ok(()), 25, 1);
-    assert_eq!(rt; found, wanted);
+    is_limited(&rt, (refused, unchanged, added, len, count), 25);
     drop(questions);
 }
 
@@ -120,7 +133,7 @@ fn push_limit_of_later_sections(rt: HostRuntime) {
     let unchanged = additional.as_slice() == [0; 12].as_slice();
     let found = (in_authority, in_additional, unchanged);
     let wanted = (Err(PushError::ShortBuf), Err(PushError::ShortBuf), true);
-    assert_eq!(rt; found, wanted);
+    is(&rt, found, wanted);
     drop(address);
     drop(additional);
 }
@@ -140,7 +153,7 @@ fn query_without_room(rt: HostRuntime) {
     let mut short = builder(&rt, rt.alloc());
     short.set_push_limit(24);
     let refused = short.start_answer(&query.as_message(), Rcode::REFUSED);
-    assert_eq!(rt; refused.err(), Some(PushError::ShortBuf));
+    is(&rt, refused.err(), Some(PushError::ShortBuf));
 }
 
 /// A request that announces one question, and ends within its name.
@@ -152,9 +165,9 @@ fn unreadable_question_is_left_out(rt: HostRuntime) {
     let started = builder(&rt, rt.alloc()).start_answer(&request, Rcode::FORMERR);
     let answers = started.expect(&rt, "an answer");
     let due = *b"\x03\xe8\x80\x01\x00\x00\x00\x00\x00\x00\x00\x00";
-    assert_eq!(rt; answers.as_slice(), due.as_slice());
+    is(&rt, answers.as_slice(), due.as_slice());
     let found = (answers.header().id, answers.counts().qdcount);
-    assert_eq!(rt; found, (1000, 0));
+    is(&rt, found, (1000, 0));
     drop(answers);
 }
 
@@ -177,7 +190,7 @@ fn answer_to_a_query(rt: HostRuntime) {
     let added = additional.push(&address);
     drop(address);
     let mut reply = additional.finish();
-    assert_eq!(rt; reply.header(), header);
+    is(&rt, reply.header(), header);
     let section = reply.answer();
     let in_answer = section.expect(&rt, "a section").next_record().is_some();
     let section = reply.authority();
@@ -187,10 +200,10 @@ fn answer_to_a_query(rt: HostRuntime) {
     let in_additional = section.expect(&rt, "a section").next_record().is_some();
     reply.set_id(7);
     let found = [in_answer, in_authority, in_additional];
-    assert_eq!(rt; found, [true, false, false]);
+    is(&rt, found, [true, false, false]);
     let found = (added, reply.header().id, reply.as_slice().len());
-    assert_eq!(rt; found, (Ok(()), 7, 55));
-    assert_eq!(rt; reply.into_octets().len(), 55);
+    is(&rt, found, (Ok(()), 7, 55));
+    is(&rt, reply.into_octets().len(), 55);
 }
 
 #[test]
@@ -199,7 +212,7 @@ fn records_are_counted(rt: HostRuntime) {
     push_address(&rt, &mut answers);
     let message = answers.finish();
     let section = message.answer().expect(&rt, "a section");
-    assert_eq!(rt; section.count(), 1);
+    is(&rt, section.count(), 1);
     drop(message);
 }
 
@@ -210,7 +223,7 @@ fn questions_taken_back(rt: HostRuntime) {
         .push(&axfr_question(&rt))
         .expect(&rt, "a question");
     questions.rewind();
-    assert_eq!(rt; questions.as_slice(), [0; 12].as_slice());
+    is(&rt, questions.as_slice(), [0; 12].as_slice());
 }
 
 #[test]
@@ -219,7 +232,7 @@ fn answers_taken_back(rt: HostRuntime) {
     push_address(&rt, &mut answers);
     answers.rewind();
     let found = (answers.as_slice().len(), answers.counts().ancount);
-    assert_eq!(rt; found, (25, 0));
+    is(&rt, found, (25, 0));
     drop(answers);
 }
 
@@ -236,7 +249,7 @@ fn later_sections_taken_back(rt: HostRuntime) {
         .push(&address)
         .expect(&rt, "an additional record");
     additional.rewind();
-    assert_eq!(rt; additional.as_slice().len(), 27);
+    is(&rt, additional.as_slice().len(), 27);
     drop(address);
     drop(additional);
 }
@@ -246,7 +259,7 @@ fn type_and_error(rt: HostRuntime) {
     let query = axfr_query(&rt, rt.alloc());
     let refused = answer(&rt, rt.alloc(), Rcode::REFUSED).finish();
     let found = (query.qtype(), query.is_error(), refused.is_error());
-    assert_eq!(rt; found, (Some(Rtype::AXFR), false, true));
+    is(&rt, found, (Some(Rtype::AXFR), false, true));
     drop(refused);
     drop(query);
 }
@@ -293,7 +306,7 @@ fn error_with_its_question(rt: HostRuntime) {
     answers(&rt, rt.alloc(), &AXFR_QUERY, 24, Rcode::REFUSED, &FAILED);
     answers(&rt, rt.alloc(), &AXFR_QUERY, 12, Rcode::REFUSED, &FAILED);
     let started = error(&rt, rt.alloc(), &AXFR_QUERY, 11, Rcode::REFUSED);
-    assert_eq!(rt; started.err(), Some(PushError::ShortBuf));
+    is(&rt, started.err(), Some(PushError::ShortBuf));
 }
 
 /// Two questions, for `a` and for `example`, each of type SOA in class IN.

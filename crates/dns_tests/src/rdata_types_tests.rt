@@ -1,8 +1,8 @@
 // Texts that are built, their strings, and what data and errors print.
 
-use crate::common::prints;
+use crate::common::{is, prints};
 use dns_name::Rtype;
-use rdata_types::{Ds, LongRecordData, RecordData, Txt, TxtAppendError, UnknownRecordData};
+use dns_rdata::{Ds, LongRecordData, RecordData, Txt, TxtAppendError, UnknownRecordData};
 
 #[test]
 fn text_of_300_octets_has_two_strings(rt: HostRuntime) {
@@ -12,7 +12,7 @@ fn text_of_300_octets_has_two_strings(rt: HostRuntime) {
     let second = strings.next().expect(&rt, "second string");
     let end = strings.next().is_none();
     let found = (data.rdlen(), first.len(), second.len(), end);
-    assert_eq!(rt; found, (302, 255, 45, true));
+    is(&rt, found, (302, 255, 45, true));
     drop(data);
 }
 
@@ -24,14 +24,14 @@ fn strings_are_taken_in_order(rt: HostRuntime) {
         joined.extend_from_slice(string).expect(&rt, "memory");
         joined.push(b'/').expect(&rt, "memory");
     }
-    assert_eq!(rt; joined.as_slice(), b"hi//all/".as_slice());
+    is(&rt, joined.as_slice(), b"hi//all/".as_slice());
     drop(data);
 }
 
 #[test]
 fn long_text_is_refused(rt: HostRuntime) {
     let error = Txt::build_from_slice(&[7; 65280], rt.alloc()).err();
-    assert_eq!(rt; error, Some(TxtAppendError::LongRecordData));
+    is(&rt, error, Some(TxtAppendError::LongRecordData));
 }
 
 #[test]
@@ -42,9 +42,10 @@ fn data_print(rt: HostRuntime) {
         &rt, "short",
     );
     let printed = format!(in rt.alloc(); "{text:?} {digest:?} {unknown:?}").expect(&rt, "memory");
-    assert_eq!(rt;
+    is(
+        &rt,
         printed.as_str(),
-        "Txt { octets: [2, 104, 105] } Ds { key_tag: 1, algorithm: 2, digest_type: 3, digest: [100] } UnknownRecordData { rtype: Rtype { value: 731 }, octets: [120] }"
+        "Txt { octets: [2, 104, 105] } Ds { key_tag: 1, algorithm: 2, digest_type: 3, digest: [100] } UnknownRecordData { rtype: Rtype { value: 731 }, octets: [120] }",
     );
     drop(unknown);
     drop(digest);

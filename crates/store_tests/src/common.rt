@@ -1,16 +1,14 @@
-// Octets, names, records, sets and zones that several modules of tests use.
+// Names, records, sets and zones that several modules of tests use.
 
 use dns_name::{Class, NameRef, Rtype, Serial, StoredName, Ttl};
 use dns_rdata::{
     A, Cname, Ns, Record, RecordData, Soa, StoredRecord, StoredRecordData, ZoneRecordData,
-    record_from_octets,
 };
 use std::alloc::Global;
 use std::fmt::Debug;
 use std::process::Abort;
-use zone_diffs::ZoneDiffItem;
-use zone_sessions::{WriteZone, ZoneApex};
-use zone_values::{Rrset, SharedRrset};
+use zone_store::{WriteZone, ZoneApex};
+use zone_types::{InMemoryZoneDiff, Rrset, SharedRrset, ZoneDiff, ZoneDiffItem};
 
 pub(crate) const APEX: &[u8] = b"\x07example\x00";
 
@@ -25,29 +23,9 @@ pub(crate) fn is<R: Abort, T: PartialEq + Debug + Drop>(rt: &R, found: T, wanted
     drop(found);
 }
 
-/// The octets that words of hexadecimal digits say.
-pub(crate) fn octets<R: Abort>(rt: &R, alloc: Global, words: &str) -> Vec<u8> {
-    let mut out = Vec::new(alloc);
-    for word in words.split(' ') {
-        let part = hex::decode(alloc, word).expect(rt, "hexadecimal digits");
-        out.extend_from_slice(part.as_slice()).expect(rt, "memory");
-        drop(part);
-    }
-    out
-}
-
 pub(crate) fn name<R: Abort>(rt: &R, alloc: Global, octets: &[u8]) -> StoredName {
     let found = NameRef::from_octets(octets).expect(rt, "a name");
     found.store(alloc).expect(rt, "memory")
-}
-
-/// The record that words of hexadecimal digits say.
-pub(crate) fn record<R: Abort>(rt: &R, alloc: Global, words: &str) -> StoredRecord {
-    let octets = octets(rt, alloc, words);
-    let read = record_from_octets(octets.as_slice()).expect(rt, "a record");
-    let record = read.flatten(alloc).expect(rt, "memory");
-    drop(octets);
-    record
 }
 
 fn record_of<R: Abort>(
@@ -131,11 +109,31 @@ pub(crate) fn three<R: Abort>(rt: &R, alloc: Global, ttl: u32) -> SharedRrset {
 }
 
 /// How many records a set has, and their type.
-pub(crate) fn shown<R: Abort, I: ZoneDiffItem + Drop>(rt: &R, item: Option<I>) -> (usize, Rtype) {
+fn shown<R: Abort, I: ZoneDiffItem + Drop>(rt: &R, item: Option<I>) -> (usize, Rtype) {
     let item = item.expect(rt, "an item");
     let shown = (item.value().as_rrset().data().len(), item.key().rtype());
     drop(item);
     shown
+}
+
+/// Asserts that a difference leads from the serial 1 to 2, and that three addresses at t, of the TTL 3600, come back with the TTL 60.
+pub(crate) fn changes_the_ttl<R: Abort>(rt: &R, alloc: Global, diff: &InMemoryZoneDiff) {
+    is(rt, diff.start_serial(), Serial::from(1));
+    is(rt, diff.end_serial(), Serial::from(2));
+    is(rt, diff.removed_len(), 2);
+    is(rt, diff.added_len(), 2);
+    is(rt, shown(rt, diff.removed_at(0)), (1, Rtype::SOA));
+    is(rt, shown(rt, diff.removed_at(1)), (3, Rtype::A));
+    is(rt, shown(rt, diff.added_at(0)), (1, Rtype::SOA));
+    is(rt, shown(rt, diff.added_at(1)), (3, Rtype::A));
+    assert!(rt; diff.added_at(2).is_none());
+    let owner = name(rt, alloc, HOST);
+    let set = diff.get_added(&owner, Rtype::A).expect(rt, "a set");
+    is(rt, set.as_rrset().ttl(), Ttl::from_int(60));
+    let set = diff.get_removed(&owner, Rtype::A).expect(rt, "a set");
+    is(rt, set.as_rrset().ttl(), Ttl::from_int(3600));
+    assert!(rt; diff.get_added(&owner, Rtype::SOA).is_none());
+    drop(owner);
 }
 
 /// The zone `Example.` before any edit.

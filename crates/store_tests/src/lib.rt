@@ -1,27 +1,21 @@
-//! Tests of zone types, versions, sessions, differences and answers: each kind of call once, and values from outside.
+//! Tests of zone types, sessions, nodes, commits and differences: each kind of call once, and values from outside.
 #![tactic(auto)]
 
 #[cfg(test)]
+mod commit_tests;
+#[cfg(test)]
 mod common;
 #[cfg(test)]
-mod zone_answers_tests;
+mod difference_tests;
 #[cfg(test)]
-mod zone_changes_tests;
+mod documentation_tests;
 #[cfg(test)]
-mod zone_diffs_tests;
+mod draft_tests;
 #[cfg(test)]
-mod zone_errors_tests;
+mod error_tests;
 #[cfg(test)]
-mod zone_reading_step_tests;
+mod node_tests;
 #[cfg(test)]
-mod zone_reading_tests;
+mod session_tests;
 #[cfg(test)]
-mod zone_replies_tests;
-#[cfg(test)]
-mod zone_store_diff_tests;
-#[cfg(test)]
-mod zone_store_node_tests;
-#[cfg(test)]
-mod zone_store_tests;
-#[cfg(test)]
-mod zone_types_tests;
+mod value_tests;

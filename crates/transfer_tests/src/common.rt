@@ -3,10 +3,17 @@
 use bytes::Bytes;
 use dns_name::{Class, Labelled, Name, NameRef, StoredName};
 use std::alloc::Global;
-use std::fmt;
+use std::fmt::{self, Debug};
 use std::process::Abort;
 use tsig_port::{Algorithm, Key};
-use zone_sessions::ZoneApex;
+use zone_store::ZoneApex;
+
+/// Asserts that a value is the one that is wanted. A call of this is proved sooner than an `assert_eq!`.
+pub(crate) fn is<R: Abort, T: PartialEq + Debug + Drop>(rt: &R, found: T, wanted: T) {
+    assert_eq!(rt; found, wanted);
+    drop(wanted);
+    drop(found);
+}
 
 /// `example.`
 pub(crate) const EXAMPLE: &[u8] = b"\x07example\0";

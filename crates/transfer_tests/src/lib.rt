@@ -2,6 +2,8 @@
 #![tactic(auto)]
 
 #[cfg(test)]
+mod client_example_tests;
+#[cfg(test)]
 mod common;
 #[cfg(test)]
 mod xfr_client_tests;

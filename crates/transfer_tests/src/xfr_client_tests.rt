@@ -1,13 +1,13 @@
 //! Messages built octet by octet, read and applied (RFC 5936, 2.2).
 
-use crate::common::{assert_texts, empty_zone, octets_of};
+use crate::common::{assert_texts, empty_zone, is, octets_of};
 use dns_name::Rtype;
 use dns_wire::MessageBuf;
 use std::alloc::Global;
 use std::process::Abort;
 use xfr_client::protocol::{Error, IterationError};
 use xfr_client::{XfrResponseInterpreter, XfrZoneUpdateIterator, ZoneUpdater, update};
-use zone_sessions::{ReadZone, WriteZone};
+use zone_store::{ReadZone, WriteZone};
 
 /// `example.` in class IN, asked for as a whole.
 const QUESTION: &str = "076578616d706c650000fc0001";
@@ -93,8 +93,8 @@ fn equal_data_are_passed_over(rt: HostRuntime) {
     let zone = transferred(&rt, alloc, &message);
     let number = zone.version();
     let count = first_data(&zone, Rtype::A);
-    assert_eq!(rt; number, 1);
-    assert_eq!(rt; count, 1);
+    is(&rt, number, 1);
+    is(&rt, count, 1);
     drop(zone);
     drop(message);
     drop(records);
@@ -118,7 +118,7 @@ fn a_record_behind_the_end_is_refused(rt: HostRuntime) {
     drop(updates.next_update());
     drop(updates.next_update());
     let error = next_error(&mut updates);
-    assert_eq!(rt; error, Some(IterationError::AlreadyFinished));
+    is(&rt, error, Some(IterationError::AlreadyFinished));
     drop(updates);
     drop(interpreter);
     drop(message);
@@ -129,7 +129,7 @@ fn a_record_behind_the_end_is_refused(rt: HostRuntime) {
 fn is_no_transfer<R: Abort>(rt: &R, alloc: Global, flags: &str, count: &str, records: &str) {
     let message = reply(rt, alloc, flags, count, records);
     let error = refusal(&message);
-    assert_eq!(rt; error, Some(Error::NotValidXfrResponse));
+    is(rt, error, Some(Error::NotValidXfrResponse));
     drop(message);
 }
 

@@ -1,7 +1,7 @@
 //! Requests for the zone `example.`, as a primary answers them.
 
 use crate::common::{
-    EXAMPLE, KEY, NS_EXAMPLE, assert_texts, digits_of, empty_zone, shared_key, stored_name,
+    EXAMPLE, KEY, NS_EXAMPLE, assert_texts, digits_of, empty_zone, is, shared_key, stored_name,
 };
 use dns_name::{Class, Rtype, Serial, StoredName, Ttl};
 use dns_rdata::{A, Ns, Record, Soa, StoredRecord, StoredRecordData, ZoneRecordData};
@@ -14,9 +14,10 @@ use xfr_server::{
     ServiceError, ServiceFeedback, TransportSpecificContext, TsigMiddlewareSvc,
     XfrDataProviderError, XfrMiddlewareSvc,
 };
-use zone_sessions::{ReadZone, WriteZone};
+use zone_store::{ReadZone, WriteZone};
 
-type Primary = PrimaryStack<RefuseSvc, HistoryProvider, Key>;
+/// The services of a primary whose provider has the zone's history.
+pub(crate) type Primary = PrimaryStack<RefuseSvc, HistoryProvider, Key>;
 
 fn new_record<R: Abort>(
     rt: &R,
@@ -74,7 +75,8 @@ fn example_zone<R: Abort>(rt: &R, alloc: Global) -> ReadZone {
     version
 }
 
-fn primary<R: Abort>(rt: &R, alloc: Global, grants: bool) -> Primary {
+/// A primary of the zone `example.`, which grants it to the key or to none.
+pub(crate) fn primary<R: Abort>(rt: &R, alloc: Global, grants: bool) -> Primary {
     let mut provider = HistoryProvider::new(alloc, example_zone(rt, alloc));
     let key = shared_key(rt, KEY);
     if grants {
@@ -95,7 +97,8 @@ fn axfr_question<R: Abort>(rt: &R, alloc: Global, class: Class) -> AdditionalBui
     section.additional()
 }
 
-fn at() -> Time48 {
+/// The moment of all requests.
+pub(crate) fn at() -> Time48 {
     Time48::from_u64(1000)
 }
 
@@ -189,7 +192,7 @@ fn unsigned_request_is_refused_without_tsig(rt: HostRuntime) {
     let whole = "03e880050001000000000000\
 076578616d706c650000fc0001";
     let reply_digits = digits.as_str();
-    assert_eq!(rt; reply_digits, whole);
+    is(&rt, reply_digits, whole);
     drop(digits);
     drop(reply);
 }
@@ -208,11 +211,11 @@ fn unknown_key_is_told_so(rt: HostRuntime) {
 0b686d61632d73686132353600\
 0000000003e8012c000003e800110000";
     let reply_digits = digits.as_str();
-    assert_eq!(rt; reply_digits, whole);
+    is(&rt, reply_digits, whole);
     drop(digits);
     let mut message = MessageBuf::from_octets(reply).expect(&rt, "a header");
     let taken = client.answer(&mut message, at());
-    assert_eq!(rt; taken, Err(ValidationError::ServerBadKey));
+    is(&rt, taken, Err(ValidationError::ServerBadKey));
     drop(message);
     drop(client);
 }
@@ -225,7 +228,7 @@ fn is_refused<R: Abort>(rt: &R, alloc: Global, grants: bool, class: Class, first
     let len = digits.len();
     let starts_so = digits.starts_with(first);
     drop(digits);
-    assert_eq!(rt; len, 2 * (25 + 76));
+    is(rt, len, 2 * (25 + 76));
     assert!(rt; starts_so);
     drop(taken(rt, &mut client, reply));
     drop(client);
@@ -247,12 +250,12 @@ fn key_that_is_not_granted_is_refused(rt: HostRuntime) {
 fn granted_key_gets_the_zone_in_one_signed_message(rt: HostRuntime) {
     let alloc = rt.alloc();
     let (items, mut client) = signed_items(&rt, alloc, true, Class::IN, KEY);
-    assert_eq!(rt; items.len(), 3);
+    is(&rt, items.len(), 3);
     let first = items[0].feedback();
     let last = items[2].feedback();
     let reply = reply_octets(&rt, alloc, &items[1]);
-    assert_eq!(rt; first, Some(ServiceFeedback::BeginTransaction));
-    assert_eq!(rt; last, Some(ServiceFeedback::EndTransaction));
+    is(&rt, first, Some(ServiceFeedback::BeginTransaction));
+    is(&rt, last, Some(ServiceFeedback::EndTransaction));
     drop(items);
     let message = taken(&rt, &mut client, reply);
     drop(client);
@@ -262,7 +265,7 @@ fn granted_key_gets_the_zone_in_one_signed_message(rt: HostRuntime) {
     assert!(rt; starts_so);
     let types = answer_types(&rt, alloc, &message);
     let numbers = types.as_slice();
-    assert_eq!(rt; numbers, [6, 2, 1, 1, 6].as_slice());
+    is(&rt, numbers, [6, 2, 1, 1, 6].as_slice());
     drop(types);
     drop(message);
 }

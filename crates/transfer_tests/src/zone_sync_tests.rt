@@ -1,5 +1,6 @@
 //! The program over streams and links in memory. What it writes of whole scripts stands in the files of `cases/`.
 
+use crate::common::is;
 use std::alloc::Global;
 use std::process::Abort;
 use zone_sync::{
@@ -71,10 +72,9 @@ fn expect<R: Abort, L: Link>(
     let mut out = MemorySink::new(alloc, 7, Vec::new(alloc));
     let got = axfr(rt, alloc, &mut src, &mut out, link);
     drop(src);
-    let written = out.as_slice();
-    assert_eq!(rt; written, output);
+    is(rt, out.as_slice(), output);
     drop(out);
-    assert_eq!(rt; got, status);
+    is(rt, got, status);
 }
 
 #[test]
@@ -117,53 +117,54 @@ fn failing_link(rt: HostRuntime) {
     }
 }
 
+/// Runs `axfr` from a source to a sink, over a link that nothing goes wrong with.
+fn axfr_to<R: Abort, S: Source + Drop>(
+    rt: &R,
+    alloc: Global,
+    mut src: S,
+    out: &mut MemorySink,
+) -> Status {
+    let mut link = LoopLink::new(alloc);
+    let got = axfr(rt, alloc, &mut src, out, &mut link);
+    drop(link);
+    drop(src);
+    got
+}
+
 #[test]
 fn failing_source(rt: HostRuntime) {
     let alloc = rt.alloc();
-    let mut src = source(&rt, alloc, SCRIPT_AT_1000, only(&rt, alloc, 2));
+    let src = source(&rt, alloc, SCRIPT_AT_1000, only(&rt, alloc, 2));
     let mut out = MemorySink::new(alloc, 4096, Vec::new(alloc));
-    let mut link = LoopLink::new(alloc);
-    let got = axfr(&rt, alloc, &mut src, &mut out, &mut link);
-    drop(link);
-    drop(src);
-    let written = out.as_slice();
-    assert_eq!(rt; written, b"read fault\n".as_slice());
+    let got = axfr_to(&rt, alloc, src, &mut out);
+    is(&rt, out.as_slice(), b"read fault\n".as_slice());
     drop(out);
-    assert_eq!(rt; got, Status::SourceFault);
+    is(&rt, got, Status::SourceFault);
 }
 
 #[test]
 fn failing_sink(rt: HostRuntime) {
     let alloc = rt.alloc();
-    let mut src = source(&rt, alloc, SCRIPT_AT_1000, Vec::new(alloc));
+    let src = source(&rt, alloc, SCRIPT_AT_1000, Vec::new(alloc));
     let mut out = MemorySink::new(alloc, 16, only(&rt, alloc, 3));
-    let mut link = LoopLink::new(alloc);
-    let got = axfr(&rt, alloc, &mut src, &mut out, &mut link);
-    drop(link);
-    drop(src);
+    let got = axfr_to(&rt, alloc, src, &mut out);
     let written = out.as_slice();
-    let len = written.len();
-    let begins_report = REPORT.starts_with(written);
+    is(&rt, written.len(), 32);
+    assert!(rt; REPORT.starts_with(written));
     drop(out);
-    assert_eq!(rt; len, 32);
-    assert!(rt; begins_report);
-    assert_eq!(rt; got, Status::SinkFault);
+    is(&rt, got, Status::SinkFault);
 }
 
 #[test]
 fn one_octet_a_call(rt: HostRuntime) {
     let alloc = rt.alloc();
     let octets = SCRIPT_AT_1000.to_vec(alloc).expect(&rt, "memory");
-    let mut src = StdSource::new(OneOctet { octets, place: 0 });
+    let src = StdSource::new(OneOctet { octets, place: 0 });
     let mut out = MemorySink::new(alloc, 1, Vec::new(alloc));
-    let mut link = LoopLink::new(alloc);
-    let got = axfr(&rt, alloc, &mut src, &mut out, &mut link);
-    drop(link);
-    drop(src);
-    let written = out.as_slice();
-    assert_eq!(rt; written, REPORT);
+    let got = axfr_to(&rt, alloc, src, &mut out);
+    is(&rt, out.as_slice(), REPORT);
     drop(out);
-    assert_eq!(rt; got, Status::Done);
+    is(&rt, got, Status::Done);
 }
 
 /// A reader that gives one octet a call.
@@ -190,20 +191,20 @@ fn std_source_reads(rt: HostRuntime) {
     let mut src = StdSource::new(text);
     let mut buf = [0u8; 4];
     let count = src.read(&mut buf);
-    assert_eq!(rt; count, Ok(4));
+    is(&rt, count, Ok(4));
     let taken = buf.as_slice();
-    assert_eq!(rt; taken, b"octe".as_slice());
+    is(&rt, taken, b"octe".as_slice());
     let count = src.read(&mut buf);
-    assert_eq!(rt; count, Ok(2));
+    is(&rt, count, Ok(2));
     let count = src.read(&mut buf);
-    assert_eq!(rt; count, Ok(0));
+    is(&rt, count, Ok(0));
 }
 
 #[test]
 fn std_sink_writes(rt: HostRuntime) {
     let mut out = StdSink::new(Vec::new(rt.alloc()));
     let written = write_all(&mut out, b"octets");
-    assert_eq!(rt; written, Ok(()));
+    is(&rt, written, Ok(()));
     drop(out);
     let mut full = StdSink::new(NoRoom);
     let refused = full.write(b"octets").is_err();

@@ -2,7 +2,7 @@
 ghost use Rattle.std.specs.Prelude.{◌≡◌};
 ghost use Rattle.xfr_server.specs.Items.{Calls, all_given};
 
-use crate::common::{KEY, assert_texts, empty_zone, octets_of, shared_key};
+use crate::common::{KEY, assert_texts, empty_zone, is, octets_of, shared_key};
 use dns_name::{Class, Labelled};
 use dns_rdata::{RecordData, StoredRecord, record_from_octets};
 use dns_wire::{
@@ -16,7 +16,7 @@ use xfr_client::{protocol, update};
 use xfr_server::{
     CallResult, Replies, Request, Service, ServiceError, ServiceFeedback, TsigMiddlewareSvc,
 };
-use zone_sessions::{ReadZone, WalkItem, WriteZone};
+use zone_store::{ReadZone, WalkItem, WriteZone};
 use zone_sync::{MemoryLink, Moments, SyncError, SyncOk, XfrMode, sync_zone};
 
 /// Words, and the octets that they stand for: the question for the whole of `example.`, none, and those of another name, type and class;
@@ -343,11 +343,11 @@ fn a_request_that_the_link_has_no_room_for(rt: HostRuntime) {
     let alloc = rt.alloc();
     let mut made = Vec::new(alloc);
     let answer = answer_to(&rt, alloc, 0, 100, &mut made);
-    assert_eq!(rt; answer, Err(SyncError::Request(PushError::ShortBuf)));
+    is(&rt, answer, Err(SyncError::Request(PushError::ShortBuf)));
     let count = made.len();
-    assert_eq!(rt; count, 0);
+    is(&rt, count, 0);
     let answer = answer_to(&rt, alloc, 0, 101, &mut made);
-    assert_eq!(rt; answer, Ok(SyncOk::Updated));
+    is(&rt, answer, Ok(SyncOk::Updated));
     drop(made);
 }
 
@@ -414,22 +414,18 @@ fn makes_a_first_part_in_want_of_memory(rt: HostRuntime) {
     let answer = answers(&rt, alloc, &mut session, &mut made);
     let count = made.len();
     if answer != Err(SyncError::Memory) {
-        assert_eq!(rt; answer, Ok(SyncOk::Updated));
-        assert_eq!(rt; count, 2);
+        is(&rt, answer, Ok(SyncOk::Updated));
+        is(&rt, count, 2);
     }
     let walks = walks_of(&rt, alloc, made.as_slice());
     drop(made);
     let expected = versions(&rt, alloc, 1, count);
-    assert_eq!(rt; walks, expected);
-    drop(walks);
-    drop(expected);
+    is(&rt, walks, expected);
     let current = current_of(&rt, alloc, &mut session);
     let expected = versions(&rt, alloc, count, count);
-    assert_eq!(rt; current, expected);
-    drop(current);
-    drop(expected);
+    is(&rt, current, expected);
     let has_first = session.has_data(&first);
-    assert_eq!(rt; has_first, count == 1);
+    is(&rt, has_first, count == 1);
     drop(session);
     drop(zone);
     drop(first);

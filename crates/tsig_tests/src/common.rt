@@ -2,11 +2,18 @@
 use dns_name::{Class, KeyName, NameOctets, Rtype};
 use dns_wire::{AdditionalBuilder, Header, MessageBuf, MessageBuilder, Question};
 use std::alloc::Global;
-use std::fmt::Display;
+use std::fmt::{Debug, Display};
 use std::process::Abort;
 use tsig_port::{
     Algorithm, ClientSequence, Key, ServerError, ServerSequence, Time48, ValidationError,
 };
+
+/// Asserts that a value is the one that is wanted. A call of this is proved sooner than an `assert_eq!`.
+pub(crate) fn is<R: Abort, T: PartialEq + Debug + Drop>(rt: &R, found: T, wanted: T) {
+    assert_eq!(rt; found, wanted);
+    drop(wanted);
+    drop(found);
+}
 
 /// The octets that pairs of hexadecimal digits say.
 pub fn octets<R: Abort>(rt: &R, alloc: Global, digits: &str) -> Vec<u8> {
@@ -101,7 +108,7 @@ pub fn says_of<R: Abort>(
     wanted: Result<(), ValidationError>,
 ) {
     let taken = client.answer(&mut answer, now);
-    assert_eq!(rt; taken, wanted);
+    is(rt, taken, wanted);
     drop(answer);
 }
 
@@ -121,6 +128,6 @@ pub fn answers<R: Abort>(
 /// Asserts that the value's text is that.
 pub fn says<R: Abort, D: Display>(rt: &R, alloc: Global, value: &D, wanted: &str) {
     let text = value.to_string(alloc).expect(rt, "memory");
-    assert_eq!(rt; text.as_str(), wanted);
+    is(rt, text.as_str(), wanted);
     drop(text);
 }

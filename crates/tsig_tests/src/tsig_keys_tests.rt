@@ -1,5 +1,5 @@
 // Algorithms, keys made of a source, stores, and texts of errors.
-use crate::common::{key, name, says};
+use crate::common::{is, key, name, says};
 use dns_name::KeyName;
 use rand_core::SeedableRng;
 use rand_pcg::Pcg32;
@@ -8,7 +8,7 @@ use std::collections::HashMap;
 use std::process::Abort;
 use std::str::FromStr;
 use std::sync::Arc;
-use tsig_keys::{
+use tsig_port::{
     Algorithm, AlgorithmError, FromRng, GenerateKeyError, Key, KeySource, KeyStore, Mac,
     MemoryKeySource, NewKeyError,
 };
@@ -53,7 +53,7 @@ fn made<R: Abort, S: KeySource>(
 /// Asserts that the octets are those from 0 on, so many of them.
 fn are_counted<R: Abort>(rt: &R, alloc: Global, octets: &[u8], len: u8) {
     let wanted = counted(rt, alloc, len);
-    assert_eq!(rt; octets, wanted.as_slice());
+    is(rt, octets, wanted.as_slice());
     drop(wanted);
 }
 
@@ -87,9 +87,9 @@ fn not_made<R: Abort>(
 /// Asserts whether a MAC by a key of that algorithm may have so many octets, as the least length that is taken and as the one that is sent.
 fn may_have<R: Abort>(rt: &R, algorithm: Algorithm, len: usize, wanted: bool) {
     let least = refusal(rt, algorithm, Some(len), None);
-    assert_eq!(rt; least.is_none(), wanted);
+    is(rt, least.is_none(), wanted);
     let sent = refusal(rt, algorithm, None, Some(len));
-    assert_eq!(rt; sent.is_none(), wanted);
+    is(rt, sent.is_none(), wanted);
 }
 
 #[test]
@@ -103,9 +103,9 @@ fn lengths(rt: HostRuntime) {
     may_have(&rt, Algorithm::Sha256, 32, true);
     may_have(&rt, Algorithm::Sha256, 33, false);
     let both = refusal(&rt, Algorithm::Sha256, Some(15), Some(15));
-    assert_eq!(rt; both, Some(NewKeyError::BadMinMacLen));
+    is(&rt, both, Some(NewKeyError::BadMinMacLen));
     let sent = refusal(&rt, Algorithm::Sha256, Some(16), Some(15));
-    assert_eq!(rt; sent, Some(NewKeyError::BadSigningLen));
+    is(&rt, sent, Some(NewKeyError::BadSigningLen));
 }
 
 /// Asserts that the text names that algorithm, or none.
@@ -142,7 +142,7 @@ fn is_key_of<R: Abort>(rt: &R, key: &Key, octets: &[u8]) {
     let same = same.expect(rt, "a key");
     let mac = mac_by(key);
     let wanted = mac_by(&same);
-    assert_eq!(rt; mac.as_slice(), wanted.as_slice());
+    is(rt, mac.as_slice(), wanted.as_slice());
 }
 
 #[test]
@@ -154,8 +154,8 @@ fn keys_of_a_source(rt: HostRuntime) {
     is_key_of(&rt, &key, octets.as_slice());
     drop(octets);
     let (_, octets) = made(&rt, alloc, Algorithm::Sha256, b"\x06second\0", &mut source);
-    assert_eq!(rt; octets.len(), 32);
-    assert_eq!(rt; octets.first(), Some(&32));
+    is(&rt, octets.len(), 32);
+    is(&rt, octets.first(), Some(&32));
     drop(octets);
     drop(source);
 }
@@ -165,14 +165,14 @@ fn failing_sources(rt: HostRuntime) {
     let alloc = rt.alloc();
     let mut short = source(&rt, alloc, 31);
     let refused = not_made(&rt, alloc, Algorithm::Sha256, None, None, &mut short);
-    assert_eq!(rt; refused, Some(GenerateKeyError::GenerationFailed));
+    is(&rt, refused, Some(GenerateKeyError::GenerationFailed));
     makes(&rt, alloc, Algorithm::Sha1, &mut short, 20);
     drop(short);
     let mut none = source(&rt, alloc, 0);
     let refused = not_made(&rt, alloc, Algorithm::Sha1, Some(9), Some(9), &mut none);
-    assert_eq!(rt; refused, Some(GenerateKeyError::BadMinMacLen));
+    is(&rt, refused, Some(GenerateKeyError::BadMinMacLen));
     let refused = not_made(&rt, alloc, Algorithm::Sha1, None, Some(21), &mut none);
-    assert_eq!(rt; refused, Some(GenerateKeyError::BadSigningLen));
+    is(&rt, refused, Some(GenerateKeyError::BadSigningLen));
     drop(none);
 }
 
@@ -183,7 +183,7 @@ fn failing_calls(rt: HostRuntime) {
     failing.push(1).expect(&rt, "memory");
     let mut source = MemoryKeySource::new(counted(&rt, alloc, 64), failing);
     let refused = not_made(&rt, alloc, Algorithm::Sha256, None, None, &mut source);
-    assert_eq!(rt; refused, Some(GenerateKeyError::GenerationFailed));
+    is(&rt, refused, Some(GenerateKeyError::GenerationFailed));
     makes(&rt, alloc, Algorithm::Sha256, &mut source, 32);
     drop(source);
 }
@@ -196,7 +196,7 @@ fn keys_of_a_generator(rt: HostRuntime) {
     same.fill(&mut octets).ok().expect(&rt, "octets");
     let mut source = FromRng::new(Pcg32::seed_from_u64(7));
     let (_, made) = made(&rt, alloc, Algorithm::Sha512, b"\0", &mut source);
-    assert_eq!(rt; made.as_slice(), octets.as_slice());
+    is(&rt, made.as_slice(), octets.as_slice());
     drop(made);
 }
 
@@ -243,9 +243,10 @@ fn texts_of_keys(rt: HostRuntime) {
     let key = key(&rt);
     says(&rt, alloc, &key, "key");
     let text = format!(in alloc; "{key:?}").expect(&rt, "memory");
-    assert_eq!(rt;
+    is(
+        &rt,
         text.as_str(),
-        "Key { name: key, algorithm: hmac-sha256, .. }"
+        "Key { name: key, algorithm: hmac-sha256, .. }",
     );
     drop(text);
 }

@@ -3,7 +3,7 @@ use crate::common::octets;
 use std::alloc::Global;
 use std::process::Abort;
 use std::str::FromStr;
-use tsig_keys::{Algorithm, Hmac, Mac};
+use tsig_port::{Algorithm, Hmac, Mac};
 
 /// RFC 2202, 3 and RFC 4231, 4: in each line an algorithm and, in hexadecimal digits, key, data and MAC; a short MAC is a truncated one.
 const VECTORS: &str = "\

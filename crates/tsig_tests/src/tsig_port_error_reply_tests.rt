@@ -1,5 +1,5 @@
 // Replies to refused requests, and what a client takes of them.
-use crate::common::{asked, key, key_of, moment, octets, received, refused, says_of};
+use crate::common::{asked, is, key, key_of, moment, octets, received, refused, says_of};
 use dns_wire::{MessageBuf, MessageBuilder};
 use std::alloc::Global;
 use std::process::Abort;
@@ -35,7 +35,7 @@ fn reply_to<R: Abort>(
 
 /// Asserts that there are so many octets, with that begin and that end.
 fn is_between<R: Abort>(rt: &R, alloc: Global, found: &[u8], len: usize, begin: &str, end: &str) {
-    assert_eq!(rt; found.len(), len);
+    is(rt, found.len(), len);
     let begin = octets(rt, alloc, begin);
     let begins = found.starts_with(begin.as_slice());
     assert!(rt; begins);
@@ -87,7 +87,7 @@ fn form_err(rt: HostRuntime) {
     let asked = octets(&rt, alloc, "03e800000001000000000001");
     let reply = reply_to(&rt, alloc, &key(&rt), received(&rt, asked), 1000);
     let wanted = octets(&rt, alloc, "03e880010000000000000000");
-    assert_eq!(rt; reply.as_slice(), wanted.as_slice());
+    is(&rt, reply.as_slice(), wanted.as_slice());
     drop(reply);
     drop(wanted);
 }

@@ -1,5 +1,5 @@
 // Messages without room for their TSIG, and refusals whose reply has no room: that is told, and not want of memory.
-use crate::common::{accepted, asked, key, key_of, message, octets, received, refused};
+use crate::common::{accepted, asked, is, key, key_of, message, octets, received, refused};
 use dns_wire::{AdditionalBuilder, MessageBuf, MessageBuilder, PushError};
 use std::alloc::Global;
 use std::process::Abort;
@@ -116,19 +116,6 @@ fn reply_within<R: Abort>(
     refusal.build_message(&request.as_message(), builder)
 }
 
-/// Asserts that the reply of a server with that key, which refuses the request, has no room within the limit.
-fn is_short<R: Abort>(
-    rt: &R,
-    alloc: Global,
-    known: &Key,
-    request: &mut MessageBuf,
-    now: Time48,
-    limit: usize,
-) {
-    let refused = reply_within(rt, alloc, known, request, now, limit).err();
-    assert_eq!(rt; refused, Some(PushError::ShortBuf), "{limit}");
-}
-
 /// Asserts that the reply of a server with that key, which refuses the request, has so many octets, and no room within the limits.
 fn replies<R: Abort>(
     rt: &R,
@@ -140,12 +127,13 @@ fn replies<R: Abort>(
     len: usize,
 ) {
     for limit in limits {
-        is_short(rt, alloc, known, &mut request, now, *limit);
+        let refused = reply_within(rt, alloc, known, &mut request, now, *limit).err();
+        assert_eq!(rt; refused, Some(PushError::ShortBuf), "{limit}");
     }
     let reply = reply_within(rt, alloc, known, &mut request, now, len);
     let reply = reply.expect(rt, "room");
     let found = reply.as_slice().len();
-    assert_eq!(rt; found, len);
+    is(rt, found, len);
     drop(reply);
     drop(request);
 }

@@ -1,5 +1,5 @@
 // A signed exchange, refusals, and moments.
-use crate::common::{accepted, answers, asked, key, message, octets, refused, says_of};
+use crate::common::{accepted, answers, asked, is, key, message, octets, refused, says_of};
 use std::alloc::Global;
 use std::process::Abort;
 use tsig_port::{ServerSequence, Time48, ValidationError};
@@ -10,34 +10,36 @@ const REQUEST_MAC: &str = "4f2e54bdf5ef25849370f4a96bdf2b0a262e461f38b76b833c64e
 #[test]
 fn record_length(rt: HostRuntime) {
     let key = key(&rt);
-    assert_eq!(rt; key.compose_len(), 76);
+    is(&rt, key.compose_len(), 76);
 }
 
 #[test]
 fn time_in_a_message(rt: HostRuntime) {
-    assert_eq!(rt;
+    is(
+        &rt,
         Time48::parse(&[9, 0, 0, 0, 0, 3, 0xe8, 9], 1),
-        Ok((Time48::from_u64(1000), 7))
+        Ok((Time48::from_u64(1000), 7)),
     );
 }
 
 #[test]
 fn moments(rt: HostRuntime) {
     let late = Time48::from_u64(0x0102_0304_0506);
-    assert_eq!(rt;
+    is(
+        &rt,
         late.into_octets().as_slice(),
-        [1, 2, 3, 4, 5, 6].as_slice()
+        [1, 2, 3, 4, 5, 6].as_slice(),
     );
     assert!(rt; late.eq_fudged(Time48::from_u64(0x0102_0304_0500), 6));
     assert!(rt; !Time48::fits(1 << 48));
-    assert_eq!(rt; Time48::from_octets(&[1, 2, 3, 4, 5, 6]), Some(late));
+    is(&rt, Time48::from_octets(&[1, 2, 3, 4, 5, 6]), Some(late));
 }
 
 /// Asserts that the request has so many octets, and that MAC.
 fn is_signed<R: Abort>(rt: &R, alloc: Global, sent: &[u8]) {
     let mac = octets(rt, alloc, REQUEST_MAC);
-    assert_eq!(rt; sent.len(), 101);
-    assert_eq!(rt; &sent[63..95], mac.as_slice());
+    is(rt, sent.len(), 101);
+    is(rt, &sent[63..95], mac.as_slice());
     drop(mac);
 }
 
@@ -49,18 +51,18 @@ fn signed_exchange(rt: HostRuntime) {
     is_signed(&rt, alloc, request.as_slice());
     let mut server = accepted(&rt, &key(&rt), &mut request, now);
     let counts = request.counts();
-    assert_eq!(rt; counts.arcount, 0);
+    is(&rt, counts.arcount, 0);
     drop(request);
     for _ in 0..3 {
         answers(&rt, alloc, &mut server, &mut client, now);
     }
     drop(server);
-    assert_eq!(rt; client.unsigned(), 0);
+    is(&rt, client.unsigned(), 0);
     let bare = message(&rt, alloc, true).finish();
     says_of(&rt, &mut client, bare, now, Ok(()));
-    assert_eq!(rt; client.unsigned(), 1);
+    is(&rt, client.unsigned(), 1);
     let done = client.done();
-    assert_eq!(rt; done, Err(ValidationError::TooManyUnsigned));
+    is(&rt, done, Err(ValidationError::TooManyUnsigned));
 }
 
 #[test]
@@ -71,7 +73,7 @@ fn late_request(rt: HostRuntime) {
     drop(client);
     let refusal = refused(&rt, &key, &mut request, Time48::from_u64(1301));
     drop(request);
-    assert_eq!(rt; refusal.error().to_int(), 18);
+    is(&rt, refusal.error().to_int(), 18);
     drop(refusal);
 }
 
@@ -83,7 +85,7 @@ fn without_a_tsig(rt: HostRuntime) {
     drop(request);
     let mut bare = message(&rt, alloc, true).finish();
     let taken = client.answer(&mut bare, now);
-    assert_eq!(rt; taken, Err(ValidationError::ServerUnsigned));
+    is(&rt, taken, Err(ValidationError::ServerUnsigned));
     drop(client);
     let unsigned = ServerSequence::request(&key(&rt), &mut bare, now);
     drop(bare);

@@ -1,5 +1,5 @@
 // The texts of refusals, each of each kind.
-use crate::common::{key, says};
+use crate::common::{is, key, says};
 use dns_name::TsigRcode;
 use std::alloc::Global;
 use std::process::Abort;
@@ -9,7 +9,7 @@ use tsig_port::{Key, ServerError, Time48, ValidationError};
 fn names<R: Abort>(rt: &R, alloc: Global, refusal: ServerError<Key>, wanted: &str, shown: &str) {
     says(rt, alloc, &refusal, wanted);
     let text = format!(in alloc; "{refusal:?}").expect(rt, "memory");
-    assert_eq!(rt; text.as_str(), shown);
+    is(rt, text.as_str(), shown);
     drop(text);
     drop(refusal);
 }

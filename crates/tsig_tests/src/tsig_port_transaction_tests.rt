@@ -1,5 +1,5 @@
 // One request and one answer.
-use crate::common::{key, message};
+use crate::common::{is, key, message};
 use dns_wire::MessageBuf;
 use std::alloc::Global;
 use std::process::Abort;
@@ -24,31 +24,21 @@ fn begun<R: Abort>(
     (client, found.expect(rt, "a TSIG"))
 }
 
-/// Asserts that this is what the client says of the answer.
-fn says_of<R: Abort>(
-    rt: &R,
-    client: &ClientTransaction<Key>,
-    mut answer: MessageBuf,
-    now: Time48,
-    wanted: Result<(), ValidationError>,
-) {
-    let taken = client.answer(&mut answer, now);
-    assert_eq!(rt; taken, wanted);
-    drop(answer);
-}
-
 #[test]
 fn signed_transaction(rt: HostRuntime) {
     let now = Time48::from_u64(1000);
     let alloc = rt.alloc();
     let (client, server) = begun(&rt, alloc, now);
-    let bare = message(&rt, alloc, true).finish();
-    let wanted = Err(ValidationError::ServerUnsigned);
-    says_of(&rt, &client, bare, now, wanted);
+    let mut bare = message(&rt, alloc, true).finish();
+    let taken = client.answer(&mut bare, now);
+    is(&rt, taken, Err(ValidationError::ServerUnsigned));
+    drop(bare);
     let mut reply = message(&rt, alloc, true);
     let answered = server.answer(&mut reply, now);
-    assert_eq!(rt; answered, Ok(()));
-    says_of(&rt, &client, reply.finish(), now, Ok(()));
+    is(&rt, answered, Ok(()));
+    let mut reply = reply.finish();
+    is(&rt, client.answer(&mut reply, now), Ok(()));
+    drop(reply);
     drop(client);
 }
 
@@ -60,8 +50,10 @@ fn transaction_that_goes_on(rt: HostRuntime) {
     let mut server = ServerSequence::from(server);
     let mut reply = message(&rt, alloc, true);
     let answered = server.answer(&mut reply, now);
-    assert_eq!(rt; answered, Ok(()));
+    is(&rt, answered, Ok(()));
     drop(server);
-    says_of(&rt, &client, reply.finish(), now, Ok(()));
+    let mut reply = reply.finish();
+    is(&rt, client.answer(&mut reply, now), Ok(()));
+    drop(reply);
     drop(client);
 }

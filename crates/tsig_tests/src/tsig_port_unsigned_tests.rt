@@ -1,5 +1,5 @@
 // Unsigned answers between signed ones (RFC 8945, 5.3.1).
-use crate::common::{accepted, answers, asked, key, message, name, octets, says_of};
+use crate::common::{accepted, answers, asked, is, key, message, name, octets, says_of};
 use dns_wire::MessageBuf;
 use std::alloc::Global;
 use std::process::Abort;
@@ -48,12 +48,12 @@ fn unsigned_answers(rt: HostRuntime) {
         let bare = message(&rt, alloc, true).finish();
         says_of(&rt, &mut client, bare, now, Ok(()));
     }
-    assert_eq!(rt; client.unsigned(), 99);
+    is(&rt, client.unsigned(), 99);
     let bare = message(&rt, alloc, true).finish();
     let wanted = Err(ValidationError::TooManyUnsigned);
     says_of(&rt, &mut client, bare, now, wanted);
     let last = last(&rt, alloc, now);
     says_of(&rt, &mut client, last, now, Ok(()));
-    assert_eq!(rt; client.unsigned(), 0);
+    is(&rt, client.unsigned(), 0);
     drop(client);
 }

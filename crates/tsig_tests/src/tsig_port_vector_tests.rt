@@ -1,6 +1,8 @@
 // Messages that dnspython signed: what the server finds in them and answers, what the client asks and takes.
 
-use crate::common::{accepted, asked, key_of, moment, name, octets, received, refused, says_of};
+use crate::common::{
+    accepted, asked, is, key_of, moment, name, octets, received, refused, says_of,
+};
 use dns_name::{Class, Rtype};
 use dns_rdata::record_from_octets;
 use dns_wire::{AdditionalBuilder, Header, MessageBuf, MessageBuilder, Question};
@@ -99,9 +101,9 @@ fn refuses<R: Abort>(rt: &R, alloc: Global, key: &Key, octets: &[u8], now: u64, 
     let mut message = received(rt, copy);
     let refusal = refused(rt, key, &mut message, moment(rt, now));
     let found = refusal.error().to_int();
-    assert_eq!(rt; found, error);
+    is(rt, found, error);
     drop(refusal);
-    assert_eq!(rt; message.as_slice(), octets);
+    is(rt, message.as_slice(), octets);
     drop(message);
 }
 
@@ -178,8 +180,8 @@ fn signs<R: Abort>(
 ) {
     let mut reply = answer_of(rt, alloc, place);
     let signed = server.answer(&mut reply, moment(rt, now));
-    assert_eq!(rt; signed, Ok(()));
-    assert_eq!(rt; reply.as_slice(), answer);
+    is(rt, signed, Ok(()));
+    is(rt, reply.as_slice(), answer);
     drop(reply);
 }
 
@@ -199,7 +201,7 @@ fn takes<R: Abort>(
     let copy = answer.to_vec(alloc).expect(rt, "memory");
     let mut message = received(rt, copy);
     let taken = client.answer(&mut message, now);
-    assert_eq!(rt; taken, Ok(()));
+    is(rt, taken, Ok(()));
     is_unsigned(rt, alloc, &message, place);
     drop(message);
 }
@@ -214,12 +216,12 @@ fn client_takes<R: Abort>(
     second: &[u8],
 ) {
     let (mut client, signed) = asked(rt, alloc, key, moment(rt, TIME));
-    assert_eq!(rt; signed.as_slice(), request);
+    is(rt, signed.as_slice(), request);
     drop(signed);
     takes(rt, alloc, &mut client, first, 1, TIME + 1);
     takes(rt, alloc, &mut client, second, 2, TIME + 2);
     let done = client.done();
-    assert_eq!(rt; done, Ok(()));
+    is(rt, done, Ok(()));
 }
 
 /// Asserts that the server with the key takes the request, and signs the answers so.
@@ -286,7 +288,7 @@ fn replies<R: Abort>(
     let built = refusal.build_message(&request.as_message(), builder);
     drop(request);
     let built = built.expect(rt, "room");
-    assert_eq!(rt; built.as_slice(), reply);
+    is(rt, built.as_slice(), reply);
     drop(built);
 }
 

@@ -1,10 +1,10 @@
 // TSIG data: text, equality, order, hash, memory of their own.
-use crate::common::{name, says};
+use crate::common::{is, name, says};
 use dns_name::KeyName;
 use std::cmp::Ordering;
 use std::hash::{DefaultHasher, Hash, Hasher};
 use std::process::Abort;
-use tsig_rdata::{Time48, Tsig};
+use tsig_port::{Time48, Tsig};
 
 /// Fudge, original id and error of a request.
 const REQUEST: [u16; 3] = [300, 7, 0];
@@ -48,7 +48,7 @@ fn text_of_data(rt: HostRuntime) {
     );
     let data = tsig(&rt, b"\0", time, REQUEST, &[0], &[0, 0, 0, 0, 3, 0xe8]);
     says(&rt, alloc, &data, ". 1000 300 AA== 7 NOERROR \"AAAAAAPo\"");
-    assert_eq!(rt; data.other_time(), Some(time));
+    is(&rt, data.other_time(), Some(time));
 }
 
 #[test]
@@ -59,10 +59,10 @@ fn case_of_the_algorithm(rt: HostRuntime) {
     let same = data == upper;
     assert!(rt; same);
     let order = data.cmp(&upper);
-    assert_eq!(rt; order, Ordering::Equal);
+    is(&rt, order, Ordering::Equal);
     let hash = hash_of(&data);
     let other = hash_of(&upper);
-    assert_eq!(rt; hash, other);
+    is(&rt, hash, other);
 }
 
 /// The second, once it is asserted that the first is lower, with another hash.
@@ -109,10 +109,10 @@ fn flattened_data(rt: HostRuntime) {
     let same = stored.data_eq(&data);
     assert!(rt; same);
     let order = stored.data_cmp(&data);
-    assert_eq!(rt; order, Ordering::Equal);
+    is(&rt, order, Ordering::Equal);
     let len = stored.rdlen();
-    assert_eq!(rt; len, 29);
+    is(&rt, len, 29);
     let mac = stored.into_mac();
-    assert_eq!(rt; mac.as_slice(), [1].as_slice());
+    is(&rt, mac.as_slice(), [1].as_slice());
     drop(mac);
 }

@@ -6,8 +6,7 @@ use dns_rdata::StoredRecord;
 use dns_wire::Message;
 use std::alloc::Global;
 use std::process::Abort;
-use zone_answer::{Answer, AnswerAdditional, AnswerAuthority};
-use zone_values::{SharedRr, SharedRrset};
+use zone_types::{Answer, AnswerAdditional, AnswerAuthority, SharedRr, SharedRrset};
 
 /// A request with id 1234 in hexadecimal digits, RD, and one question, A of `example.` in IN, that ends at octet 25.
 const REQUEST: &str = "123401000001000000000000 076578616d706c650000010001";

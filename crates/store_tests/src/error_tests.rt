@@ -2,16 +2,17 @@
 
 use crate::common::{HOST, address, is, name};
 use dns_name::{Class, Rtype};
+use dns_rdata::StoredRecord;
 use std::alloc::Global;
 use std::fmt::{self, Write};
 use std::process::Abort;
-use zone_diffs::ZoneDiffError;
-use zone_errors::{
-    CommitError, ContextError, InsertError, NodeError, RecordError, UpdateError, ZoneErrors,
+use zone_store::{
+    AskError, CommitError, EditError, InsertError, NodeError, QueryError, UpdateError,
 };
-use zone_handles::{AskError, QueryError};
-use zone_values::{CnameError, OutOfZone, WriteApexError, ZoneCutError, ZoneTreeModificationError};
-use zone_versions::EditError;
+use zone_types::{
+    CnameError, ContextError, OutOfZone, RecordError, WriteApexError, ZoneCutError, ZoneDiffError,
+    ZoneErrors, ZoneTreeModificationError,
+};
 
 /// Asserts that a value says this.
 fn says<R: Abort, T: fmt::Display>(rt: &R, alloc: Global, value: &T, wanted: &str) {
@@ -51,21 +52,35 @@ fn texts_of_refused_edits(rt: HostRuntime) {
 #[test]
 fn texts_of_zones_that_are_none(rt: HostRuntime) {
     let alloc = rt.alloc();
-    let (cut, at_apex) = (ZoneCutError::from(OutOfZone), ZoneCutError::ZoneCutAtApex);
     says(&rt, alloc, &OutOfZone, "Out of zone");
-    says(&rt, alloc, &cut, "Out of zone");
-    says(&rt, alloc, &at_apex, "Zone cut at apex");
-    let cut = ContextError::InvalidZonecut(cut);
-    says(&rt, alloc, &cut, "Invalid zone cut: Out of zone");
-    let at_apex = ContextError::InvalidZonecut(at_apex);
-    says(&rt, alloc, &at_apex, "Invalid zone cut: Zone cut at apex");
-    let (cname, at_apex) = (CnameError::from(OutOfZone), CnameError::CnameAtApex);
-    says(&rt, alloc, &cname, "Out of zone");
-    says(&rt, alloc, &at_apex, "CNAME at apex");
-    let cname = ContextError::InvalidCname(cname);
-    says(&rt, alloc, &cname, "Invalid CNAME: Out of zone");
-    let at_apex = ContextError::InvalidCname(at_apex);
-    says(&rt, alloc, &at_apex, "Invalid CNAME: CNAME at apex");
+    let at_apex = ZoneCutError::ZoneCutAtApex;
+    for (cut, wanted, within) in [
+        (
+            ZoneCutError::from(OutOfZone),
+            "Out of zone",
+            "Invalid zone cut: Out of zone",
+        ),
+        (
+            at_apex,
+            "Zone cut at apex",
+            "Invalid zone cut: Zone cut at apex",
+        ),
+    ] {
+        says(&rt, alloc, &cut, wanted);
+        says(&rt, alloc, &ContextError::InvalidZonecut(cut), within);
+    }
+    let at_apex = CnameError::CnameAtApex;
+    for (cname, wanted, within) in [
+        (
+            CnameError::from(OutOfZone),
+            "Out of zone",
+            "Invalid CNAME: Out of zone",
+        ),
+        (at_apex, "CNAME at apex", "Invalid CNAME: CNAME at apex"),
+    ] {
+        says(&rt, alloc, &cname, wanted);
+        says(&rt, alloc, &ContextError::InvalidCname(cname), within);
+    }
     says(&rt, alloc, &ContextError::MissingNs, "Missing NS");
     let outside = ContextError::OutOfZone(Rtype::MX);
     says(&rt, alloc, &outside, "Out of zone: MX");
@@ -75,87 +90,52 @@ fn texts_of_zones_that_are_none(rt: HostRuntime) {
     says(&rt, alloc, &there, "Zone already exists");
     let lacking = ZoneTreeModificationError::ZoneDoesNotExist;
     says(&rt, alloc, &lacking, "Zone does not exist");
-    says(
-        &rt,
-        alloc,
-        &ZoneDiffError::MissingStartSoa,
-        "MissingStartSoa",
-    );
+    let start = ZoneDiffError::MissingStartSoa;
+    says(&rt, alloc, &start, "MissingStartSoa");
     says(&rt, alloc, &ZoneDiffError::MissingEndSoa, "MissingEndSoa");
     let order = ZoneDiffError::InvalidSerialRange;
     says(&rt, alloc, &order, "InvalidSerialRange");
 }
 
-/// Checks a refusal's text, and whether it is about a record.
-fn check<R: Abort>(rt: &R, alloc: Global, refusal: RecordError, wanted: &str, owned: bool) {
-    check_lent(rt, alloc, &refusal, wanted, owned);
+/// Asserts a refusal's text, and whether it is about a record.
+fn refuses<R: Abort>(rt: &R, alloc: Global, refusal: RecordError, wanted: &str, owned: bool) {
+    says(rt, alloc, &refusal, wanted);
+    is(rt, refusal.owner().is_some(), owned);
     drop(refusal);
 }
 
-fn check_lent<R: Abort>(rt: &R, alloc: Global, refusal: &RecordError, wanted: &str, owned: bool) {
-    says(rt, alloc, refusal, wanted);
-    is(rt, refusal.owner().is_some(), owned);
+/// The record of an address at t.
+fn host<R: Abort>(rt: &R, alloc: Global) -> StoredRecord {
+    address(rt, alloc, HOST, 60, 1)
 }
 
 #[test]
 fn texts_of_refused_records(rt: HostRuntime) {
     let alloc = rt.alloc();
-    check(
-        &rt,
-        alloc,
-        RecordError::ClassMismatch(address(&rt, alloc, HOST, 60, 1), Class::IN),
-        "The class of the record does not match the class IN of the zone",
-        true,
-    );
-    check(
-        &rt,
-        alloc,
-        RecordError::IllegalZoneCut(address(&rt, alloc, HOST, 60, 1), Rtype::TXT),
-        "Attempted to add zone cut records where non-zone cut records (TXT) already exist",
-        true,
-    );
-    check(
-        &rt,
-        alloc,
-        RecordError::IllegalRecord(address(&rt, alloc, HOST, 60, 1), Rtype::DS),
-        "Attempted to add a normal record where a DS record already exists",
-        true,
-    );
-    check(
-        &rt,
-        alloc,
-        RecordError::IllegalCname(address(&rt, alloc, HOST, 60, 1), Rtype::A),
-        "Attempted to add a CNAME record where a A record already exists",
-        true,
-    );
-    check(
-        &rt,
-        alloc,
-        RecordError::MultipleCnames(address(&rt, alloc, HOST, 60, 1)),
-        "Attempted to add a CNAME record a CNAME record already exists",
-        true,
-    );
-    check(
-        &rt,
-        alloc,
-        RecordError::MissingSoa(Some(address(&rt, alloc, HOST, 60, 1))),
-        "The SOA record was not found, found this record instead",
-        true,
-    );
-    check(
-        &rt,
-        alloc,
-        RecordError::MissingSoa(None),
-        "The SOA record was not found.",
-        false,
-    );
-    check(
-        &rt,
-        alloc,
-        RecordError::InvalidRecord(ContextError::InvalidCname(CnameError::CnameAtApex)),
-        "The record is parseable but not valid: Invalid CNAME: CNAME at apex",
-        false,
-    );
+    let refusal = RecordError::ClassMismatch(host(&rt, alloc), Class::IN);
+    let text = "The class of the record does not match the class IN of the zone";
+    refuses(&rt, alloc, refusal, text, true);
+    let refusal = RecordError::IllegalZoneCut(host(&rt, alloc), Rtype::TXT);
+    let text = "Attempted to add zone cut records where non-zone cut records (TXT) already exist";
+    refuses(&rt, alloc, refusal, text, true);
+    let refusal = RecordError::IllegalRecord(host(&rt, alloc), Rtype::DS);
+    let text = "Attempted to add a normal record where a DS record already exists";
+    refuses(&rt, alloc, refusal, text, true);
+    let refusal = RecordError::IllegalCname(host(&rt, alloc), Rtype::A);
+    let text = "Attempted to add a CNAME record where a A record already exists";
+    refuses(&rt, alloc, refusal, text, true);
+    let refusal = RecordError::MultipleCnames(host(&rt, alloc));
+    let text = "Attempted to add a CNAME record a CNAME record already exists";
+    refuses(&rt, alloc, refusal, text, true);
+    let refusal = RecordError::MissingSoa(Some(host(&rt, alloc)));
+    let text = "The SOA record was not found, found this record instead";
+    refuses(&rt, alloc, refusal, text, true);
+    let refusal = RecordError::MissingSoa(None);
+    refuses(&rt, alloc, refusal, "The SOA record was not found.", false);
+    let invalid = ContextError::InvalidCname(CnameError::CnameAtApex);
+    let refusal = RecordError::InvalidRecord(invalid);
+    let text = "The record is parseable but not valid: Invalid CNAME: CNAME at apex";
+    refuses(&rt, alloc, refusal, text, false);
 }
 
 /// Adds a refusal that is about this name.

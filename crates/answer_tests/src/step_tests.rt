@@ -1,12 +1,11 @@
 // Steps of readers and one writer, and what their handles answer.
 
 use crate::common::{address, is, name};
-use crate::zone_reading_tests::zone;
+use crate::handle_tests::zone;
 use dns_name::{Rcode, Rtype};
 use std::alloc::Global;
 use std::process::Abort;
-use zone_handles::{AskError, Step, ask, begin_again, make_steps};
-use zone_sessions::{ReadZone, WriteZone};
+use zone_store::{AskError, ReadZone, Step, WriteZone, ask, begin_again, make_steps};
 
 fn then<R: Abort>(rt: &R, steps: &mut Vec<Step>, step: Step) {
     steps.push(step).ok().expect(rt, "memory");
@@ -14,7 +13,7 @@ fn then<R: Abort>(rt: &R, steps: &mut Vec<Step>, step: Step) {
 
 /// Two steps: an address is added, and what is pending is committed or dropped.
 fn write<R: Abort>(rt: &R, alloc: Global, steps: &mut Vec<Step>, owner: &[u8], last: Step) {
-    then(rt, steps, Step::Add(address(rt, alloc, owner, 60, 1)));
+    then(rt, steps, Step::Add(address(rt, alloc, owner, 1)));
     then(rt, steps, last);
 }
 

@@ -5,7 +5,7 @@ use dns_name::{Rtype, StoredName, Ttl};
 use dns_rdata::StoredRecord;
 use std::alloc::Global;
 use std::process::Abort;
-use zone_values::{
+use zone_types::{
     OutOfZone, Rrset, SharedRr, SharedRrset, Version, Versioned, ZoneCut, rel_name_rev_iter,
 };
 

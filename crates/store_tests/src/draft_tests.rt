@@ -1,13 +1,13 @@
 // The keys of edits, and what two versions differ in at them.
 
-use crate::common::{APEX, HOST, address, is, name, shown, soa};
-use dns_name::{Class, Rtype, Serial, Ttl};
+use crate::common::{APEX, HOST, address, changes_the_ttl, is, name, soa};
+use dns_name::{Class, Rtype, Ttl};
 use dns_rdata::StoredRecord;
 use std::alloc::Global;
 use std::process::Abort;
 use std::sync::Arc;
 use zone_changes::{Draft, TouchedKeys};
-use zone_diffs::{InMemoryZoneDiff, ZoneDiff};
+use zone_types::InMemoryZoneDiff;
 use zone_versions::ZoneVersion;
 
 fn add<R: Abort>(rt: &R, alloc: Global, draft: &mut Draft, added: StoredRecord) {
@@ -56,20 +56,7 @@ fn told<R: Abort>(rt: &R, alloc: Global, serial: u32) -> Option<InMemoryZoneDiff
 fn three_addresses_change_their_ttl(rt: HostRuntime) {
     let alloc = rt.alloc();
     let diff = told(&rt, alloc, 2).expect(&rt, "a difference");
-    is(&rt, diff.start_serial(), Serial::from(1));
-    is(&rt, diff.end_serial(), Serial::from(2));
-    is(&rt, diff.removed_len(), 2);
-    is(&rt, diff.added_len(), 2);
-    is(&rt, shown(&rt, diff.removed_at(0)), (1, Rtype::SOA));
-    is(&rt, shown(&rt, diff.removed_at(1)), (3, Rtype::A));
-    is(&rt, shown(&rt, diff.added_at(0)), (1, Rtype::SOA));
-    is(&rt, shown(&rt, diff.added_at(1)), (3, Rtype::A));
-    let owner = name(&rt, alloc, HOST);
-    let set = diff.get_added(&owner, Rtype::A).expect(&rt, "a set");
-    is(&rt, set.as_rrset().ttl(), Ttl::from_int(60));
-    let set = diff.get_removed(&owner, Rtype::A).expect(&rt, "a set");
-    is(&rt, set.as_rrset().ttl(), Ttl::from_int(3600));
-    drop(owner);
+    changes_the_ttl(&rt, alloc, &diff);
     drop(diff);
 }
 

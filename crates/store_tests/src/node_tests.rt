@@ -5,8 +5,8 @@ use dns_name::{Label, NameRef, Rtype, Ttl};
 use dns_rdata::{Ns, ZoneRecordData};
 use std::alloc::Global;
 use std::process::Abort;
-use zone_sessions::{EditError, NodeError, UpdateError, WriteNode, WriteZone};
-use zone_values::{Rrset, SharedRr, SharedRrset, ZoneCut};
+use zone_store::{EditError, NodeError, UpdateError, WriteNode, WriteZone};
+use zone_types::{Rrset, SharedRr, SharedRrset, ZoneCut};
 
 fn child<'s, 'z, R: Abort>(rt: &R, node: WriteNode<'s, 'z>, label: &[u8]) -> WriteNode<'s, 'z> {
     let label = Label::from_slice(label).expect(rt, "a label");

@@ -5,7 +5,7 @@ use dns_name::{Class, NameRef, Rtype, Ttl};
 use dns_rdata::StoredRecord;
 use std::alloc::Global;
 use std::process::Abort;
-use zone_sessions::{EditError, InsertError, ReadZone, WriteZone, ZoneBuilder};
+use zone_store::{EditError, InsertError, ReadZone, WriteZone, ZoneBuilder};
 
 const A: &[u8] = b"\x01a\x07example\x00";
 

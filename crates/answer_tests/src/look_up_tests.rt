@@ -6,8 +6,8 @@ use dns_rdata::ComposeRecord;
 use dns_wire::{Message, MessageBuf};
 use std::alloc::Global;
 use std::process::Abort;
-use zone_lookup::{AnswerRecords, OutOfZone, look_up};
-use zone_sessions::{ReadZone, ZoneBuilder};
+use zone_store::{ReadZone, ZoneBuilder, look_up};
+use zone_types::{AnswerRecords, OutOfZone};
 
 /// The zone of RFC 4592, section 2.2.1, a record a line, with SOA data `ns.example.com. host.example. 1 2 3 4 5`, SRV data `0 0 22` and the
 /// owner's host, and TXT data "this is a wildcard" and "this is not a wildcard".

@@ -5,8 +5,8 @@ use dns_name::{Label, NameRef, Rtype, Serial};
 use dns_rdata::ZoneRecordData;
 use std::alloc::Global;
 use std::process::Abort;
-use zone_diffs::{InMemoryZoneDiff, ZoneDiff};
-use zone_sessions::{ReadZone, WriteZone, ZoneApex};
+use zone_store::{ReadZone, WriteZone, ZoneApex};
+use zone_types::{InMemoryZoneDiff, ZoneDiff};
 
 /// Puts the three addresses at t.
 fn put<R: Abort>(rt: &R, alloc: Global, session: &mut WriteZone<'_>, ttl: u32) {

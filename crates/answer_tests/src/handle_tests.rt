@@ -5,8 +5,7 @@ use dns_name::{Class, Labelled, Rcode, Rtype, ToName};
 use dns_rdata::RecordData;
 use std::alloc::Global;
 use std::process::Abort;
-use zone_handles::{QueryError, ReadableZone, Zone, ZoneStore, is_same};
-use zone_sessions::{ReadZone, ZoneApex};
+use zone_store::{QueryError, ReadZone, ReadableZone, Zone, ZoneApex, ZoneStore, is_same};
 
 pub(crate) fn zone<R: Abort>(rt: &R, alloc: Global) -> Zone<ZoneApex> {
     let apex = name(rt, alloc, b"\x01c\0");
@@ -17,7 +16,7 @@ pub(crate) fn zone<R: Abort>(rt: &R, alloc: Global) -> Zone<ZoneApex> {
 fn commit<R: Abort>(rt: &R, alloc: Global, zone: &mut Zone<ZoneApex>, owner: &[u8], last: u8) {
     let mut session = zone.write(alloc);
     session
-        .add_record(address(rt, alloc, owner, 60, last))
+        .add_record(address(rt, alloc, owner, last))
         .expect(rt, "a new record");
     let told = session.commit(rt, false).expect(rt, "a version");
     drop(told);
@@ -34,10 +33,10 @@ fn commit_two<R: Abort>(
 ) {
     let mut session = zone.write(alloc);
     session
-        .add_record(address(rt, alloc, first.0, 60, first.1))
+        .add_record(address(rt, alloc, first.0, first.1))
         .expect(rt, "a new record");
     session
-        .add_record(address(rt, alloc, second.0, 60, second.1))
+        .add_record(address(rt, alloc, second.0, second.1))
         .expect(rt, "a new record");
     let told = session.commit(rt, false).expect(rt, "a version");
     drop(told);

@@ -1,0 +1,92 @@
+//! The README's example: a zone transfer over a link of one's own.
+
+use crate::common::{KEY, empty_zone, shared_key};
+use crate::xfr_server_tests::{Primary, at, primary};
+use dns_wire::MessageBuf;
+use std::alloc::Global;
+use tsig_port::{Key, Time48};
+use xfr_server::{ReplyStream, Request, Service, TransportSpecificContext};
+use zone_store::WriteZone;
+use zone_sync::client::{XfrClient, XfrMode};
+use zone_sync::outcome::{SyncError, SyncOk};
+
+/// Brings a session's zone to what the primary at the other end has, whose replies the key signs.
+fn fetch_zone<R>(
+    rt: &R,
+    connection: &mut Connection,
+    session: &mut WriteZone<'_>,
+    key: &Key,
+    now: Time48,
+) -> Result<SyncOk, SyncError> {
+    let mut client = XfrClient::new(connection.alloc, key, XfrMode::Axfr, now);
+    let request = client.request(session, 65_535)?;
+    connection.send(request.as_slice())?;
+    let mut versions = Vec::new(connection.alloc);
+    let mut outcome = None;
+    for _ in 0..65_536u32 {
+        if !client.is_open() {
+            break;
+        }
+        let reply = connection.receive().ok_or(SyncError::Ended)?;
+        outcome = client.take(rt, session, reply, &mut versions)?;
+    }
+    outcome.ok_or(SyncError::TooManyMessages)
+}
+
+/// A link of one's own: here a primary in the same program, and its replies that weren't taken yet.
+#[derive(Drop)]
+struct Connection {
+    alloc: Global,
+    primary: Primary,
+    replies: Vec<Vec<u8>>,
+}
+
+impl Connection {
+    /// Sends a request.
+    fn send(&mut self, octets: &[u8]) -> Result<(), SyncError> {
+        let message = MessageBuf::from_octets(octets.to_vec(self.alloc)?)?;
+        let request = Request::new(message, TransportSpecificContext::NonUdp, at(), ());
+        let mut items = self.primary.call(self.alloc, request)?;
+        for _ in 0..9u8 {
+            let Some(item) = items.next_item() else {
+                break;
+            };
+            if let Some(reply) = item?.into_response() {
+                self.replies.push(reply.finish().into_octets())?;
+            }
+        }
+        Ok(())
+    }
+
+    /// Takes the next reply, where there is one.
+    fn receive(&mut self) -> Option<Vec<u8>> {
+        if self.replies.is_empty() {
+            return None;
+        }
+        Some(self.replies.remove(0))
+    }
+}
+
+#[test]
+fn a_zone_comes_over_a_link_of_ones_own(rt: HostRuntime) {
+    let alloc = rt.alloc();
+    let key = shared_key(&rt, KEY);
+    let mut connection = Connection {
+        alloc,
+        primary: primary(&rt, alloc, true),
+        replies: Vec::new(alloc),
+    };
+    let mut zone = empty_zone(&rt, alloc);
+    let mut session = zone.write(alloc);
+    let outcome = fetch_zone(&rt, &mut connection, &mut session, &key, at());
+    assert_eq!(rt; outcome, Ok(SyncOk::Updated));
+    let version = session.handle().expect(&rt, "memory");
+    assert_eq!(rt; version.version(), 1);
+    let sets = version.iter_rrsets().count();
+    assert_eq!(rt; sets, 3);
+    drop(version);
+    drop(session);
+    drop(zone);
+    drop(connection);
+    drop(key);
+}
