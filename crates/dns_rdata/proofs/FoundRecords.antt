@@ -5,7 +5,7 @@ use Rattle.std.specs.Str.{bytes_eq}
 use Rattle.std.specs.Cmp.Lexicographic.{bytes_decides}
 use Rattle.dns_name.specs.Octets.{◌>>=◌}
 use Rattle.dns_name.proofs.NameReading.{bound, guarded}
-use Rattle.rdata_types.specs.Records.{Record, record_wire}
+use Rattle.dns_name.specs.Records.{Record, record_wire}
 use Rattle.dns_rdata.specs.Heads.{raw_record_at, readable, record_in}
 
 pub found_is_spelled : (octets : List ℕ) (r : Record) → record_in octets ≡ Some r → record_wire r ≡ octets

@@ -1,3 +1,6 @@
+pub mod Fronts
+pub mod Comparing
+pub mod FoldedData
+pub mod ReadData
 pub mod Writing
 pub mod FoundRecords
-pub mod Shapes

@@ -2,7 +2,7 @@
 use Rattle.std.proofs.Common.{◌≡◌, ℕ, List, ◌++◌}
 use Rattle.std.proofs.lemmas.List.{append_assoc}
 use Rattle.dns_name.specs.Names.{name_wire}
-use Rattle.rdata_types.specs.Records.{Record, record_wire, data_wire}
+use Rattle.dns_name.specs.Records.{Record, record_wire, data_wire}
 use Rattle.dns_rdata.specs.RecordHead.{head_wire}
 
 -- a record is its owner, its head and its data

@@ -6,8 +6,8 @@ use Rattle.std.specs.Cmp.{unsigned_Decides, first_so, second_so}
 use Rattle.std.specs.Cmp.Lexicographic.{bytes_decides}
 use Rattle.dns_name.specs.Names.{Name}
 use Rattle.dns_name.specs.NameOrder.{name_hash, same_hash}
-use Rattle.rdata_types.specs.Records.{Field, same_field, same_data}
-use Rattle.rdata_types.specs.Records.Field.{Octets, DomainName}
+use Rattle.dns_name.specs.Records.{Field, same_field, same_data}
+use Rattle.dns_name.specs.Records.Field.{Octets, DomainName}
 use Rattle.dns_rdata.specs.ZoneData.{rtype_of, fields_of, same_zone_data}
 use Rattle.dns_rdata.specs.declared.zone_data.ZoneRecordData.{ZoneRecordData}
 

@@ -4,7 +4,7 @@ use Rattle.std.specs.Str.{bytes_eq}
 use Rattle.dns_name.specs.Octets.{◌>>=◌, octets_at, u16_at, u32_at}
 use Rattle.dns_name.specs.Names.{Name, name_wire}
 use Rattle.dns_name.specs.Compression.{name_at}
-use Rattle.rdata_types.specs.Records.{Record, record_wire, parts, fields_at}
+use Rattle.dns_name.specs.Records.{Record, record_wire, parts, fields_at}
 
 -- a record of which only the head was read; its data are the rdlength octets from place rdata on (RFC 1035, 4.1.3)
 pub record RawRecord : Type 0 where

@@ -4,7 +4,7 @@ use Rattle.std.specs.Prelude.{◌++◌, IsTrue}
 use Rattle.std.specs.Hash.{HashWrites, u16, Alike, and-Alike, on_Alike}
 use Rattle.dns_name.specs.Names.{same_name}
 use Rattle.dns_name.specs.NameOrder.{name_hash, same_hash}
-use Rattle.rdata_types.specs.Records.{Record}
+use Rattle.dns_name.specs.Records.{Record}
 use Rattle.dns_rdata.specs.DataHash.{fields_hash, type_alike, fields_alike}
 use Rattle.dns_rdata.specs.SameRecord.{same_record}
 

@@ -1,7 +1,7 @@
 -- What stands between a record's owner and its data (RFC 1035, 3.2.1).
 use Rattle.std.specs.Prelude.{ℕ, List, ◌++◌, length}
 use Rattle.dns_name.specs.Octets.{u16_octets, u32_octets}
-use Rattle.rdata_types.specs.Records.{Record, data_wire}
+use Rattle.dns_name.specs.Records.{Record, data_wire}
 
 -- TYPE, CLASS, TTL and RDLENGTH as they are sent
 unfoldable pub head_wire : Record → List ℕ

@@ -7,12 +7,12 @@ use Rattle.std.specs.Cmp.{IsTotalOrder, IsPartialOrder, both_tied, unsigned_ties
 use Rattle.std.proofs.lemmas.Cmp.{then_total, on_total, nat_cmp_total}
 use Rattle.dns_name.specs.Names.{canonical_cmp}
 use Rattle.dns_name.specs.NameOrder.{canonical_total, canonical_ties}
-use Rattle.rdata_types.specs.Records.{Record}
-use Rattle.rdata_types.specs.DataOrder.{data_cmp}
-use Rattle.rdata_types.specs.DataTies.{data_total, data_ties}
+use Rattle.dns_name.specs.Records.{Record}
+use Rattle.dns_rdata.specs.DataOrder.{data_cmp}
+use Rattle.dns_rdata.specs.DataTies.{data_total, data_ties}
 use Rattle.dns_rdata.specs.SameRecord.{same_record}
 
--- an order of records whose ties are equal records: owners in canonical order, then by class, by type and by data (RFC 4034, 6)
+-- an order of records whose ties are equal records: owners in canonical order (RFC 4034, 6.1), then by class, by type and by data
 abbrev pub record_cmp : Record → Record → Ordering
 record_cmp a b =
     ordering_then (canonical_cmp a.owner b.owner)

@@ -3,8 +3,8 @@ use Rattle.std.specs.Prelude.{Bool, ◌==◌, ◌&&◌}
 use Rattle.std.specs.Cmp.{IsEquivalence, IsPartialEquivalence, partial_equiv_from_equiv, and_equiv, on_equiv, nat_eq_equiv}
 use Rattle.dns_name.specs.Names.{same_name}
 use Rattle.dns_name.specs.NameOrder.{same_name_equiv}
-use Rattle.rdata_types.specs.Records.{Record, same_type_and_data}
-use Rattle.rdata_types.specs.SameData.{same_data_equiv}
+use Rattle.dns_name.specs.Records.{Record, same_type_and_data}
+use Rattle.dns_rdata.specs.SameData.{same_data_equiv}
 
 -- whether two records are equal: owner, class, type and data, names ASCII case aside (RFC 2136, 1.1.1; RFC 4343, 3)
 abbrev pub same_record : Record → Record → Bool

@@ -2,7 +2,7 @@
 use Rattle.std.specs.Prelude.{ℕ}
 use Rattle.std.specs.Cmp.{IsEquivalence, IsPartialEquivalence, partial_equiv_from_equiv, and_equiv, on_equiv, nat_eq_equiv}
 use Rattle.dns_name.specs.Names.{Name}
-use Rattle.rdata_types.specs.SameData.{same_data_equiv}
+use Rattle.dns_rdata.specs.SameData.{same_data_equiv}
 use Rattle.dns_rdata.specs.ZoneData.{rtype_of, fields_of, same_zone_data}
 use Rattle.dns_rdata.specs.declared.zone_data.ZoneRecordData.{ZoneRecordData}
 

@@ -3,9 +3,9 @@ use Rattle.std.specs.Prelude.{ℕ, ◌==◌, ◌&&◌, Bool, List}
 use Rattle.std.specs.Ordering.{nat_cmp, ordering_then}
 use Rattle.std.specs.declared.cmp.Ordering.{Ordering}
 use Rattle.dns_name.specs.Names.{Name}
-use Rattle.rdata_types.specs.Records.{Field, same_data}
-use Rattle.rdata_types.specs.DataOrder.{data_cmp}
-use Rattle.rdata_types.specs.OctetFields.{a_fields, aaaa_fields, txt_fields, ds_fields, unknown_fields}
+use Rattle.dns_name.specs.Records.{Field, same_data}
+use Rattle.dns_rdata.specs.DataOrder.{data_cmp}
+use Rattle.rdata_octets.specs.OctetFields.{a_fields, aaaa_fields, txt_fields, ds_fields, unknown_fields}
 use Rattle.rdata_types.specs.DataFields.{name_fields, minfo_fields, mx_fields, srv_fields, soa_fields}
 use Rattle.dns_rdata.specs.declared.zone_data.ZoneRecordData.{ZoneRecordData}
 use Rattle.dns_rdata.specs.declared.zone_data.ZoneRecordData.TheVariants.{A, Aaaa, Ns, Md, Mf, Mb, Mg, Mr, Cname, Ptr, Minfo, Mx, Srv, Soa, Txt, Ds, Unknown}

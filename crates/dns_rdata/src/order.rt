@@ -1,14 +1,14 @@
 // The order of data: ties are equal data, whatever their type.
-ghost use Rattle.std.specs.Prelude.{◌≡◌, ◌∷◌, []};
-ghost use Rattle.rdata_types.specs.Records.Field.{Octets, DomainName};
-ghost use Rattle.rdata_types.specs.DataOrder.{data_cmp};
-ghost use Rattle.rdata_types.specs.OctetFields.{ds_fields};
-ghost use Rattle.rdata_types.specs.DataFields.{minfo_fields, soa_fields};
+ghost use Rattle.std.specs.Prelude.{◌≡◌, ◌++◌};
+ghost use Rattle.std.specs.Ordering.{nat_cmp};
+ghost use Rattle.std.specs.Cmp.Lexicographic.{slice_cmp};
+ghost use Rattle.dns_name.specs.Records.{same_data};
+ghost use Rattle.dns_name.specs.LentFields.{field_of, fields_in};
+ghost use Rattle.dns_rdata.specs.DataOrder.{data_cmp, field_cmp as field_order};
 ghost use Rattle.dns_rdata.specs.ZoneData.{fields_of};
 
 use crate::zone_data::ZoneRecordData;
-use dns_name::{Labelled, ToName};
-use rdata_types::{Ds, Minfo, RecordData, Soa};
+use dns_name::{Labelled, LentField, LentFields, RecordData, ToName};
 use std::cmp::Ordering;
 use std::convert::AsSlice;
 
@@ -21,161 +21,18 @@ impl<O: AsSlice<u8> + Drop, N: ToName + Drop> ZoneRecordData<O, N> {
     ) -> Ordering
         ensures { result ≡ data_cmp (fields_of N.labels self.now) (fields_of M.labels other.now) }
     {
-        match other {
-            ZoneRecordData::A(b) => self.cmp_octets(&b.octets),
-            ZoneRecordData::Aaaa(b) => self.cmp_octets(&b.octets),
-            ZoneRecordData::Txt(b) => self.cmp_octets(b.as_slice()),
-            ZoneRecordData::Unknown(b) => self.cmp_octets(b.as_slice()),
-            ZoneRecordData::Ds(b) => self.cmp_digest(b),
-            ZoneRecordData::Ns(b) => self.cmp_name(b.name()),
-            ZoneRecordData::Md(b) => self.cmp_name(b.name()),
-            ZoneRecordData::Mf(b) => self.cmp_name(b.name()),
-            ZoneRecordData::Mb(b) => self.cmp_name(b.name()),
-            ZoneRecordData::Mg(b) => self.cmp_name(b.name()),
-            ZoneRecordData::Mr(b) => self.cmp_name(b.name()),
-            ZoneRecordData::Cname(b) => self.cmp_name(b.name()),
-            ZoneRecordData::Ptr(b) => self.cmp_name(b.name()),
-            ZoneRecordData::Mx(b) => { self.cmp_numbered(&b.preference.to_be_bytes(), &b.exchange) }
-            ZoneRecordData::Srv(b) => self.cmp_numbered(&b.numbers(), &b.target),
-            ZoneRecordData::Minfo(b) => self.cmp_minfo(b),
-            ZoneRecordData::Soa(b) => self.cmp_soa(b),
-        }
+        lent_cmp(&self.lent_fields(), &other.lent_fields())
     }
 
-    /// The order beside octets alone.
-    fn cmp_octets(&self, octets: &[u8]) -> Ordering
-        ensures { result ≡ data_cmp (fields_of N.labels self.now) (Octets octets.now ∷ []) }
+    /// Whether the fields are equal, names ASCII case aside; the types aren't looked at.
+    #[tactic(auto, using(crate::specs::DataTies::data_ties))]
+    pub fn fields_eq<P: AsSlice<u8> + Drop, M: Labelled + Drop>(
+        &self,
+        other: &ZoneRecordData<P, M>,
+    ) -> bool
+        ensures { result ≡ same_data (fields_of N.labels self.now) (fields_of M.labels other.now) }
     {
-        match self {
-            ZoneRecordData::A(a) => a.octets.as_slice().cmp(octets),
-            ZoneRecordData::Aaaa(a) => a.octets.as_slice().cmp(octets),
-            ZoneRecordData::Txt(a) => a.as_slice().cmp(octets),
-            ZoneRecordData::Unknown(a) => a.as_slice().cmp(octets),
-            ZoneRecordData::Ds(a) => a.octets_cmp(octets),
-            ZoneRecordData::Mx(a) => a
-                .preference
-                .to_be_bytes()
-                .as_slice()
-                .cmp(octets)
-                .then(Ordering::Greater),
-            ZoneRecordData::Srv(a) => a.numbers().as_slice().cmp(octets).then(Ordering::Greater),
-            _ => Ordering::Greater,
-        }
-    }
-
-    /// The order beside a digest.
-    fn cmp_digest<P: AsSlice<u8> + Drop>(&self, digest: &Ds<P>) -> Ordering
-        ensures { result ≡ data_cmp (fields_of N.labels self.now) (ds_fields digest.now) }
-    {
-        match self {
-            ZoneRecordData::A(a) => digest.order_after(&a.octets),
-            ZoneRecordData::Aaaa(a) => digest.order_after(&a.octets),
-            ZoneRecordData::Txt(a) => digest.order_after(a.as_slice()),
-            ZoneRecordData::Unknown(a) => digest.order_after(a.as_slice()),
-            ZoneRecordData::Ds(a) => a.data_cmp(digest),
-            ZoneRecordData::Mx(a) => digest
-                .order_after(&a.preference.to_be_bytes())
-                .then(Ordering::Greater),
-            ZoneRecordData::Srv(a) => digest.order_after(&a.numbers()).then(Ordering::Greater),
-            _ => Ordering::Greater,
-        }
-    }
-
-    /// The order beside a name alone.
-    fn cmp_name<M: Labelled>(&self, name: &M) -> Ordering
-        ensures { result ≡ data_cmp (fields_of N.labels self.now) (DomainName (M.labels name.now) ∷ []) }
-    {
-        match self {
-            ZoneRecordData::Ns(a) => a.name().name_cmp(name),
-            ZoneRecordData::Md(a) => a.name().name_cmp(name),
-            ZoneRecordData::Mf(a) => a.name().name_cmp(name),
-            ZoneRecordData::Mb(a) => a.name().name_cmp(name),
-            ZoneRecordData::Mg(a) => a.name().name_cmp(name),
-            ZoneRecordData::Mr(a) => a.name().name_cmp(name),
-            ZoneRecordData::Cname(a) => a.name().name_cmp(name),
-            ZoneRecordData::Ptr(a) => a.name().name_cmp(name),
-            ZoneRecordData::Minfo(a) => a.rmailbx.name_cmp(name).then(Ordering::Greater),
-            ZoneRecordData::Soa(a) => a.mname.name_cmp(name).then(Ordering::Greater),
-            _ => Ordering::Less,
-        }
-    }
-
-    /// The order beside octets and a name.
-    fn cmp_numbered<M: Labelled>(&self, octets: &[u8], name: &M) -> Ordering
-        ensures { result ≡ data_cmp (fields_of N.labels self.now) (Octets octets.now ∷ DomainName (M.labels name.now) ∷ []) }
-    {
-        match self {
-            ZoneRecordData::A(a) => a.octets.as_slice().cmp(octets).then(Ordering::Less),
-            ZoneRecordData::Aaaa(a) => a.octets.as_slice().cmp(octets).then(Ordering::Less),
-            ZoneRecordData::Txt(a) => a.as_slice().cmp(octets).then(Ordering::Less),
-            ZoneRecordData::Unknown(a) => a.as_slice().cmp(octets).then(Ordering::Less),
-            ZoneRecordData::Ds(a) => a.octets_cmp(octets).then(Ordering::Less),
-            ZoneRecordData::Mx(a) => a
-                .preference
-                .to_be_bytes()
-                .as_slice()
-                .cmp(octets)
-                .then(a.exchange.name_cmp(name)),
-            ZoneRecordData::Srv(a) => a
-                .numbers()
-                .as_slice()
-                .cmp(octets)
-                .then(a.target.name_cmp(name)),
-            _ => Ordering::Greater,
-        }
-    }
-
-    /// The order beside two mailboxes.
-    fn cmp_minfo<M: Labelled + Drop>(&self, other: &Minfo<M>) -> Ordering
-        ensures { result ≡ data_cmp (fields_of N.labels self.now) (minfo_fields M.labels other.now) }
-    {
-        match self {
-            ZoneRecordData::Ns(a) => a.name().name_cmp(&other.rmailbx).then(Ordering::Less),
-            ZoneRecordData::Md(a) => a.name().name_cmp(&other.rmailbx).then(Ordering::Less),
-            ZoneRecordData::Mf(a) => a.name().name_cmp(&other.rmailbx).then(Ordering::Less),
-            ZoneRecordData::Mb(a) => a.name().name_cmp(&other.rmailbx).then(Ordering::Less),
-            ZoneRecordData::Mg(a) => a.name().name_cmp(&other.rmailbx).then(Ordering::Less),
-            ZoneRecordData::Mr(a) => a.name().name_cmp(&other.rmailbx).then(Ordering::Less),
-            ZoneRecordData::Cname(a) => a.name().name_cmp(&other.rmailbx).then(Ordering::Less),
-            ZoneRecordData::Ptr(a) => a.name().name_cmp(&other.rmailbx).then(Ordering::Less),
-            ZoneRecordData::Minfo(a) => a
-                .rmailbx
-                .name_cmp(&other.rmailbx)
-                .then(a.emailbx.name_cmp(&other.emailbx)),
-            ZoneRecordData::Soa(a) => a
-                .mname
-                .name_cmp(&other.rmailbx)
-                .then(a.rname.name_cmp(&other.emailbx))
-                .then(Ordering::Greater),
-            _ => Ordering::Less,
-        }
-    }
-
-    /// The order beside SOA data.
-    fn cmp_soa<M: Labelled + Drop>(&self, other: &Soa<M>) -> Ordering
-        ensures { result ≡ data_cmp (fields_of N.labels self.now) (soa_fields M.labels other.now) }
-    {
-        match self {
-            ZoneRecordData::Ns(a) => a.name().name_cmp(&other.mname).then(Ordering::Less),
-            ZoneRecordData::Md(a) => a.name().name_cmp(&other.mname).then(Ordering::Less),
-            ZoneRecordData::Mf(a) => a.name().name_cmp(&other.mname).then(Ordering::Less),
-            ZoneRecordData::Mb(a) => a.name().name_cmp(&other.mname).then(Ordering::Less),
-            ZoneRecordData::Mg(a) => a.name().name_cmp(&other.mname).then(Ordering::Less),
-            ZoneRecordData::Mr(a) => a.name().name_cmp(&other.mname).then(Ordering::Less),
-            ZoneRecordData::Cname(a) => a.name().name_cmp(&other.mname).then(Ordering::Less),
-            ZoneRecordData::Ptr(a) => a.name().name_cmp(&other.mname).then(Ordering::Less),
-            ZoneRecordData::Minfo(a) => a
-                .rmailbx
-                .name_cmp(&other.mname)
-                .then(a.emailbx.name_cmp(&other.rname))
-                .then(Ordering::Less),
-            ZoneRecordData::Soa(a) => a
-                .mname
-                .name_cmp(&other.mname)
-                .then(a.rname.name_cmp(&other.rname))
-                .then(a.times().cmp(&other.times())),
-            _ => Ordering::Less,
-        }
+        self.fields_cmp(other).is_eq()
     }
 }
 
@@ -214,4 +71,78 @@ impl<O: AsSlice<u8> + Drop, N: ToName + Drop> Ord for ZoneRecordData<O, N> {
             .cmp(&other.rtype())
             .then(self.fields_cmp(other))
     }
+}
+
+/// The order of fields, one after another; data whose fields end first come first.
+fn lent_cmp<N: ToName, M: Labelled>(a: &LentFields<'_, N>, b: &LentFields<'_, M>) -> Ordering
+    ensures { result ≡ data_cmp (fields_in N.labels a.now) (fields_in M.labels b.now) }
+{
+    match a {
+        LentFields::One(x) => match b {
+            LentFields::One(y) => field_cmp(x, y),
+            LentFields::Two(y, _) => field_cmp(x, y).then(Ordering::Less),
+            LentFields::Three(y, _, _) => field_cmp(x, y).then(Ordering::Less),
+        },
+        LentFields::Two(x, next) => match b {
+            LentFields::One(y) => field_cmp(x, y).then(Ordering::Greater),
+            LentFields::Two(y, other) => field_cmp(x, y).then(field_cmp(next, other)),
+            LentFields::Three(y, other, _) => field_cmp(x, y)
+                .then(field_cmp(next, other))
+                .then(Ordering::Less),
+        },
+        LentFields::Three(x, next, last) => match b {
+            LentFields::One(y) => field_cmp(x, y).then(Ordering::Greater),
+            LentFields::Two(y, other) => field_cmp(x, y)
+                .then(field_cmp(next, other))
+                .then(Ordering::Greater),
+            LentFields::Three(y, other, end) => field_cmp(x, y)
+                .then(field_cmp(next, other))
+                .then(field_cmp(last, end)),
+        },
+    }
+}
+
+/// The order of two fields: octets as strings and before names, names in canonical order (RFC 4034, 6.1).
+fn field_cmp<N: ToName, M: Labelled>(a: &LentField<'_, N>, b: &LentField<'_, M>) -> Ordering
+    ensures { result ≡ field_order (field_of N.labels a.now) (field_of M.labels b.now) }
+{
+    match a {
+        LentField::Octets(numbers, octets) => match b {
+            LentField::Octets(others, more) => {
+                joined_cmp(numbers.as_slice(), octets, others.as_slice(), more)
+            }
+            LentField::DomainName(_) => Ordering::Less,
+        },
+        LentField::DomainName(name) => match b {
+            LentField::Octets(_, _) => Ordering::Greater,
+            LentField::DomainName(other) => (**name).name_cmp(*other),
+        },
+    }
+}
+
+/// The order of octets that are given in two parts each.
+#[tactic(auto, using(crate::proofs::Comparing::longer_front, crate::proofs::Comparing::shorter_front))]
+fn joined_cmp(a: &[u8], a_rest: &[u8], b: &[u8], b_rest: &[u8]) -> Ordering
+    ensures { result ≡ slice_cmp nat_cmp (a.now ++ a_rest.now) (b.now ++ b_rest.now) }
+{
+    if a.len() < b.len() {
+        let (front, tail) = b.split_at(a.len());
+        return a.cmp(front).then(octets_cmp(a_rest, tail, b_rest));
+    }
+    let (front, tail) = a.split_at(b.len());
+    front
+        .cmp(b)
+        .then(octets_cmp(b_rest, tail, a_rest).reverse())
+}
+
+/// The order of octets, and others that are given in two parts.
+#[tactic(auto, using(crate::proofs::Comparing::within_front, crate::proofs::Comparing::split_order))]
+fn octets_cmp(octets: &[u8], front: &[u8], rest: &[u8]) -> Ordering
+    ensures { result ≡ slice_cmp nat_cmp octets.now (front.now ++ rest.now) }
+{
+    if octets.len() < front.len() {
+        return octets.cmp(front);
+    }
+    let (start, tail) = octets.split_at(front.len());
+    start.cmp(front).then(tail.cmp(rest))
 }

@@ -1,12 +1,13 @@
 // Records.
 ghost use Rattle.std.specs.Prelude.{◌≡◌, ◌++◌, ◌+◌, IfOk, OnOk, OnErr, length, take};
 ghost use Rattle.std.specs.Str.{bytes_eq};
-ghost use Rattle.rdata_types.specs.Records.{Record as RecordOf, record_wire};
+ghost use Rattle.dns_name.specs.Records.{Record as RecordOf, data_wire, record_wire};
 ghost use Rattle.dns_rdata.specs.RecordHead.{head_wire};
+ghost use Rattle.dns_rdata.specs.ZoneData.{data_fields};
 
+use crate::spelling::{after_front, after_name};
 use crate::zone_data::{ParsedRecordData, StoredRecordData};
-use dns_name::{Class, Labelled, ParsedName, Rtype, StoredName, Ttl};
-use rdata_types::{RecordData, after_front, after_name};
+use dns_name::{Class, Labelled, ParsedName, RecordData, Rtype, StoredName, Ttl};
 use std::alloc::{AllocError, Global};
 use std::marker::Model;
 
@@ -26,7 +27,7 @@ pub type StoredRecord = Record<StoredName, StoredRecordData>;
 pub type ReadRecord<'m> = Record<ParsedName<'m>, ParsedRecordData<'m>>;
 
 impl<N: Labelled + Drop, D: RecordData + Drop> Model for Record<N, D> {
-    ghost use Rattle.rdata_types.specs.Records.{Record as RecordOf};
+    ghost use Rattle.dns_name.specs.Records.{Record as RecordOf};
 
     ghost Value = { RecordOf };
 
@@ -121,7 +122,7 @@ impl<N: Labelled + Drop, D: RecordData + Drop> Record<N, D> {
         [a, b, c, d, e, f, g, h, i, j]
     }
 
-    #[tactic(auto, using(rdata_types::proofs::Writing::begins, crate::proofs::Writing::record_parts, std::proofs::lemmas::List::append_assoc))]
+    #[tactic(auto, using(dns_name::proofs::Writing::begins, crate::proofs::Writing::record_parts, std::proofs::lemmas::List::append_assoc))]
     fn compose_parts(&self, out: &mut Vec<u8>) -> Result<(), AllocError>
         ensures ok { OnOk result (out.new.items ≡ out.old.items ++ record_wire self.now) }
         ensures begins { take (length out.old.items) out.new.items ≡ out.old.items }
@@ -147,17 +148,25 @@ impl<'m> Record<ParsedName<'m>, ParsedRecordData<'m>> {
     }
 
     /// Whether the octets are those of the record as it is sent, without compression.
-    #[tactic(auto, using(rdata_types::proofs::Fronts::both_fronts, rdata_types::proofs::Fronts::wrong_second, rdata_types::proofs::Fronts::wrong_front, crate::proofs::Writing::record_regrouped))]
+    #[tactic(auto, using(crate::proofs::Fronts::one_front, crate::proofs::Fronts::wrong_front, crate::proofs::Writing::record_regrouped))]
     pub fn is_spelled(&self, octets: &[u8]) -> bool
         ensures { result ≡ bytes_eq (record_wire self.now) octets.now }
     {
-        let Some(rest) = after_name(octets, &self.owner) else {
-            return false;
-        };
-        let Some(rest) = after_front(rest, &self.head()) else {
-            return false;
-        };
-        self.data.is_spelled(rest)
+        match after_name(octets, &self.owner) {
+            Some(rest) => is_head_and_data(rest, &self.head(), &self.data),
+            None => false,
+        }
+    }
+}
+
+/// Whether the octets are those of a record's head and of its data.
+#[tactic(auto, using(crate::proofs::Fronts::one_front, crate::proofs::Fronts::wrong_front))]
+fn is_head_and_data(octets: &[u8], head: &[u8], data: &ParsedRecordData<'_>) -> bool
+    ensures { result ≡ bytes_eq (head.now ++ data_wire (data_fields «data».now)) octets.now }
+{
+    match after_front(octets, head) {
+        Some(rest) => data.is_spelled(rest),
+        None => false,
     }
 }
 
@@ -177,7 +186,7 @@ impl Clone for Record<StoredName, StoredRecordData> {
 /// What is sent as a record.
 pub trait ComposeRecord {
     ghost use Rattle.std.specs.Prelude.{◌≡◌, ◌++◌, OnOk, OnErr, length};
-    ghost use Rattle.rdata_types.specs.Records.{Record as RecordOf, record_wire};
+    ghost use Rattle.dns_name.specs.Records.{Record as RecordOf, record_wire};
 
     ghost record_of: { Self → RecordOf };
 

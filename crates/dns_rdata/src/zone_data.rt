@@ -1,17 +1,17 @@
 // The data of a record of any type.
-ghost use Rattle.std.specs.Prelude.{◌≡◌, ◌+◌, ◌∷◌, [], IfOk, OnErr, Some, None};
+ghost use Rattle.std.specs.Prelude.{◌≡◌, ◌+◌, IfOk, OnErr, Some, None};
 ghost use Rattle.std.specs.Str.{bytes_eq};
-ghost use Rattle.rdata_types.specs.Records.{data_wire, fields_at, parts, same_data};
-ghost use Rattle.rdata_types.specs.Records.Field.{Octets, DomainName};
-ghost use Rattle.rdata_types.specs.OctetFields.{ds_fields};
+ghost use Rattle.dns_name.specs.Records.{data_wire, fields_at, parts};
+ghost use Rattle.dns_name.specs.LentFields.{fields_in};
 ghost use Rattle.dns_rdata.specs.ZoneData.{rtype_of, fields_of, data_fields, same_zone_data};
 
+use crate::spelling::are_fields;
 use bytes::Bytes;
-use dns_name::{Labelled, ParseError, ParsedName, Rtype, StoredName, ToName};
-use rdata_types::{
-    A, Aaaa, Cname, Ds, Mb, Md, Mf, Mg, Minfo, Mr, Mx, Ns, Ptr, RecordData, Soa, Srv, Txt,
-    UnknownRecordData, is_known_type,
+use dns_name::{
+    Labelled, LentFields, ParseError, ParsedName, RecordData, Rtype, StoredName, ToName,
 };
+use rdata_octets::{A, Aaaa, Ds, Txt, UnknownRecordData, is_known_type};
+use rdata_types::{Cname, Mb, Md, Mf, Mg, Minfo, Mr, Mx, Ns, Ptr, Soa, Srv};
 use std::alloc::{AllocError, Global};
 use std::convert::AsSlice;
 
@@ -93,29 +93,36 @@ impl<O: AsSlice<u8> + Drop, N: Labelled + Drop> RecordData for ZoneRecordData<O,
     }
 
     fn compose_rdata(&self, out: &mut Vec<u8>) -> Result<(), AllocError> {
-        match self {
-            ZoneRecordData::A(d) => d.compose_rdata(out),
-            ZoneRecordData::Aaaa(d) => d.compose_rdata(out),
-            ZoneRecordData::Ns(d) => d.compose_rdata(out),
-            ZoneRecordData::Md(d) => d.compose_rdata(out),
-            ZoneRecordData::Mf(d) => d.compose_rdata(out),
-            ZoneRecordData::Mb(d) => d.compose_rdata(out),
-            ZoneRecordData::Mg(d) => d.compose_rdata(out),
-            ZoneRecordData::Mr(d) => d.compose_rdata(out),
-            ZoneRecordData::Cname(d) => d.compose_rdata(out),
-            ZoneRecordData::Ptr(d) => d.compose_rdata(out),
-            ZoneRecordData::Minfo(d) => d.compose_rdata(out),
-            ZoneRecordData::Mx(d) => d.compose_rdata(out),
-            ZoneRecordData::Srv(d) => d.compose_rdata(out),
-            ZoneRecordData::Soa(d) => d.compose_rdata(out),
-            ZoneRecordData::Txt(d) => d.compose_rdata(out),
-            ZoneRecordData::Ds(d) => d.compose_rdata(out),
-            ZoneRecordData::Unknown(d) => d.compose_rdata(out),
-        }
+        self.lent_fields().compose(out)
     }
 }
 
 impl<O: AsSlice<u8> + Drop, N: Labelled + Drop> ZoneRecordData<O, N> {
+    /// The data as fields, lent.
+    pub(crate) fn lent_fields(&self) -> LentFields<'_, N>
+        ensures { fields_in N.labels result ≡ fields_of N.labels self.now }
+    {
+        match self {
+            ZoneRecordData::A(d) => LentFields::octets(&d.octets),
+            ZoneRecordData::Aaaa(d) => LentFields::octets(&d.octets),
+            ZoneRecordData::Ns(d) => LentFields::name(d.name()),
+            ZoneRecordData::Md(d) => LentFields::name(d.name()),
+            ZoneRecordData::Mf(d) => LentFields::name(d.name()),
+            ZoneRecordData::Mb(d) => LentFields::name(d.name()),
+            ZoneRecordData::Mg(d) => LentFields::name(d.name()),
+            ZoneRecordData::Mr(d) => LentFields::name(d.name()),
+            ZoneRecordData::Cname(d) => LentFields::name(d.name()),
+            ZoneRecordData::Ptr(d) => LentFields::name(d.name()),
+            ZoneRecordData::Minfo(d) => d.lent_fields(),
+            ZoneRecordData::Mx(d) => d.lent_fields(),
+            ZoneRecordData::Srv(d) => d.lent_fields(),
+            ZoneRecordData::Soa(d) => d.lent_fields(),
+            ZoneRecordData::Txt(d) => LentFields::octets(d.as_slice()),
+            ZoneRecordData::Ds(d) => d.lent_fields(),
+            ZoneRecordData::Unknown(d) => LentFields::octets(d.as_slice()),
+        }
+    }
+
     /// The same data in memory of their own.
     pub fn flatten(&self, alloc: Global) -> Result<StoredRecordData, AllocError>
         ensures rtype { IfOk result (λ d. rtype_of d ≡ rtype_of self.now) }
@@ -146,118 +153,11 @@ impl<O: AsSlice<u8> + Drop, N: Labelled + Drop> ZoneRecordData<O, N> {
     pub fn is_spelled(&self, octets: &[u8]) -> bool
         ensures { result ≡ bytes_eq (data_wire (fields_of N.labels self.now)) octets.now }
     {
-        match self {
-            ZoneRecordData::A(d) => d.is_spelled(octets),
-            ZoneRecordData::Aaaa(d) => d.is_spelled(octets),
-            ZoneRecordData::Ns(d) => d.is_spelled(octets),
-            ZoneRecordData::Md(d) => d.is_spelled(octets),
-            ZoneRecordData::Mf(d) => d.is_spelled(octets),
-            ZoneRecordData::Mb(d) => d.is_spelled(octets),
-            ZoneRecordData::Mg(d) => d.is_spelled(octets),
-            ZoneRecordData::Mr(d) => d.is_spelled(octets),
-            ZoneRecordData::Cname(d) => d.is_spelled(octets),
-            ZoneRecordData::Ptr(d) => d.is_spelled(octets),
-            ZoneRecordData::Minfo(d) => d.is_spelled(octets),
-            ZoneRecordData::Mx(d) => d.is_spelled(octets),
-            ZoneRecordData::Srv(d) => d.is_spelled(octets),
-            ZoneRecordData::Soa(d) => d.is_spelled(octets),
-            ZoneRecordData::Txt(d) => d.is_spelled(octets),
-            ZoneRecordData::Ds(d) => d.is_spelled(octets),
-            ZoneRecordData::Unknown(d) => d.is_spelled(octets),
-        }
-    }
-}
-
-impl<O: AsSlice<u8> + Drop, N: Labelled + Drop> ZoneRecordData<O, N> {
-    /// Whether the data are these octets and no name.
-    fn is_octets(&self, octets: &[u8]) -> bool
-        ensures { result ≡ same_data (fields_of N.labels self.now) (Octets octets.now ∷ []) }
-    {
-        match self {
-            ZoneRecordData::A(d) => d.is_spelled(octets),
-            ZoneRecordData::Aaaa(d) => d.is_spelled(octets),
-            ZoneRecordData::Txt(d) => d.is_spelled(octets),
-            ZoneRecordData::Ds(d) => d.is_spelled(octets),
-            ZoneRecordData::Unknown(d) => d.is_spelled(octets),
-            _ => false,
-        }
+        are_fields(octets, &self.lent_fields())
     }
 }
 
 impl<O: AsSlice<u8> + Drop, N: ToName + Drop> ZoneRecordData<O, N> {
-    /// Whether the data are this name alone, ASCII case aside.
-    fn is_name<M: Labelled>(&self, name: &M) -> bool
-        ensures { result ≡ same_data (fields_of N.labels self.now) (DomainName (M.labels name.now) ∷ []) }
-    {
-        match self {
-            ZoneRecordData::Ns(d) => d.name().name_eq(name),
-            ZoneRecordData::Md(d) => d.name().name_eq(name),
-            ZoneRecordData::Mf(d) => d.name().name_eq(name),
-            ZoneRecordData::Mb(d) => d.name().name_eq(name),
-            ZoneRecordData::Mg(d) => d.name().name_eq(name),
-            ZoneRecordData::Mr(d) => d.name().name_eq(name),
-            ZoneRecordData::Cname(d) => d.name().name_eq(name),
-            ZoneRecordData::Ptr(d) => d.name().name_eq(name),
-            _ => false,
-        }
-    }
-
-    /// Whether the fields are equal, names ASCII case aside; the types aren't looked at.
-    pub fn fields_eq<P: AsSlice<u8> + Drop, M: Labelled + Drop>(
-        &self,
-        other: &ZoneRecordData<P, M>,
-    ) -> bool
-        ensures { result ≡ same_data (fields_of N.labels self.now) (fields_of M.labels other.now) }
-    {
-        match other {
-            ZoneRecordData::A(b) => self.is_octets(&b.octets),
-            ZoneRecordData::Aaaa(b) => self.is_octets(&b.octets),
-            ZoneRecordData::Txt(b) => self.is_octets(b.as_slice()),
-            ZoneRecordData::Unknown(b) => self.is_octets(b.as_slice()),
-            ZoneRecordData::Ds(b) => self.is_digest(b),
-            ZoneRecordData::Ns(b) => self.is_name(b.name()),
-            ZoneRecordData::Md(b) => self.is_name(b.name()),
-            ZoneRecordData::Mf(b) => self.is_name(b.name()),
-            ZoneRecordData::Mb(b) => self.is_name(b.name()),
-            ZoneRecordData::Mg(b) => self.is_name(b.name()),
-            ZoneRecordData::Mr(b) => self.is_name(b.name()),
-            ZoneRecordData::Cname(b) => self.is_name(b.name()),
-            ZoneRecordData::Ptr(b) => self.is_name(b.name()),
-            ZoneRecordData::Minfo(b) => match self {
-                ZoneRecordData::Minfo(a) => a.data_eq(b),
-                _ => false,
-            },
-            ZoneRecordData::Mx(b) => match self {
-                ZoneRecordData::Mx(a) => a.data_eq(b),
-                ZoneRecordData::Srv(_) => false,
-                _ => false,
-            },
-            ZoneRecordData::Srv(b) => match self {
-                ZoneRecordData::Srv(a) => a.data_eq(b),
-                ZoneRecordData::Mx(_) => false,
-                _ => false,
-            },
-            ZoneRecordData::Soa(b) => match self {
-                ZoneRecordData::Soa(a) => a.data_eq(b),
-                _ => false,
-            },
-        }
-    }
-
-    /// Whether the data are those of a digest and no name.
-    fn is_digest<P: AsSlice<u8> + Drop>(&self, digest: &Ds<P>) -> bool
-        ensures { result ≡ same_data (fields_of N.labels self.now) (ds_fields digest.now) }
-    {
-        match self {
-            ZoneRecordData::A(d) => digest.is_spelled(&d.octets),
-            ZoneRecordData::Aaaa(d) => digest.is_spelled(&d.octets),
-            ZoneRecordData::Txt(d) => digest.is_spelled(d.as_slice()),
-            ZoneRecordData::Unknown(d) => digest.is_spelled(d.as_slice()),
-            ZoneRecordData::Ds(d) => d.data_eq(digest),
-            _ => false,
-        }
-    }
-
     /// Whether the data are equal: of one type, names equal ASCII case aside, and all else octet for octet (RFC 2181, 5).
     pub fn data_eq<P: AsSlice<u8> + Drop, M: Labelled + Drop>(
         &self,

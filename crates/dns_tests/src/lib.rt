@@ -18,4 +18,4 @@ mod dns_rdata_vector_tests;
 #[cfg(test)]
 mod dns_wire_tests;
 #[cfg(test)]
-mod rdata_types_tests;
+mod rdata_octets_tests;

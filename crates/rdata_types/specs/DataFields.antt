@@ -1,8 +1,8 @@
 -- The fields of record data that have names, type by type (RFC 1035, 3.3; RFC 2782); those of octets alone are in `OctetFields`.
 use Rattle.std.specs.Prelude.{ℕ, List, [], ◌∷◌, ◌++◌}
 use Rattle.dns_name.specs.Octets.{u16_octets, u32_octets}
-use Rattle.rdata_types.specs.Records.{Field}
-use Rattle.rdata_types.specs.Records.Field.{Octets, DomainName}
+use Rattle.dns_name.specs.Records.{Field}
+use Rattle.dns_name.specs.Records.Field.{Octets, DomainName}
 use Rattle.rdata_types.specs.declared.mail.Minfo.{Minfo}
 use Rattle.rdata_types.specs.declared.mail.Mx.{Mx}
 use Rattle.rdata_types.specs.declared.soa.Soa.{Soa}

@@ -1,14 +1,2 @@
-pub use Rattle.dns_name.specs.Octets
-pub use Rattle.dns_name.specs.Codes
-pub use Rattle.dns_name.specs.Names
-pub use Rattle.dns_name.specs.Compression
-pub use Rattle.dns_name.specs.Serial
-pub mod Records
-pub mod DataValues
-pub mod Texts
-pub mod OctetFields
 pub mod Soa
 pub mod DataFields
-pub mod SameData
-pub mod DataOrder
-pub mod DataTies

@@ -1,7 +1,7 @@
 -- The serial in SOA data (RFC 1035, 3.3.13).
 use Rattle.std.specs.Prelude.{ℕ, ◌+◌, ◌*◌, ◌/◌, ◌%◌, ◌^◌, List, [], ◌∷◌}
-use Rattle.rdata_types.specs.Records.{Field}
-use Rattle.rdata_types.specs.Records.Field.{Octets, DomainName}
+use Rattle.dns_name.specs.Records.{Field}
+use Rattle.dns_name.specs.Records.Field.{Octets, DomainName}
 
 -- the serial of SOA data: the first four octets after the two names (RFC 1035, 3.3.13)
 abbrev pub serial_of : List Field → ℕ

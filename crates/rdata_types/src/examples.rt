@@ -1,11 +1,8 @@
 // Worked examples, proved by computation.
-ghost use Rattle.std.specs.Prelude.{◌≡◌, ◌∷◌, [], codes, true, false};
-ghost use Rattle.std.specs.declared.cmp.Ordering.TheVariants.{Less, Equal, Greater};
+ghost use Rattle.std.specs.Prelude.{◌≡◌, ◌∷◌, [], codes};
 ghost use Rattle.dns_name.specs.Names.{Name};
-ghost use Rattle.rdata_types.specs.Records.{data_wire};
-ghost use Rattle.rdata_types.specs.Records.Field.{Octets, DomainName};
+ghost use Rattle.dns_name.specs.Records.{data_wire};
 ghost use Rattle.rdata_types.specs.DataFields.{name_fields, minfo_fields, mx_fields, srv_fields, soa_fields};
-ghost use Rattle.rdata_types.specs.DataOrder.{data_cmp};
 
 /// Data of each type as they are sent: the number of an MX record, the three of an SRV record and the five of an SOA record have octets
 /// that differ from one another.
@@ -16,18 +13,4 @@ pub fn data_as_sent()
     ensures mx { data_wire (mx_fields {N = Name} (λ n. n) (record { preference = 0x0102; exchange = codes "mx" ∷ [] })) ≡ 0x01 ∷ 0x02 ∷ 0x02 ∷ 0x6d ∷ 0x78 ∷ 0x00 ∷ [] }
     ensures srv { data_wire (srv_fields {N = Name} (λ n. n) (record { priority = 0x0102; weight = 0x0304; port = 0x0506; target = codes "s" ∷ [] })) ≡ 0x01 ∷ 0x02 ∷ 0x03 ∷ 0x04 ∷ 0x05 ∷ 0x06 ∷ 0x01 ∷ 0x73 ∷ 0x00 ∷ [] }
     ensures soa { data_wire (soa_fields {N = Name} (λ n. n) (record { mname = codes "m" ∷ []; rname = codes "rn" ∷ []; serial = 0x01020304; refresh = 0x05060708; retry = 0x090a0b0c; expire = 0x0d0e0f10; minimum = 0x11121314 })) ≡ 0x01 ∷ 0x6d ∷ 0x00 ∷ 0x02 ∷ 0x72 ∷ 0x6e ∷ 0x00 ∷ 0x01 ∷ 0x02 ∷ 0x03 ∷ 0x04 ∷ 0x05 ∷ 0x06 ∷ 0x07 ∷ 0x08 ∷ 0x09 ∷ 0x0a ∷ 0x0b ∷ 0x0c ∷ 0x0d ∷ 0x0e ∷ 0x0f ∷ 0x10 ∷ 0x11 ∷ 0x12 ∷ 0x13 ∷ 0x14 ∷ [] }
-{}
-
-/// The order of data: octets as strings and before names, names without case and from the right, the shorter list first, and else by the
-/// first field that differs.
-pub fn order_of_data()
-    ensures octets { data_cmp (Octets (1 ∷ 255 ∷ []) ∷ []) (Octets (2 ∷ []) ∷ []) ≡ Less }
-    ensures front { data_cmp (Octets (1 ∷ 0 ∷ []) ∷ []) (Octets (1 ∷ []) ∷ []) ≡ Greater }
-    ensures octets_first { data_cmp (Octets (255 ∷ []) ∷ []) (DomainName [] ∷ []) ≡ Less }
-    ensures names_last { data_cmp (DomainName [] ∷ []) (Octets (255 ∷ []) ∷ []) ≡ Greater }
-    ensures any_case { data_cmp (DomainName (codes "NS" ∷ codes "b" ∷ []) ∷ []) (DomainName (codes "ns" ∷ codes "B" ∷ []) ∷ []) ≡ Equal }
-    ensures from_the_right { data_cmp (DomainName (codes "z" ∷ codes "a" ∷ []) ∷ []) (DomainName (codes "a" ∷ codes "b" ∷ []) ∷ []) ≡ Less }
-    ensures shorter { data_cmp (Octets (1 ∷ []) ∷ []) (Octets (1 ∷ []) ∷ Octets [] ∷ []) ≡ Less }
-    ensures first_field { data_cmp (Octets (2 ∷ []) ∷ []) (Octets (1 ∷ []) ∷ Octets [] ∷ []) ≡ Greater }
-    ensures second_field { data_cmp (Octets (1 ∷ []) ∷ DomainName (codes "b" ∷ []) ∷ []) (Octets (1 ∷ []) ∷ DomainName (codes "A" ∷ []) ∷ []) ≡ Greater }
 {}

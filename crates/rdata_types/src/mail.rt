@@ -1,12 +1,13 @@
 // Where mail goes.
-ghost use Rattle.std.specs.Prelude.{◌≡◌, ◌≤◌, ◌+◌, ◌++◌, IfOk, OnOk, OnErr, Some, None, length, take};
-ghost use Rattle.std.specs.Str.{bytes_eq};
-ghost use Rattle.rdata_types.specs.Records.{data_wire, fields_at, parts, same_data};
+ghost use Rattle.std.specs.Prelude.{◌≡◌, ◌+◌, IfOk, OnErr, Some, None};
+ghost use Rattle.dns_name.specs.Records.{fields_at, parts};
+ghost use Rattle.dns_name.specs.LentFields.{fields_in};
 ghost use Rattle.rdata_types.specs.DataFields.{minfo_fields, mx_fields};
 
-use crate::fields::{RecordData, ends_at};
-use crate::spelling::{after_front, after_name};
-use dns_name::{Labelled, ParseError, ParsedName, Rtype, StoredName, ToName, parse_u16};
+use dns_name::{
+    Labelled, LentField, LentFields, Numbers, ParseError, ParsedName, RecordData, Rtype,
+    StoredName, ends_at, parse_u16,
+};
 use std::alloc::{AllocError, Global};
 
 /// The mailboxes of a mailing list or mailbox (MINFO; RFC 1035, 3.3.7).
@@ -38,6 +39,16 @@ impl<N: Labelled + Drop> Minfo<N> {
         &self.emailbx
     }
 
+    /// The data as fields, lent.
+    pub fn lent_fields(&self) -> LentFields<'_, N>
+        ensures { fields_in N.labels result ≡ minfo_fields N.labels self.now }
+    {
+        LentFields::Two(
+            LentField::DomainName(&self.rmailbx),
+            LentField::DomainName(&self.emailbx),
+        )
+    }
+
     /// The same data in memory of their own.
     pub fn flatten(&self, alloc: Global) -> Result<Minfo<StoredName>, AllocError>
         ensures { IfOk result (λ d. minfo_fields (λ n. n) d ≡ minfo_fields N.labels self.now) }
@@ -47,41 +58,11 @@ impl<N: Labelled + Drop> Minfo<N> {
             emailbx: self.emailbx.to_stored(alloc)?,
         })
     }
-
-    /// Whether the octets are those of the data as they are sent, without compression.
-    #[tactic(auto, using(crate::proofs::Fronts::one_front, crate::proofs::Fronts::wrong_front))]
-    pub fn is_spelled(&self, octets: &[u8]) -> bool
-        ensures { result ≡ bytes_eq (data_wire (minfo_fields N.labels self.now)) octets.now }
-    {
-        let Some(rest) = after_name(octets, &self.rmailbx) else {
-            return false;
-        };
-        self.emailbx.to_key_name().as_slice() == rest
-    }
-
-    #[tactic(auto, using(crate::proofs::Writing::begins, std::proofs::lemmas::List::append_assoc))]
-    fn compose_parts(&self, out: &mut Vec<u8>) -> Result<(), AllocError>
-        ensures ok { OnOk result (out.new.items ≡ out.old.items ++ data_wire (minfo_fields N.labels self.now)) }
-        ensures begins { take (length out.old.items) out.new.items ≡ out.old.items }
-    {
-        self.rmailbx.compose(out)?;
-        self.emailbx.compose(out)?;
-        Ok(())
-    }
-}
-
-impl<N: ToName + Drop> Minfo<N> {
-    /// Whether the names are equal, ASCII case aside.
-    pub fn data_eq<M: Labelled + Drop>(&self, other: &Minfo<M>) -> bool
-        ensures { result ≡ same_data (minfo_fields N.labels self.now) (minfo_fields M.labels other.now) }
-    {
-        self.rmailbx.name_eq(&other.rmailbx) && self.emailbx.name_eq(&other.emailbx)
-    }
 }
 
 impl<'m> Minfo<ParsedName<'m>> {
     /// The two names in the `len` octets at place `pos` of a message, which they fill exactly; else an error.
-    #[tactic(auto, unfolding(crate::specs::Records::fields_at))]
+    #[tactic(auto, unfolding(dns_name::specs::Records::fields_at))]
     pub fn parse(
         message: &'m [u8],
         pos: usize,
@@ -113,12 +94,7 @@ impl<N: Labelled + Drop> RecordData for Minfo<N> {
     }
 
     fn compose_rdata(&self, out: &mut Vec<u8>) -> Result<(), AllocError> {
-        let start = out.as_slice().len();
-        let composed = self.compose_parts(out);
-        if composed.is_err() {
-            out.truncate(start);
-        }
-        composed
+        self.lent_fields().compose(out)
     }
 }
 
@@ -154,6 +130,16 @@ impl<N: Labelled + Drop> Mx<N> {
         &self.exchange
     }
 
+    /// The data as fields, lent.
+    pub fn lent_fields(&self) -> LentFields<'_, N>
+        ensures { fields_in N.labels result ≡ mx_fields N.labels self.now }
+    {
+        LentFields::Two(
+            LentField::numbers(Numbers::Two(self.preference.to_be_bytes())),
+            LentField::DomainName(&self.exchange),
+        )
+    }
+
     /// The same data in memory of their own.
     pub fn flatten(&self, alloc: Global) -> Result<Mx<StoredName>, AllocError>
         ensures { IfOk result (λ d. mx_fields (λ n. n) d ≡ mx_fields N.labels self.now) }
@@ -163,42 +149,11 @@ impl<N: Labelled + Drop> Mx<N> {
             exchange: self.exchange.to_stored(alloc)?,
         })
     }
-
-    /// Whether the octets are those of the data as they are sent, without compression.
-    #[tactic(auto, using(crate::proofs::Fronts::one_front, crate::proofs::Fronts::wrong_front))]
-    pub fn is_spelled(&self, octets: &[u8]) -> bool
-        ensures { result ≡ bytes_eq (data_wire (mx_fields N.labels self.now)) octets.now }
-    {
-        let Some(rest) = after_front(octets, &self.preference.to_be_bytes()) else {
-            return false;
-        };
-        self.exchange.to_key_name().as_slice() == rest
-    }
-
-    #[tactic(auto, using(crate::proofs::Writing::begins, std::proofs::lemmas::List::append_assoc))]
-    fn compose_parts(&self, out: &mut Vec<u8>) -> Result<(), AllocError>
-        ensures ok { OnOk result (out.new.items ≡ out.old.items ++ data_wire (mx_fields N.labels self.now)) }
-        ensures begins { take (length out.old.items) out.new.items ≡ out.old.items }
-    {
-        out.extend_from_slice(&self.preference.to_be_bytes())?;
-        self.exchange.compose(out)?;
-        Ok(())
-    }
-}
-
-impl<N: ToName + Drop> Mx<N> {
-    /// Whether the preferences are equal, and the names ASCII case aside.
-    pub fn data_eq<M: Labelled + Drop>(&self, other: &Mx<M>) -> bool
-        ensures { result ≡ same_data (mx_fields N.labels self.now) (mx_fields M.labels other.now) }
-    {
-        self.preference.to_be_bytes() == other.preference.to_be_bytes()
-            && self.exchange.name_eq(&other.exchange)
-    }
 }
 
 impl<'m> Mx<ParsedName<'m>> {
     /// The preference and the name in the `len` octets at place `pos` of a message, which they fill exactly; else an error.
-    #[tactic(auto, unfolding(crate::specs::Records::fields_at))]
+    #[tactic(auto, unfolding(dns_name::specs::Records::fields_at))]
     pub fn parse(message: &'m [u8], pos: usize, len: u16) -> Result<Mx<ParsedName<'m>>, ParseError>
         ensures found { IfOk result (λ d. fields_at (parts 15) message.now (pos + len) pos ≡ Some (mx_fields (λ n. n) d)) }
         ensures none { OnErr result (fields_at (parts 15) message.now (pos + len) pos ≡ None) }
@@ -229,11 +184,6 @@ impl<N: Labelled + Drop> RecordData for Mx<N> {
     }
 
     fn compose_rdata(&self, out: &mut Vec<u8>) -> Result<(), AllocError> {
-        let start = out.as_slice().len();
-        let composed = self.compose_parts(out);
-        if composed.is_err() {
-            out.truncate(start);
-        }
-        composed
+        self.lent_fields().compose(out)
     }
 }

@@ -5,7 +5,7 @@ use dns_name::Rtype;
 /// A type whose data are one domain name.
 pub trait NameType {
     ghost use Rattle.std.specs.Prelude.{◌≡◌, ℕ, IsTrue};
-    ghost use Rattle.rdata_types.specs.Records.{is_one_name};
+    ghost use Rattle.dns_name.specs.Records.{is_one_name};
 
     ghost number: { ℕ };
 

@@ -1,14 +1,12 @@
 // Data that are one domain name.
 ghost use Rattle.std.specs.Prelude.{◌≡◌, ◌+◌, IfOk, OnErr, Some, None};
-ghost use Rattle.std.specs.Str.{bytes_eq};
-ghost use Rattle.rdata_types.specs.Records.{data_wire, fields_at, parts, same_data};
+ghost use Rattle.dns_name.specs.Records.{fields_at, parts};
 ghost use Rattle.rdata_types.specs.DataFields.{name_fields};
 
-use crate::fields::{RecordData, ends_at};
 use crate::name_types::{
     CnameType, MbType, MdType, MfType, MgType, MrType, NameType, NsType, PtrType,
 };
-use dns_name::{Labelled, ParseError, ParsedName, Rtype, StoredName, ToName};
+use dns_name::{Labelled, ParseError, ParsedName, RecordData, Rtype, StoredName, ends_at};
 use std::alloc::{AllocError, Global};
 use std::marker::{Model, PhantomData};
 
@@ -76,13 +74,6 @@ impl<N: Labelled + Drop, T: NameType> NameData<N, T> {
             name: self.name.to_stored(alloc)?,
             of_type: PhantomData,
         })
-    }
-
-    /// Whether the octets are those of the data as they are sent, without compression.
-    pub fn is_spelled(&self, octets: &[u8]) -> bool
-        ensures { result ≡ bytes_eq (data_wire (name_fields N.labels self.now)) octets.now }
-    {
-        self.name.to_key_name().as_slice() == octets
     }
 }
 
@@ -158,18 +149,9 @@ impl<N: Labelled + Drop> NameData<N, PtrType> {
     }
 }
 
-impl<N: ToName + Drop, T: NameType> NameData<N, T> {
-    /// Whether the names are equal, ASCII case aside.
-    pub fn data_eq<M: Labelled + Drop>(&self, other: &NameData<M, T>) -> bool
-        ensures { result ≡ same_data (name_fields N.labels self.now) (name_fields M.labels other.now) }
-    {
-        self.name.name_eq(&other.name)
-    }
-}
-
 impl<'m, T: NameType> NameData<ParsedName<'m>, T> {
     /// The name in the `len` octets at place `pos` of a message, which it fills exactly; else an error.
-    #[tactic(auto, unfolding(crate::specs::Records::fields_at))]
+    #[tactic(auto, unfolding(dns_name::specs::Records::fields_at))]
     pub fn parse(
         message: &'m [u8],
         pos: usize,

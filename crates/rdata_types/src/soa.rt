@@ -1,15 +1,14 @@
 // The start of a zone of authority.
-ghost use Rattle.std.specs.Prelude.{◌≡◌, ◌≤◌, ◌+◌, ◌++◌, IfOk, OnOk, OnErr, Some, None, length, take, slice_range};
-ghost use Rattle.std.specs.Str.{bytes_eq};
+ghost use Rattle.std.specs.Prelude.{◌≡◌, ◌≤◌, ◌+◌, IfOk, OnErr, Some, None, length, slice_range};
 ghost use Rattle.dns_name.specs.Octets.{u32_octets};
-ghost use Rattle.rdata_types.specs.Records.{data_wire, fields_at, parts, same_data};
+ghost use Rattle.dns_name.specs.Records.{fields_at, parts};
+ghost use Rattle.dns_name.specs.LentFields.{fields_in};
 ghost use Rattle.rdata_types.specs.Soa.{serial_of};
 ghost use Rattle.rdata_types.specs.DataFields.{soa_fields, soa_times};
 
-use crate::fields::{RecordData, ends_at};
-use crate::spelling::after_name;
 use dns_name::{
-    Labelled, ParseError, ParsedName, Rtype, Serial, StoredName, ToName, Ttl, parse_octets,
+    Labelled, LentField, LentFields, Numbers, ParseError, ParsedName, RecordData, Rtype, Serial,
+    StoredName, Ttl, ends_at, parse_octets,
 };
 use std::alloc::{AllocError, Global};
 
@@ -133,19 +132,17 @@ impl<N: Labelled + Drop> Soa<N> {
         [a, b, c, d, e, f, g, h, i, j, k, l, m, n, o, p, q, r, s, t]
     }
 
-    #[tactic(auto, using(crate::proofs::Writing::begins, std::proofs::lemmas::List::append_assoc))]
-    fn compose_parts(&self, out: &mut Vec<u8>) -> Result<(), AllocError>
-        ensures ok { OnOk result (out.new.items ≡ out.old.items ++ data_wire (soa_fields N.labels self.now)) }
-        ensures begins { take (length out.old.items) out.new.items ≡ out.old.items }
+    /// The data as fields, lent.
+    pub fn lent_fields(&self) -> LentFields<'_, N>
+        ensures { fields_in N.labels result ≡ soa_fields N.labels self.now }
     {
-        self.mname.compose(out)?;
-        self.rname.compose(out)?;
-        out.extend_from_slice(&self.times())?;
-        Ok(())
+        LentFields::Three(
+            LentField::DomainName(&self.mname),
+            LentField::DomainName(&self.rname),
+            LentField::numbers(Numbers::Twenty(self.times())),
+        )
     }
-}
 
-impl<N: Labelled + Drop> Soa<N> {
     /// The same data in memory of their own.
     #[tactic(auto, unfolding(crate::specs::DataFields::soa_times))]
     pub fn flatten(&self, alloc: Global) -> Result<Soa<StoredName>, AllocError>
@@ -163,33 +160,6 @@ impl<N: Labelled + Drop> Soa<N> {
     }
 }
 
-impl<N: Labelled + Drop> Soa<N> {
-    /// Whether the octets are those of the data as they are sent, without compression.
-    #[tactic(auto, using(crate::proofs::Fronts::both_fronts, crate::proofs::Fronts::wrong_second, crate::proofs::Fronts::wrong_front))]
-    pub fn is_spelled(&self, octets: &[u8]) -> bool
-        ensures { result ≡ bytes_eq (data_wire (soa_fields N.labels self.now)) octets.now }
-    {
-        let Some(rest) = after_name(octets, &self.mname) else {
-            return false;
-        };
-        let Some(rest) = after_name(rest, &self.rname) else {
-            return false;
-        };
-        self.times().as_slice() == rest
-    }
-}
-
-impl<N: ToName + Drop> Soa<N> {
-    /// Whether the data are equal: the names ASCII case aside, and the five numbers.
-    pub fn data_eq<M: Labelled + Drop>(&self, other: &Soa<M>) -> bool
-        ensures { result ≡ same_data (soa_fields N.labels self.now) (soa_fields M.labels other.now) }
-    {
-        self.mname.name_eq(&other.mname)
-            && self.rname.name_eq(&other.rname)
-            && self.times() == other.times()
-    }
-}
-
 /// The number of the four octets at place `at`.
 fn number_at(octets: &[u8], at: usize) -> u32
     requires { at + 4 ≤ length octets.now }
@@ -202,7 +172,7 @@ fn number_at(octets: &[u8], at: usize) -> u32
 
 impl<'m> Soa<ParsedName<'m>> {
     /// The SOA data in the `len` octets at place `pos` of a message, which they fill exactly; else an error.
-    #[tactic(auto, unfolding(crate::specs::Records::fields_at))]
+    #[tactic(auto, unfolding(dns_name::specs::Records::fields_at))]
     pub fn parse(message: &'m [u8], pos: usize, len: u16) -> Result<Soa<ParsedName<'m>>, ParseError>
         ensures found { IfOk result (λ soa. fields_at (parts 6) message.now (pos + len) pos ≡ Some (soa_fields (λ n. n) soa)) }
         ensures none { OnErr result (fields_at (parts 6) message.now (pos + len) pos ≡ None) }
@@ -232,11 +202,6 @@ impl<N: Labelled + Drop> RecordData for Soa<N> {
     }
 
     fn compose_rdata(&self, out: &mut Vec<u8>) -> Result<(), AllocError> {
-        let start = out.as_slice().len();
-        let composed = self.compose_parts(out);
-        if composed.is_err() {
-            out.truncate(start);
-        }
-        composed
+        self.lent_fields().compose(out)
     }
 }

@@ -1,12 +1,13 @@
 // Where a service is.
-ghost use Rattle.std.specs.Prelude.{◌≡◌, ◌≤◌, ◌+◌, ◌++◌, IfOk, OnOk, OnErr, Some, None, length, take};
-ghost use Rattle.std.specs.Str.{bytes_eq};
-ghost use Rattle.rdata_types.specs.Records.{data_wire, fields_at, parts, same_data};
+ghost use Rattle.std.specs.Prelude.{◌≡◌, ◌+◌, IfOk, OnErr, Some, None, length};
+ghost use Rattle.dns_name.specs.Records.{fields_at, parts};
+ghost use Rattle.dns_name.specs.LentFields.{fields_in};
 ghost use Rattle.rdata_types.specs.DataFields.{srv_fields, srv_numbers};
 
-use crate::fields::{RecordData, ends_at};
-use crate::spelling::after_front;
-use dns_name::{Labelled, ParseError, ParsedName, Rtype, StoredName, ToName, parse_octets};
+use dns_name::{
+    Labelled, LentField, LentFields, Numbers, ParseError, ParsedName, RecordData, Rtype,
+    StoredName, ends_at, parse_octets,
+};
 use std::alloc::{AllocError, Global};
 
 /// A host and port that offer a service (SRV; RFC 2782).
@@ -85,6 +86,16 @@ impl<N: Labelled + Drop> Srv<N> {
         [a, b, c, d, e, f]
     }
 
+    /// The data as fields, lent.
+    pub fn lent_fields(&self) -> LentFields<'_, N>
+        ensures { fields_in N.labels result ≡ srv_fields N.labels self.now }
+    {
+        LentFields::Two(
+            LentField::numbers(Numbers::Six(self.numbers())),
+            LentField::DomainName(&self.target),
+        )
+    }
+
     /// The same data in memory of their own.
     #[tactic(auto, unfolding(crate::specs::DataFields::srv_numbers))]
     pub fn flatten(&self, alloc: Global) -> Result<Srv<StoredName>, AllocError>
@@ -97,41 +108,11 @@ impl<N: Labelled + Drop> Srv<N> {
             target: self.target.to_stored(alloc)?,
         })
     }
-
-    /// Whether the octets are those of the data as they are sent, without compression.
-    #[tactic(auto, using(crate::proofs::Fronts::one_front, crate::proofs::Fronts::wrong_front))]
-    pub fn is_spelled(&self, octets: &[u8]) -> bool
-        ensures { result ≡ bytes_eq (data_wire (srv_fields N.labels self.now)) octets.now }
-    {
-        let Some(rest) = after_front(octets, &self.numbers()) else {
-            return false;
-        };
-        self.target.to_key_name().as_slice() == rest
-    }
-
-    #[tactic(auto, using(crate::proofs::Writing::begins, std::proofs::lemmas::List::append_assoc))]
-    fn compose_parts(&self, out: &mut Vec<u8>) -> Result<(), AllocError>
-        ensures ok { OnOk result (out.new.items ≡ out.old.items ++ data_wire (srv_fields N.labels self.now)) }
-        ensures begins { take (length out.old.items) out.new.items ≡ out.old.items }
-    {
-        out.extend_from_slice(&self.numbers())?;
-        self.target.compose(out)?;
-        Ok(())
-    }
-}
-
-impl<N: ToName + Drop> Srv<N> {
-    /// Whether the numbers are equal, and the names ASCII case aside.
-    pub fn data_eq<M: Labelled + Drop>(&self, other: &Srv<M>) -> bool
-        ensures { result ≡ same_data (srv_fields N.labels self.now) (srv_fields M.labels other.now) }
-    {
-        self.numbers() == other.numbers() && self.target.name_eq(&other.target)
-    }
 }
 
 impl<'m> Srv<ParsedName<'m>> {
     /// The numbers and the name in the `len` octets at place `pos` of a message, which they fill exactly; else an error.
-    #[tactic(auto, unfolding(crate::specs::Records::fields_at))]
+    #[tactic(auto, unfolding(dns_name::specs::Records::fields_at))]
     pub fn parse(message: &'m [u8], pos: usize, len: u16) -> Result<Srv<ParsedName<'m>>, ParseError>
         ensures found { IfOk result (λ d. fields_at (parts 33) message.now (pos + len) pos ≡ Some (srv_fields (λ n. n) d)) }
         ensures none { OnErr result (fields_at (parts 33) message.now (pos + len) pos ≡ None) }
@@ -160,11 +141,6 @@ impl<N: Labelled + Drop> RecordData for Srv<N> {
     }
 
     fn compose_rdata(&self, out: &mut Vec<u8>) -> Result<(), AllocError> {
-        let start = out.as_slice().len();
-        let composed = self.compose_parts(out);
-        if composed.is_err() {
-            out.truncate(start);
-        }
-        composed
+        self.lent_fields().compose(out)
     }
 }

@@ -12,7 +12,7 @@ use Rattle.std.proofs.lemmas.Bool.{and_parts}
 use Rattle.std.proofs.lemmas.Nat.{from_be_bytes-to_be_bytes_2}
 use Rattle.dns_name.specs.Octets.{u16_octets}
 use Rattle.dns_name.specs.Names.{Name, name_wire, label_wire, fold, is_label, is_name}
-use Rattle.rdata_types.proofs.Comparing.{split_order}
+use Rattle.dns_rdata.proofs.Comparing.{split_order}
 use Rattle.tsig_rdata.specs.TsigData.{Tsig}
 use Rattle.tsig_rdata.specs.CanonicalTsig.{canonical_wire, canonical_tsig_cmp, times_wire, state_wire}
 

@@ -10,8 +10,7 @@ use bytes::Bytes;
 use dns_name::{
     Class, KeyName, Labelled, ParseError, ParsedName, Rtype, StoredName, parse_octets, parse_u16,
 };
-use dns_rdata::{ComposeRecord, ParsedRecord};
-use rdata_types::LongRecordData;
+use dns_rdata::{ComposeRecord, LongRecordData, ParsedRecord};
 use std::alloc::{AllocError, Global};
 use std::convert::AsSlice;
 use std::marker::Model;
@@ -209,7 +208,7 @@ impl<O: AsSlice<u8> + Drop, N: Labelled + Drop> Tsig<O, N> {
     }
 
     /// The data at the end of `out`; without memory `out` may have some of them.
-    #[tactic(auto, using(rdata_types::proofs::Writing::begins, std::proofs::lemmas::List::append_assoc))]
+    #[tactic(auto, using(dns_name::proofs::Writing::begins, std::proofs::lemmas::List::append_assoc))]
     fn compose_parts(&self, out: &mut Vec<u8>) -> Result<(), AllocError>
         ensures ok { OnOk result (out.new.items ≡ out.old.items ++ tsig_wire self.now) }
         ensures begins { take (length out.old.items) out.new.items ≡ out.old.items }
@@ -332,7 +331,7 @@ impl TsigRecord {
     }
 
     /// The record at the end of `out`; without memory `out` may have some of it.
-    #[tactic(auto, using(rdata_types::proofs::Writing::begins, std::proofs::lemmas::List::append_assoc))]
+    #[tactic(auto, using(dns_name::proofs::Writing::begins, std::proofs::lemmas::List::append_assoc))]
     fn compose_parts(&self, out: &mut Vec<u8>) -> Result<(), AllocError>
         ensures ok { OnOk result (out.new.items ≡ out.old.items ++ record_wire (tsig_record self.now.owner self.now.tsig)) }
         ensures begins { take (length out.old.items) out.new.items ≡ out.old.items }

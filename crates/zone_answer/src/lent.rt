@@ -48,7 +48,7 @@ impl<'r> LentRecord<'r> {
     }
 
     /// The record at the end; where memory runs out, a part of it may be there.
-    #[tactic(auto, using(rdata_types::proofs::Writing::begins, std::proofs::lemmas::List::append_assoc))]
+    #[tactic(auto, using(dns_name::proofs::Writing::begins, std::proofs::lemmas::List::append_assoc))]
     fn compose_parts(&self, out: &mut Vec<u8>) -> Result<(), AllocError>
         ensures ok { OnOk result (out.new.items ≡ out.old.items ++ record_wire self.now) }
         ensures begins { take (length out.old.items) out.new.items ≡ out.old.items }

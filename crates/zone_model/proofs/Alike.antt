@@ -7,9 +7,9 @@ use Rattle.std.specs.Cmp.Derive.{both_true}
 use Rattle.std.specs.Cmp.Lexicographic.{pointwise, pointwise_decides, bytes_decides}
 use Rattle.std.specs.Map.{keys_of}
 use Rattle.dns_name.specs.Names.{Name, fold, spelling_cmp}
-use Rattle.rdata_types.specs.Records.{Field, same_data}
+use Rattle.dns_name.specs.Records.{Field, same_data}
 use Rattle.zone_model.specs.Version.{RecordSet, Key, Sets, Version, key_cmp, set_in, same_items, same_entry, Same}
-use Rattle.rdata_types.specs.SameData.{same_data_equiv}
+use Rattle.dns_name.specs.SameData.{same_data_equiv}
 use Rattle.zone_model.proofs.Folded.{IsFolded, key_total, same_key}
 use Rattle.zone_model.proofs.Ordered.{Alike, AllAlike, all_alike}
 use Rattle.zone_model.proofs.Steps.{Good}

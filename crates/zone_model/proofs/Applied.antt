@@ -5,7 +5,7 @@ use Rattle.std.specs.Result.{result_unwrap_or}
 use Rattle.std.specs.List.{list_all}
 use Rattle.std.specs.Cmp.{first_so, second_so}
 use Rattle.dns_name.specs.Names.{under}
-use Rattle.rdata_types.specs.Records.{Record, same_data}
+use Rattle.dns_name.specs.Records.{Record, same_data}
 use Rattle.zone_model.specs.Version.{Version}
 use Rattle.zone_model.specs.Edits.{Refusal, with_sets, has_data, add, add_all, delete, delete_all, set_soa, close, and_then}
 use Rattle.zone_model.specs.TransferText.{no_records, Axfr, Ixfr, Whole, Changes, Batch, Ending, is_soa, is_plain, is_same_soa, is_batch, are_batches, is_ending}

@@ -6,7 +6,7 @@ use Rattle.std.specs.Cmp.{Equal-is, first_so, second_so, nat_eq_equiv}
 use Rattle.std.specs.Cmp.Derive.{both_true}
 use Rattle.std.specs.BTreeMap.{insert_entry}
 use Rattle.dns_name.specs.Names.{Name, fold}
-use Rattle.rdata_types.specs.Records.{Field, Record, same_data}
+use Rattle.dns_name.specs.Records.{Field, Record, same_data}
 use Rattle.rdata_types.specs.Soa.{serial_of}
 use Rattle.dns_name.specs.Codes.{type_soa}
 use Rattle.zone_model.specs.Version.{RecordSet, Key, Sets, Version, IsValid, Same, key_cmp, set_in, set_at, first_or_none, apex_soa}
@@ -19,7 +19,7 @@ use Rattle.zone_model.specs.Offer.{Offer, IsHistory, successive, all_distinct, s
 use Rattle.zone_model.specs.Spells.{spell_changes, spell_text, spelling, apply_batch, version_then}
 use Rattle.zone_model.specs.TransferLaws.{LeadsTo, IsSoaOf, batch_of, IsPublished, SpellsAll, ChangesSpell, ChangesIsText}
 use Rattle.zone_model.proofs.OneReading.{only_this}
-use Rattle.rdata_types.specs.SameData.{same_data_equiv}
+use Rattle.dns_name.specs.SameData.{same_data_equiv}
 use Rattle.zone_model.proofs.Folded.{key_total, fold-fold, same_name-Decides}
 use Rattle.zone_model.proofs.Ordered.{Alike, find_alike, past_head}
 use Rattle.zone_model.proofs.Steps.{Good, set_of, unless_empty, found-insert, good-insert, not_true}

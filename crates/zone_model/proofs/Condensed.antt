@@ -4,7 +4,7 @@ use Rattle.std.specs.List.{AllByRecursion, list_all, last_or}
 use Rattle.std.specs.Cmp.{first_so, second_so}
 use Rattle.std.specs.Cmp.Derive.{both_true}
 use Rattle.dns_name.specs.Names.{Name, fold}
-use Rattle.rdata_types.specs.Records.{Field, same_data}
+use Rattle.dns_name.specs.Records.{Field, same_data}
 use Rattle.dns_name.specs.Codes.{type_cname}
 use Rattle.zone_model.specs.Version.{RecordSet, Key, Version, IsValid, set_in, below_apex, all_differ}
 use Rattle.zone_model.specs.Edits.{with_sets, add_all, delete_all, and_then}
@@ -12,7 +12,7 @@ use Rattle.zone_model.specs.Difference.{Difference, difference, condensed, recor
 use Rattle.zone_model.specs.Offer.{successive}
 use Rattle.zone_model.specs.TransferLaws.{LeadsTo}
 use Rattle.zone_model.specs.Chains.{IsOf, CondensedLeads}
-use Rattle.rdata_types.specs.SameData.{same_data_equiv}
+use Rattle.dns_name.specs.SameData.{same_data_equiv}
 use Rattle.zone_model.proofs.Folded.{key_from_tie}
 use Rattle.zone_model.proofs.Steps.{Does, items_of, more, cut, CanAdd, CanDelete, AliasOk, adding_all, entry_adds, entry_deletes, any-append, not_true}
 use Rattle.zone_model.proofs.Phases.{phase, after, add_all-append, delete_all-append}

@@ -2,7 +2,7 @@
 use Rattle.std.proofs.Common.{◌≡◌, Bool, true, false, ◌&&◌, ◌||◌, not, if◌then◌else◌, List, [], ◌∷◌, ◌++◌, flat_map, refl, ap, ◌∙◌, Some, None, is_some}
 use Rattle.std.specs.List.{list_all}
 use Rattle.std.specs.Cmp.Derive.{both_true}
-use Rattle.rdata_types.specs.Records.{Record, same_data}
+use Rattle.dns_name.specs.Records.{Record, same_data}
 use Rattle.zone_model.specs.TransferText.{Axfr, Ixfr, Whole, Changes, Batch, Ending, Section, before, is_soa, is_plain, is_same_soa, sections, section_records, batches_in, ending_in, whole_ending, is_batch, are_batches, is_ending, begins_plain, is_text, ReadsText}
 
 -- no record before the first that passes passes

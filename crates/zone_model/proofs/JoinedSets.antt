@@ -4,7 +4,7 @@ use Rattle.std.specs.Option.{option_map_or}
 use Rattle.std.specs.List.{list_all}
 use Rattle.std.specs.Cmp.{first_so, second_so, nat_eq_equiv}
 use Rattle.std.specs.Cmp.Derive.{both_true}
-use Rattle.rdata_types.specs.Records.{Field, same_data}
+use Rattle.dns_name.specs.Records.{Field, same_data}
 use Rattle.zone_model.specs.Version.{RecordSet, Key, Sets, set_in, all_differ}
 use Rattle.zone_model.specs.Difference.{without, merged_set}
 use Rattle.zone_model.proofs.Steps.{Good, set_of, items_of, unless_empty, any-append, items-unless_empty, not_true}

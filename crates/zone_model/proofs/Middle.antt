@@ -5,7 +5,7 @@ use Rattle.std.specs.List.Sorted.{IsStrictlySortedBy}
 use Rattle.std.specs.Map.{keys_of}
 use Rattle.std.proofs.lemmas.Map.Keys.{sorted_head}
 use Rattle.dns_name.specs.Names.{fold}
-use Rattle.rdata_types.specs.Records.{Field, Record}
+use Rattle.dns_name.specs.Records.{Field, Record}
 use Rattle.dns_name.specs.Codes.{type_soa}
 use Rattle.zone_model.specs.Version.{RecordSet, Key, Sets, Version, key_cmp}
 use Rattle.zone_model.specs.Answer.{records_of}

@@ -3,7 +3,7 @@ use Rattle.std.proofs.Common.{◌≡◌, Bool, true, false, ◌&&◌, not, if◌
 use Rattle.std.specs.Option.{option_map_or}
 use Rattle.std.specs.List.{list_all}
 use Rattle.std.specs.Cmp.{first_so, second_so}
-use Rattle.rdata_types.specs.Records.{Record, same_data}
+use Rattle.dns_name.specs.Records.{Record, same_data}
 use Rattle.zone_model.specs.TransferText.{Axfr, Ixfr, Whole, Changes, Batch, Ending, Section, no_records, before, is_soa, is_plain, is_same_soa, sections, section_records, batches_in, ending_in, whole_ending, is_batch, are_batches, is_ending, begins_plain, is_incremental, batch_records, ending_records, ReadsOnly}
 use Rattle.zone_model.proofs.Texts.{sections_read}
 use Rattle.zone_model.proofs.Applied.{first_batch, more_batches}

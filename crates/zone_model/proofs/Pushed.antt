@@ -4,7 +4,7 @@ use Rattle.std.specs.Option.{option_map_or}
 use Rattle.std.specs.List.{AllByRecursion, last_or, list_any}
 use Rattle.std.specs.Cmp.{first_so, second_so, nat_eq_equiv}
 use Rattle.std.specs.Cmp.Derive.{both_true}
-use Rattle.rdata_types.specs.Records.{Field}
+use Rattle.dns_name.specs.Records.{Field}
 use Rattle.rdata_types.specs.Soa.{serial_of}
 use Rattle.dns_name.specs.Serial.{serial_upto, serial_lt}
 use Rattle.zone_model.specs.Version.{Version, apex_soa}

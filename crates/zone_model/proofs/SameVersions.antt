@@ -7,11 +7,11 @@ use Rattle.std.specs.Cmp.Lexicographic.{pointwise, pointwise_decides, bytes_deci
 use Rattle.std.specs.List.Sorted.{IsStrictlySortedBy}
 use Rattle.std.specs.Map.{keys_of}
 use Rattle.dns_name.specs.Names.{Name, fold}
-use Rattle.rdata_types.specs.Records.{Field, same_data}
+use Rattle.dns_name.specs.Records.{Field, same_data}
 use Rattle.dns_name.specs.Codes.{type_ds, type_ns}
 use Rattle.zone_model.specs.Version.{RecordSet, Key, Sets, Version, IsValid, Same, key_cmp, set_in, set_at, below_apex, same_items, same_entry, same_version}
 use Rattle.zone_model.specs.Edits.{with_sets, is_stray, close}
-use Rattle.rdata_types.specs.SameData.{same_data_equiv}
+use Rattle.dns_name.specs.SameData.{same_data_equiv}
 use Rattle.zone_model.proofs.Folded.{IsFolded, key_total, same_key, key_from_tie}
 use Rattle.zone_model.proofs.Ordered.{Alike, AllAlike, all_alike, all_found}
 use Rattle.zone_model.proofs.Steps.{Good, minus}

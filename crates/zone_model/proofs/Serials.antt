@@ -3,7 +3,7 @@ use Rattle.std.proofs.Common.{◌≡◌, Bool, true, false, ◌==◌, List, [], 
 use Rattle.std.specs.Cmp.{first_so, second_so}
 use Rattle.std.specs.Cmp.Lexicographic.{bytes_decides}
 use Rattle.dns_name.specs.Names.{fold}
-use Rattle.rdata_types.specs.Records.{Field, Octets, DomainName, same_field, same_data}
+use Rattle.dns_name.specs.Records.{Field, Octets, DomainName, same_field, same_data}
 use Rattle.rdata_types.specs.Soa.{serial_of}
 use Rattle.zone_model.proofs.Folded.{same_name-Decides}
 

@@ -8,13 +8,13 @@ use Rattle.std.specs.Cmp.Derive.{both_true}
 use Rattle.std.specs.BTreeMap.{insert_entry}
 use Rattle.std.specs.Map.{keys_of, remove_entry}
 use Rattle.dns_name.specs.Names.{Name, fold, under}
-use Rattle.rdata_types.specs.Records.{Field, Record, same_data}
+use Rattle.dns_name.specs.Records.{Field, Record, same_data}
 use Rattle.dns_name.specs.Codes.{type_cname}
 use Rattle.zone_model.specs.Version.{RecordSet, Key, Sets, Version, key_cmp, has_key, set_in, below_apex, all_differ}
 use Rattle.zone_model.specs.Answer.{records_of}
 use Rattle.zone_model.specs.Edits.{Refusal, OutOfZone, Incompatible, InvalidData, with_sets, put_set, remove_set, has_data, second_alias, add, delete, add_all, delete_all, and_then}
 use Rattle.zone_model.specs.Spells.{add_new, add_all_new}
-use Rattle.rdata_types.specs.SameData.{same_data_equiv}
+use Rattle.dns_name.specs.SameData.{same_data_equiv}
 use Rattle.zone_model.proofs.Folded.{IsFolded, key_total, fold-fold, under_alike, same_name_alike}
 use Rattle.zone_model.proofs.Ordered.{lookup-insert_entry, lookup-remove_entry, sorted-insert_entry, sorted-remove_entry, passes-insert_entry, passes-remove_entry, find_alike}
 

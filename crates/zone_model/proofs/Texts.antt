@@ -1,6 +1,6 @@
 -- A list of records is the records of the text that it is read as.
 use Rattle.std.proofs.Common.{◌≡◌, Bool, true, false, List, [], ◌∷◌, ◌++◌, refl, sym, ap, ◌∙◌, append_assoc, append-nil, Some, None, if◌then◌else◌, flat_map}
-use Rattle.rdata_types.specs.Records.{Record}
+use Rattle.dns_name.specs.Records.{Record}
 use Rattle.zone_model.specs.TransferText.{Axfr, Ixfr, Whole, Changes, Batch, Ending, Section, before, is_soa, is_same_soa, sections, section_records, batches_in, ending_in, whole_ending, batch_records, ending_records, text_records, ReadsBack}
 
 whole_reads : (s : Record) (more : List Record) → before (is_same_soa s) more ++ ending_records (whole_ending s more) ≡ more

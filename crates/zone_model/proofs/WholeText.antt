@@ -7,7 +7,7 @@ use Rattle.std.specs.BTreeMap.{insert_entry}
 use Rattle.std.specs.Map.{keys_of}
 use Rattle.std.proofs.lemmas.List.Elements.{filter-append}
 use Rattle.dns_name.specs.Names.{Name, fold, same_name, under}
-use Rattle.rdata_types.specs.Records.{Field, Record, same_data}
+use Rattle.dns_name.specs.Records.{Field, Record, same_data}
 use Rattle.dns_name.specs.Codes.{type_soa, type_cname, type_ds, type_ns}
 use Rattle.zone_model.specs.Version.{RecordSet, Key, Sets, Version, IsValid, key_cmp, set_in, set_at, below_apex}
 use Rattle.zone_model.specs.Answer.{highest_cut, records_of, records_of_option, apex_soa_record, first_only}
@@ -18,7 +18,7 @@ use Rattle.zone_model.specs.Spells.{add_all_new, spell_whole, spell_text, spelli
 use Rattle.zone_model.specs.Offer.{is_apex_soa, whole_text}
 use Rattle.zone_model.specs.TransferLaws.{HasMiddle, WholeIsText, WholeSpells}
 use Rattle.zone_model.proofs.OneReading.{only_this}
-use Rattle.rdata_types.specs.SameData.{same_data_equiv}
+use Rattle.dns_name.specs.SameData.{same_data_equiv}
 use Rattle.zone_model.proofs.Folded.{key_total, fold-fold, same_name-Decides, under_alike, same_name_alike, key_from_tie}
 use Rattle.zone_model.proofs.Ordered.{find_alike, sorted_none}
 use Rattle.zone_model.proofs.Steps.{Good, Does, set_of, more, CanAdd, AliasOk, adding_new, entry_adds, found-insert, good-insert}

@@ -2,7 +2,7 @@
 use Rattle.std.specs.Prelude.{ℕ, Bool, true, false, ◌&&◌, ◌||◌, ◌==◌, if◌then◌else◌, List, [], ◌∷◌, ◌++◌, map, reverse, Option, Some, None, is_some, unwrap_or, option_map, find, filter, flat_map, bytes_eq}
 use Rattle.std.specs.Cmp.Lexicographic.{pointwise}
 use Rattle.dns_name.specs.Names.{Name, fold, same_name, under, upwards, wildcard_below}
-use Rattle.rdata_types.specs.Records.{Field, DomainName, Record}
+use Rattle.dns_name.specs.Records.{Field, DomainName, Record}
 use Rattle.dns_name.specs.Codes.{type_a, type_ns, type_cname, type_soa, type_aaaa, type_ds, type_any}
 use Rattle.zone_model.specs.Version.{RecordSet, Key, Version, set_at, below_apex, exists, is_cut}
 

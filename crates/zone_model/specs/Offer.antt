@@ -3,7 +3,7 @@ use Rattle.std.specs.Prelude.{◌≡◌, ℕ, ◌+◌, Bool, true, false, ◌&&�
 use Rattle.std.specs.Option.{option_map_or}
 use Rattle.std.specs.List.{list_all, list_any, last_or}
 use Rattle.dns_name.specs.Names.{Name, fold, same_name}
-use Rattle.rdata_types.specs.Records.{Record, record_wire}
+use Rattle.dns_name.specs.Records.{Record, record_wire}
 use Rattle.dns_name.specs.Serial.{serial_upto}
 use Rattle.dns_name.specs.Codes.{type_soa}
 use Rattle.zone_model.specs.Version.{RecordSet, Key, Sets, Version, set_in, same_version}

@@ -1,7 +1,7 @@
 -- The versions that a transfer text spells on a base version (RFC 5936, 3; RFC 1995, 4).
 use Rattle.std.specs.Prelude.{◌&&◌, if◌then◌else◌, List, [], ◌∷◌, Option, Some, None, Result, Ok, Err}
 use Rattle.dns_name.specs.Names.{under}
-use Rattle.rdata_types.specs.Records.{Record}
+use Rattle.dns_name.specs.Records.{Record}
 use Rattle.zone_model.specs.Version.{Version}
 use Rattle.zone_model.specs.Edits.{Refusal, with_sets, has_data, add, add_all, delete_all, set_soa, close, and_then}
 use Rattle.zone_model.specs.TransferText.{Mode, Text, Whole, Changes, Batch, Ending, read_text}

@@ -3,7 +3,7 @@ use Rattle.std.specs.Prelude.{◌≡◌, true, not, ◌==◌, List, [], ◌∷�
 use Rattle.std.specs.List.{AllByRecursion, last_or}
 use Rattle.std.specs.Cmp.Lexicographic.{pointwise}
 use Rattle.dns_name.specs.Names.{Name, same_name}
-use Rattle.rdata_types.specs.Records.{Record}
+use Rattle.dns_name.specs.Records.{Record}
 use Rattle.dns_name.specs.Codes.{type_soa}
 use Rattle.zone_model.specs.Version.{Sets, Version, IsValid, Same, same_version, set_at, has_one_soa}
 use Rattle.zone_model.specs.Edits.{Refusal, with_sets, close}

@@ -2,7 +2,7 @@
 use Rattle.std.specs.Prelude.{ℕ, Bool, if◌then◌else◌, List, map, flat_map, find, Option, is_some}
 use Rattle.std.specs.Ordering.{is_gt}
 use Rattle.dns_name.specs.Names.{Name, fold, same_name}
-use Rattle.rdata_types.specs.Records.{Record}
+use Rattle.dns_name.specs.Records.{Record}
 use Rattle.zone_model.specs.Version.{RecordSet, Key, key_cmp, Version}
 use Rattle.zone_model.specs.Answer.{highest_cut, records_of}
 

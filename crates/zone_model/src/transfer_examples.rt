@@ -10,7 +10,7 @@ ghost use Rattle.zone_model.specs.ZoneRows as rows;
 ghost use Rattle.zone_model.specs.Updates as updates;
 ghost use Rattle.zone_model.specs.Session as sessions;
 ghost use Rattle.zone_model.specs.LawRows as law_rows;
-ghost use Rattle.rdata_types.specs.Records.{record_wire};
+ghost use Rattle.dns_name.specs.Records.{record_wire};
 
 /// The difference of two versions, and what an incremental text of two batches spells.
 pub fn history_row()

@@ -51,7 +51,7 @@ impl PartialEq for DataKey {
 
     ghost laws = { partial_equiv_from_equiv same_data_equiv };
 
-    #[tactic(auto, using(rdata_types::specs::DataTies::data_ties))]
+    #[tactic(auto, using(dns_rdata::specs::DataTies::data_ties))]
     fn eq(&self, other: &DataKey) -> bool {
         self.cmp(other) == Ordering::Equal
     }

@@ -2,7 +2,7 @@
 use Rattle.std.proofs.Common.{◌≡◌, ℕ, ◌/◌, ◌%◌, ◌^◌, ◌<◌, [], ◌∷◌, ◌++◌, ap, arith}
 use Rattle.dns_name.specs.Names.{Name}
 use Rattle.dns_name.specs.Octets.{u32_octets}
-use Rattle.rdata_types.specs.Records.Field.{Octets, DomainName}
+use Rattle.dns_name.specs.Records.Field.{Octets, DomainName}
 use Rattle.rdata_types.specs.declared.soa.Soa.{Soa}
 use Rattle.rdata_types.specs.DataFields.{soa_fields, soa_times}
 use Rattle.rdata_types.specs.Soa.{with_serial}

@@ -1,0 +1,3 @@
+pub mod DataValues
+pub mod Texts
+pub mod OctetFields
