@@ -2,10 +2,10 @@ use Rattle.std.proofs.Common.{◌≡◌, ◌<◌, ◌^◌, ◌++◌, ℕ, List, 
 use Rattle.dns_message.specs.Wire.{Header, header_in, header_wire}
 use Rattle.dns_message.specs.Numbers.{with_number}
 use Rattle.dns_message.proofs.Headers.{header_in-header_wire}
-use Rattle.dns_wire.proofs.builder.MessageBuilder.set_header.Goals as goal
+use Rattle.dns_wire.proofs.builder.SectionBuilder.set_header.Goals as goal
 
 pub returns-clause-read : goal.returns-clause-read
-returns-clause-read c =
+returns-clause-read g c =
     let o = c.self.inside.octets.items in
     let is = c.header.view_is in
     let opcode : c.args.header.opcode < 16 = subst (λ (h : Header). h.opcode < 16) is c.header.invariant.0 in
