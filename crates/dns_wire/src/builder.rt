@@ -15,6 +15,7 @@ use crate::section_builders::{
 };
 use dns_message::{
     Header, HeaderCounts, Message, MessageBuf, Question, QuestionSection, number_at, set_number,
+    write_header,
 };
 use dns_name::{Labelled, Rcode};
 use dns_rdata::ComposeRecord;
@@ -93,8 +94,7 @@ impl<S> SectionBuilder<S> {
         ensures listed { (m : MessageOf) → self.old.octets ≡ message_wire m
             → self.new.octets ≡ message_wire (record m { header = header }) }
     {
-        set_number(&mut self.octets, 0, header.id);
-        set_number(&mut self.octets, 2, header.to_word());
+        write_header(&mut self.octets, header);
     }
 
     /// From now on no item is added that would give the message more octets than `limit`, nor more than 65,535.
@@ -289,13 +289,10 @@ impl MessageBuilder {
         ensures { IfOk result (λ b. b
             ≡ record { octets = header_wire header ++ replicate 8 0; limit = self.limit }) }
     {
-        let [id_high, id_low] = header.id.to_be_bytes();
-        let [flags_high, flags_low] = header.to_word().to_be_bytes();
         let mut octets = self.octets;
         octets.clear();
-        octets.extend_from_slice(&[
-            id_high, id_low, flags_high, flags_low, 0, 0, 0, 0, 0, 0, 0, 0,
-        ])?;
+        octets.extend_from_slice(&[0; 12])?;
+        write_header(&mut octets, header);
         Ok(MessageBuilder {
             octets,
             limit: self.limit,
