@@ -10,9 +10,7 @@ ghost use Rattle.dns_message.specs.Reply.{answer_header, empty_answer, error_ans
 ghost use Rattle.dns_message.specs.Parse.{parsed, answers_start, authority_start, additional_start};
 ghost use Rattle.dns_message.specs.Written.{IsMessage, parsed_of};
 
-use crate::section_builders::{
-    AdditionalBuilder, AnswerBuilder, AuthorityBuilder, QuestionBuilder, Start,
-};
+use crate::section_builders::{AnswerBuilder, Start};
 use dns_message::{
     Header, HeaderCounts, Message, MessageBuf, Question, QuestionSection, number_at, set_number,
     write_header,
@@ -346,33 +344,5 @@ impl MessageBuilder {
         let all = message.push_fitting(request.question())?;
         message.set_error_header(&asked, all, rcode);
         Ok(message.answer())
-    }
-
-    /// On to the question section.
-    pub fn question(self) -> QuestionBuilder
-        ensures { result ≡ self }
-    {
-        self.moved()
-    }
-
-    /// On to the answer section.
-    pub fn answer(self) -> AnswerBuilder
-        ensures { result ≡ self }
-    {
-        self.moved()
-    }
-
-    /// On to the authority section.
-    pub fn authority(self) -> AuthorityBuilder
-        ensures { result ≡ self }
-    {
-        self.moved()
-    }
-
-    /// On to the additional section.
-    pub fn additional(self) -> AdditionalBuilder
-        ensures { result ≡ self }
-    {
-        self.moved()
     }
 }

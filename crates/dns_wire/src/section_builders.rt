@@ -32,6 +32,67 @@ pub struct Authority;
 #[derive(Drop)]
 pub struct Additional;
 
+/// A section that stands before the section `T`, or the start of a message (RFC 1035, 4.1): a builder goes on from there to `T`.
+pub trait Before<T> {}
+
+impl Before<Questions> for Start {}
+
+impl Before<Answers> for Start {}
+
+impl Before<Answers> for Questions {}
+
+impl Before<Authority> for Start {}
+
+impl Before<Authority> for Questions {}
+
+impl Before<Authority> for Answers {}
+
+impl Before<Additional> for Start {}
+
+impl Before<Additional> for Questions {}
+
+impl Before<Additional> for Answers {}
+
+impl Before<Additional> for Authority {}
+
+impl<S> SectionBuilder<S> {
+    /// On to the question section.
+    pub fn question(self) -> QuestionBuilder
+    where
+        S: Before<Questions>,
+        ensures { result ≡ self }
+    {
+        self.moved()
+    }
+
+    /// On to the answer section.
+    pub fn answer(self) -> AnswerBuilder
+    where
+        S: Before<Answers>,
+        ensures { result ≡ self }
+    {
+        self.moved()
+    }
+
+    /// On to the authority section.
+    pub fn authority(self) -> AuthorityBuilder
+    where
+        S: Before<Authority>,
+        ensures { result ≡ self }
+    {
+        self.moved()
+    }
+
+    /// On to the additional section.
+    pub fn additional(self) -> AdditionalBuilder
+    where
+        S: Before<Additional>,
+        ensures { result ≡ self }
+    {
+        self.moved()
+    }
+}
+
 /// A message that is being built, in its question section.
 pub type QuestionBuilder = SectionBuilder<Questions>;
 
@@ -55,27 +116,6 @@ impl QuestionBuilder {
             → self.new ≡ record self.old { octets = message_wire (in_answer header [] []) } }
     {
         self.cut(4, 12);
-    }
-
-    /// On to the answer section.
-    pub fn answer(self) -> AnswerBuilder
-        ensures { result ≡ self }
-    {
-        self.moved()
-    }
-
-    /// On to the authority section.
-    pub fn authority(self) -> AuthorityBuilder
-        ensures { result ≡ self }
-    {
-        self.moved()
-    }
-
-    /// On to the additional section.
-    pub fn additional(self) -> AdditionalBuilder
-        ensures { result ≡ self }
-    {
-        self.moved()
     }
 }
 
@@ -106,20 +146,6 @@ impl AnswerBuilder {
     {
         self.rewind_answers();
     }
-
-    /// On to the authority section.
-    pub fn authority(self) -> AuthorityBuilder
-        ensures { result ≡ self }
-    {
-        self.moved()
-    }
-
-    /// On to the additional section.
-    pub fn additional(self) -> AdditionalBuilder
-        ensures { result ≡ self }
-    {
-        self.moved()
-    }
 }
 
 /// A message that is being built, in its authority section.
@@ -148,13 +174,6 @@ impl AuthorityBuilder {
             → self.new ≡ record self.old { octets = message_wire (in_answer header questions answers) } }
     {
         self.rewind_authority();
-    }
-
-    /// On to the additional section.
-    pub fn additional(self) -> AdditionalBuilder
-        ensures { result ≡ self }
-    {
-        self.moved()
     }
 }
 
