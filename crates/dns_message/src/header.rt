@@ -1,11 +1,11 @@
 // The header of a message: id, flags and counts (RFC 1035, 4.1.1; RFC 4035, 3.2 for AD and CD).
 
-ghost use Rattle.std.specs.Prelude.{◌≡◌, ◌+◌, ◌<◌, ◌≤◌, ◌^◌, length, false};
-ghost use Rattle.dns_message.specs.Wire.{header_of, header_in, flags_word};
+ghost use Rattle.std.specs.Prelude.{◌≡◌, ◌+◌, ◌<◌, ◌≤◌, ◌^◌, ◌++◌, drop, length, vec_len, false};
+ghost use Rattle.dns_message.specs.Wire.{header_of, header_in, header_wire, flags_word};
 ghost use Rattle.dns_message.specs.Numbers.{counts_in};
 ghost use Rattle.dns_message.specs.Reply.{answer_header};
 
-use crate::numbers::{flag, is_set, number_at};
+use crate::numbers::{flag, is_set, number_at, set_number};
 use dns_name::{Opcode, Rcode};
 use std::marker::Model;
 
@@ -130,6 +130,16 @@ pub(crate) fn header_from(octets: &[u8]) -> Header
     ensures { result ≡ header_in octets.now }
 {
     Header::from_word(number_at(octets, 0), number_at(octets, 2))
+}
+
+/// Writes id and flags, the first four octets; the others stay as they were.
+pub fn write_header(octets: &mut Vec<u8>, header: Header)
+    requires { 4 ≤ vec_len octets.old }
+    ensures after { octets.new.items ≡ header_wire header ++ drop 4 octets.old.items }
+    ensures read { header_in octets.new.items ≡ header }
+{
+    set_number(octets, 0, header.id);
+    set_number(octets, 2, header.to_word());
 }
 
 /// The counts of octets that are at least a header.

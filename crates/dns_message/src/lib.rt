@@ -14,7 +14,7 @@ mod numbers;
 mod question;
 mod sections;
 
-pub use header::{Header, HeaderCounts};
+pub use header::{Header, HeaderCounts, write_header};
 pub use message::{Message, MessageBuf, ShortMessage};
 pub use numbers::{number_at, set_number};
 pub use question::Question;

@@ -7,7 +7,7 @@ ghost use Rattle.dns_message.specs.Numbers.{counts_in, with_number};
 ghost use Rattle.dns_message.specs.Reads.{ReadsAs};
 ghost use Rattle.dns_message.specs.Parse.{Parsed, parsed, question_at, readings, sole_question_in, qtype_in, answers_start, authority_start, additional_start, message_end, answer_readings, authority_readings, additional_readings};
 
-use crate::header::{Header, HeaderCounts, counts_from, header_from};
+use crate::header::{Header, HeaderCounts, counts_from, header_from, write_header};
 use crate::numbers::{number_at, set_number};
 use crate::question::Question;
 use crate::sections::{QuestionSection, RecordSection, after_questions, after_records};
@@ -247,9 +247,7 @@ impl MessageBuf {
     pub fn as_message(&self) -> Message<'_>
         ensures { result ≡ self.now }
     {
-        Message {
-            octets: self.octets.as_slice(),
-        }
+        Message::from_whole(self.octets.as_slice())
     }
 
     /// All octets.
@@ -264,7 +262,7 @@ impl MessageBuf {
     pub fn header(&self) -> Header
         ensures { result ≡ header_in self.now }
     {
-        header_from(self.octets.as_slice())
+        self.as_message().header()
     }
 
     /// Whether the rcode isn't NOERROR (RFC 1035, 4.1.1).
@@ -278,7 +276,7 @@ impl MessageBuf {
     pub fn counts(&self) -> HeaderCounts
         ensures { result ≡ counts_in self.now }
     {
-        counts_from(self.octets.as_slice())
+        self.as_message().counts()
     }
 
     /// The questions.
@@ -357,8 +355,7 @@ impl MessageBuf {
         ensures after { self.new ≡ header_wire header ++ drop 4 self.old }
         ensures read { header_in self.new ≡ header }
     {
-        set_number(&mut self.octets, 0, header.id);
-        set_number(&mut self.octets, 2, header.to_word());
+        write_header(&mut self.octets, header);
     }
 
     /// ARCOUNT one less, and nothing where it is 0. No octet is cut off: what stands after the last counted item isn't read.

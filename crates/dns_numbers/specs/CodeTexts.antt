@@ -1,7 +1,9 @@
--- Numbers that have names as text: the name, or the kind of number and the number in decimal digits (RFC 3597, 5).
+-- Numbers that have names as text (IANA, Domain Name System Parameters). Without a name it is the kind of number and the number in
+-- decimal digits: so RFC 3597, 5 writes types and classes, and opcodes and rcodes are written alike here.
 use Rattle.std.specs.Prelude.{ℕ, ◌==◌, List, ◌++◌, codes, if◌then◌else◌}
 use Rattle.std.specs.Fmt.{decimal}
 
+-- a type (RFC 1035, 3.2.2; RFC 3597, 5)
 abbrev pub rtype_text : ℕ → List ℕ
 rtype_text c =
     if c == 1 then codes "A" else
@@ -26,12 +28,14 @@ rtype_text c =
     if c == 255 then codes "ANY" else
     codes "TYPE" ++ decimal c
 
+-- a class (RFC 1035, 3.2.4; RFC 3597, 5)
 abbrev pub class_text : ℕ → List ℕ
 class_text c =
     if c == 1 then codes "IN" else
     if c == 255 then codes "ANY" else
     codes "CLASS" ++ decimal c
 
+-- an opcode (RFC 6895, 2.2)
 abbrev pub opcode_text : ℕ → List ℕ
 opcode_text c =
     if c == 0 then codes "QUERY" else
@@ -41,6 +45,7 @@ opcode_text c =
     if c == 5 then codes "UPDATE" else
     codes "OPCODE" ++ decimal c
 
+-- an rcode of a header (RFC 6895, 2.3)
 abbrev pub rcode_text : ℕ → List ℕ
 rcode_text c =
     if c == 0 then codes "NOERROR" else
@@ -56,6 +61,7 @@ rcode_text c =
     if c == 10 then codes "NOTZONE" else
     codes "RCODE" ++ decimal c
 
+-- the error of a TSIG: NOERROR, FORMERR, and what RFC 8945, 3 assigns. An rcode that tells no error of a TSIG, as SERVFAIL, goes by its number.
 abbrev pub tsig_rcode_text : ℕ → List ℕ
 tsig_rcode_text c =
     if c == 0 then codes "NOERROR" else

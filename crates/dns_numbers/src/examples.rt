@@ -2,6 +2,15 @@
 ghost use Rattle.std.specs.Prelude.{◌≡◌, true, false, None};
 ghost use Rattle.dns_numbers.specs.Serial.{serial_lt, serial_cmp, serial_add, serial_upto};
 
+use crate::codes::Ttl;
+
+/// A record that isn't to be kept has no second.
+pub fn zero_ttl() -> Ttl
+    ensures { result ≡ 0 }
+{
+    Ttl::ZERO
+}
+
 /// At distance 2^31 neither serial is less.
 pub fn serials()
     ensures wraps { serial_lt 4294967295 0 ≡ true }

@@ -6,5 +6,5 @@ mod examples;
 mod laws;
 mod serial;
 
-pub use codes::{Class, Opcode, Rcode, Rtype, TsigRcode, Ttl};
+pub use codes::{Class, Code, CodeKind, HeaderCode, Opcode, Rcode, Rtype, TsigRcode, Ttl};
 pub use serial::Serial;

@@ -1,4 +1,4 @@
-// A message that is being built.
+// A message that is being built, and what its sections have in common.
 
 ghost use Rattle.std.specs.Prelude.{◌≡◌, ◌+◌, ◌^◌, ◌<◌, ◌≤◌, ◌++◌, length, take, drop, replicate, vec_len, if◌then◌else◌, IfOk, IsTrue, Some};
 ghost use Rattle.std.specs.List.{filter_map};
@@ -10,16 +10,15 @@ ghost use Rattle.dns_message.specs.Reply.{answer_header, empty_answer, error_ans
 ghost use Rattle.dns_message.specs.Parse.{parsed, answers_start, authority_start, additional_start};
 ghost use Rattle.dns_message.specs.Written.{IsMessage, parsed_of};
 
-use crate::section_builders::{
-    AdditionalBuilder, AnswerBuilder, AuthorityBuilder, QuestionBuilder,
-};
+use crate::section_builders::{AnswerBuilder, Start};
 use dns_message::{
     Header, HeaderCounts, Message, MessageBuf, Question, QuestionSection, number_at, set_number,
+    write_header,
 };
 use dns_name::{Labelled, Rcode};
 use dns_rdata::ComposeRecord;
 use std::alloc::{AllocError, Global};
-use std::marker::Model;
+use std::marker::{Model, PhantomData};
 use thiserror::Error;
 
 /// The most octets that a message has: what its length before it on a stream can say (RFC 1035, 4.2.2).
@@ -39,14 +38,19 @@ pub enum PushError {
     Memory,
 }
 
-/// A message that is being built: its header, and so far no item. At most 65,535 octets.
+/// A message that is being built, of at most 65,535 octets: its header and the items so far. `S` marks the section
+/// that it is in.
 #[derive(Drop)]
-pub struct MessageBuilder {
+pub struct SectionBuilder<S> {
     octets: Vec<u8>,
     limit: usize,
+    section: PhantomData<S>,
 }
 
-impl Model for MessageBuilder {
+/// A message that is being built: its header, and so far no item.
+pub type MessageBuilder = SectionBuilder<Start>;
+
+impl<S> Model for SectionBuilder<S> {
     ghost use Rattle.std.specs.Prelude.{◌≤◌, length};
     ghost use Rattle.dns_message.specs.Wire.{Building};
 
@@ -57,18 +61,7 @@ impl Model for MessageBuilder {
     ghost invariant = { λ b. (12 ≤ length b.octets.items) × (length b.octets.items ≤ 65535) };
 }
 
-impl MessageBuilder {
-    /// A header of 12 octets that are zero, and no push limit but 65,535.
-    pub fn new(alloc: Global) -> Result<MessageBuilder, AllocError>
-        ensures { IfOk result (λ b. b ≡ record { octets = replicate 12 0; limit = 65535 }) }
-    {
-        let octets = vec![in alloc; 0; 12]?;
-        Ok(MessageBuilder {
-            octets,
-            limit: MAX_LEN,
-        })
-    }
-
+impl<S> SectionBuilder<S> {
     /// The octets so far.
     pub fn as_slice(&self) -> &[u8]
         ensures value { result.now ≡ self.now.octets }
@@ -96,10 +89,10 @@ impl MessageBuilder {
     pub fn set_header(&mut self, header: Header)
         ensures after { self.new ≡ record self.old { octets = header_wire header ++ drop 4 self.old.octets } }
         ensures read { header_in self.new.octets ≡ header }
-        ensures listed { (m : MessageOf) → self.old.octets ≡ message_wire m → self.new.octets ≡ message_wire (record m { header = header }) }
+        ensures listed { (m : MessageOf) → self.old.octets ≡ message_wire m
+            → self.new.octets ≡ message_wire (record m { header = header }) }
     {
-        set_number(&mut self.octets, 0, header.id);
-        set_number(&mut self.octets, 2, header.to_word());
+        write_header(&mut self.octets, header);
     }
 
     /// From now on no item is added that would give the message more octets than `limit`, nor more than 65,535.
@@ -218,6 +211,42 @@ impl MessageBuilder {
         self.cut(10, start);
     }
 
+    /// On to a later section.
+    pub(crate) fn moved<T>(self) -> SectionBuilder<T>
+        ensures { result ≡ self }
+    {
+        let SectionBuilder { octets, limit, .. } = self;
+        SectionBuilder {
+            octets,
+            limit,
+            section: PhantomData,
+        }
+    }
+
+    /// The message as it is now. It parses to the items that it was built of.
+    pub fn finish(self) -> MessageBuf
+        ensures value { result ≡ self.octets }
+        ensures most { length result ≤ 65535 }
+        ensures read_back { (m : MessageOf) → IsMessage m → self.octets ≡ message_wire m
+            → parsed result ≡ Some (parsed_of m) }
+    {
+        MessageBuf::from_whole(self.octets)
+    }
+}
+
+impl MessageBuilder {
+    /// A header of 12 octets that are zero, and no push limit but 65,535.
+    pub fn new(alloc: Global) -> Result<MessageBuilder, AllocError>
+        ensures { IfOk result (λ b. b ≡ record { octets = replicate 12 0; limit = 65535 }) }
+    {
+        let octets = vec![in alloc; 0; 12]?;
+        Ok(MessageBuilder {
+            octets,
+            limit: MAX_LEN,
+            section: PhantomData,
+        })
+    }
+
     /// Adds the questions that are left, up to the first that can't be read.
     fn push_questions(&mut self, mut questions: QuestionSection<'_>) -> Result<(), PushError>
         requires room { IsTrue (fits self.old.limit self.old.octets) }
@@ -255,18 +284,17 @@ impl MessageBuilder {
 
     /// A message of this header and no item, with the same push limit.
     fn restarted(self, header: Header) -> Result<MessageBuilder, AllocError>
-        ensures { IfOk result (λ b. b ≡ record { octets = header_wire header ++ replicate 8 0; limit = self.limit }) }
+        ensures { IfOk result (λ b. b
+            ≡ record { octets = header_wire header ++ replicate 8 0; limit = self.limit }) }
     {
-        let [id_high, id_low] = header.id.to_be_bytes();
-        let [flags_high, flags_low] = header.to_word().to_be_bytes();
         let mut octets = self.octets;
         octets.clear();
-        octets.extend_from_slice(&[
-            id_high, id_low, flags_high, flags_low, 0, 0, 0, 0, 0, 0, 0, 0,
-        ])?;
+        octets.extend_from_slice(&[0; 12])?;
+        write_header(&mut octets, header);
         Ok(MessageBuilder {
             octets,
             limit: self.limit,
+            section: PhantomData,
         })
     }
 
@@ -316,42 +344,5 @@ impl MessageBuilder {
         let all = message.push_fitting(request.question())?;
         message.set_error_header(&asked, all, rcode);
         Ok(message.answer())
-    }
-
-    /// On to the question section.
-    pub fn question(self) -> QuestionBuilder
-        ensures { result ≡ self }
-    {
-        QuestionBuilder::new(self)
-    }
-
-    /// On to the answer section.
-    pub fn answer(self) -> AnswerBuilder
-        ensures { result ≡ self }
-    {
-        AnswerBuilder::new(self)
-    }
-
-    /// On to the authority section.
-    pub fn authority(self) -> AuthorityBuilder
-        ensures { result ≡ self }
-    {
-        AuthorityBuilder::new(self)
-    }
-
-    /// On to the additional section.
-    pub fn additional(self) -> AdditionalBuilder
-        ensures { result ≡ self }
-    {
-        AdditionalBuilder::new(self)
-    }
-
-    /// The message as it is now. It parses to the items that it was built of.
-    pub fn finish(self) -> MessageBuf
-        ensures value { result ≡ self.octets }
-        ensures most { length result ≤ 65535 }
-        ensures read_back { (m : MessageOf) → IsMessage m → self.octets ≡ message_wire m → parsed result ≡ Some (parsed_of m) }
-    {
-        MessageBuf::from_whole(self.octets)
     }
 }

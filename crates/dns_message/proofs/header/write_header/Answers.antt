@@ -2,11 +2,11 @@ use Rattle.std.proofs.Common.{◌≡◌, ◌<◌, ◌^◌, ◌++◌, ℕ, List, 
 use Rattle.dns_message.specs.Wire.{Header, header_in, header_wire, flags_word}
 use Rattle.dns_message.specs.Numbers.{with_number}
 use Rattle.dns_message.proofs.Headers.{header_in-header_wire}
-use Rattle.dns_message.proofs.message.MessageBuf.set_header.Goals as goal
+use Rattle.dns_message.proofs.header.write_header.Goals as goal
 
 pub returns-clause-read : goal.returns-clause-read
 returns-clause-read c =
-    let o = c.self.inside.octets.items in
+    let o = c.args.octets.now.items in
     let is = c.header.view_is in
     let opcode : c.args.header.opcode < 16 = subst (λ (h : Header). h.opcode < 16) is c.header.invariant.0 in
     let rcode : c.args.header.rcode < 16 = subst (λ (h : Header). h.rcode < 16) is c.header.invariant.1 in
