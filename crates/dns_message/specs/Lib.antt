@@ -1,12 +1,3 @@
-pub use Rattle.dns_name.specs.Octets
-pub use Rattle.dns_name.specs.Codes
-pub use Rattle.dns_name.specs.Names
-pub use Rattle.dns_name.specs.Compression
-pub use Rattle.dns_name.specs.Serial
-pub use Rattle.dns_rdata.specs.Records
-pub use Rattle.dns_rdata.specs.Soa
-pub use Rattle.dns_rdata.specs.Heads
-pub use Rattle.dns_rdata.specs.RecordRows
 pub mod Wire
 pub mod Numbers
 pub mod Parse

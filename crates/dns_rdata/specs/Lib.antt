@@ -1,11 +1,4 @@
-pub use Rattle.dns_name.specs.Octets
-pub use Rattle.dns_name.specs.Codes
-pub use Rattle.dns_name.specs.Names
-pub use Rattle.dns_name.specs.Compression
-pub use Rattle.dns_name.specs.Serial
 pub use Rattle.dns_name.specs.Records
-pub use Rattle.rdata_octets.specs.DataValues
-pub use Rattle.rdata_octets.specs.OctetFields
 pub use Rattle.rdata_types.specs.Soa
 pub use Rattle.rdata_types.specs.DataFields
 pub use Rattle.dns_name.specs.SameData

@@ -3,8 +3,7 @@ ghost use Rattle.dns_rdata.specs.ZoneData.{rtype_of, data_fields};
 
 use crate::record::Record;
 use crate::zone_data::StoredRecordData;
-use dns_name::{NameRef, Rtype};
-use rdata_types::RecordData;
+use dns_name::{NameRef, RecordData, Rtype};
 use std::alloc::AllocError;
 
 /// A record whose owner and data are lent, as one of a set that is sent from where it is kept.

@@ -1,9 +1,3 @@
-pub use Rattle.dns_name.specs.Octets
-pub use Rattle.dns_name.specs.Codes
-pub use Rattle.dns_name.specs.Names
-pub use Rattle.dns_name.specs.Compression
-pub use Rattle.dns_rdata.specs.Records
-pub use Rattle.dns_rdata.specs.Heads
 pub mod TsigData
 pub mod TsigParts
 pub mod TsigOrder
