@@ -5,7 +5,6 @@ use Rattle.std.specs.Ordering.{nat_cmp, eq_by_cmp}
 use Rattle.std.specs.Cmp.{IsTotalOrder, tied_then, unsigned_ties}
 use Rattle.std.proofs.lemmas.Cmp.{then_total, on_total, nat_cmp_total}
 use Rattle.dns_name.specs.Names.{Name}
-use Rattle.dns_name.specs.Records.{same_data}
 use Rattle.dns_rdata.specs.DataOrder.{data_cmp}
 use Rattle.dns_rdata.specs.DataTies.{data_total, data_ties}
 use Rattle.dns_rdata.specs.ZoneData.{rtype_of, fields_of, same_zone_data, zone_data_cmp}
