@@ -1,9 +1,10 @@
 // Messages built and read back; limits; answers to requests.
 
 use crate::common::{composed, is, name, prints};
-use dns_name::{Class, Name, NameRef, Rcode, Rtype, Ttl};
-use dns_rdata::{A, Record, ZoneRecordData};
-use dns_wire::{AnswerBuilder, Header, Message, MessageBuf, MessageBuilder, PushError, Question};
+use dns_wire::{
+    A, AnswerBuilder, Class, Header, Message, MessageBuf, MessageBuilder, Name, NameRef, PushError,
+    Question, Rcode, Record, Rtype, Ttl, ZoneRecordData,
+};
 use std::alloc::Global;
 use std::process::Abort;
 

@@ -52,7 +52,10 @@ impl Connection {
                 break;
             };
             if let Some(reply) = item?.into_response() {
-                self.replies.push(reply.finish().into_octets())?;
+                let octets = reply.finish().into_octets();
+                if self.replies.push(octets).is_err() {
+                    return Err(SyncError::Memory);
+                }
             }
         }
         Ok(())
