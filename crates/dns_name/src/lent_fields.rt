@@ -32,7 +32,7 @@ impl Numbers {
     }
 }
 
-/// A field of record data, lent.
+/// A field of RDATA, lent.
 #[derive(Drop)]
 pub enum LentField<'a, N: Labelled> {
     /// Octets: numbers, and after them what is lent.
@@ -65,7 +65,7 @@ impl<'a, N: Labelled> LentField<'a, N> {
     }
 }
 
-/// The fields of record data, lent: there are one, two or three.
+/// The fields of RDATA, lent: there are one, two or three.
 #[derive(Drop)]
 pub enum LentFields<'a, N: Labelled> {
     One(LentField<'a, N>),

@@ -311,10 +311,10 @@ impl Rcode {
     /// The name is there (RFC 2136, 2.2).
     pub const YXDOMAIN: Rcode = HeaderCode(PhantomData, 6);
 
-    /// The record set is there (RFC 2136, 2.2).
+    /// The RRset is there (RFC 2136, 2.2).
     pub const YXRRSET: Rcode = HeaderCode(PhantomData, 7);
 
-    /// There is no such record set (RFC 2136, 2.2).
+    /// There is no such RRset (RFC 2136, 2.2).
     pub const NXRRSET: Rcode = HeaderCode(PhantomData, 8);
 
     /// The server has no authority, or the signature fails (RFC 2136, 2.2; RFC 8945, 3).

@@ -6,7 +6,7 @@ use crate::zone_data::StoredRecordData;
 use dns_name::{NameRef, RecordData, Rtype};
 use std::alloc::AllocError;
 
-/// A record whose owner and data are lent, as one of a set that is sent from where it is kept.
+/// A record whose owner and data are lent, as one of an RRset that is sent from where it is kept.
 pub type LentRecord<'r> = Record<NameRef<'r>, &'r StoredRecordData>;
 
 impl RecordData for &StoredRecordData {

@@ -1,4 +1,4 @@
-//! Record data that are octets alone, type by type: addresses (A, AAAA), texts (TXT), digests (DS) and data of types that aren't known.
+//! RDATA that are octets alone, type by type: addresses (A, AAAA), texts (TXT), digests (DS) and data of types that aren't known.
 //!
 //! `parse` reads data in their message and takes no memory; `flatten` keeps them in memory of their own. `Txt::build_from_slice` makes the
 //! data of a text, and `Txt::iter_charstrs` tells its character strings.

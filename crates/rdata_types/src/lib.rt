@@ -1,4 +1,4 @@
-//! Record data that have domain names, type by type: NS and the other types whose data are one name, MINFO, MX, SRV and SOA.
+//! RDATA that have domain names, type by type: NS and the other types whose data are one name, MINFO, MX, SRV and SOA.
 //!
 //! A name may be of any kind that tells its labels: `parse` leaves it in its message, `flatten` keeps it in memory of its own.
 #![tactic(auto)]

@@ -96,7 +96,7 @@ fn put_lacked(
     sets.put(SetKey::new(owner, rtype), left.into_shared(alloc)?)
 }
 
-/// The records of a set that another one of its type lacks, or all where there is no other. Records of another TTL are others (RFC 2181, 5.2).
+/// The records of an RRset that another one of its type lacks, or all where there is no other. Records of another TTL are others (RFC 2181, 5.2).
 fn lacked(alloc: Global, set: &RecordSet, other: Option<&RecordSet>) -> Result<Rrset, AllocError>
     ensures { IfOk result (λ r. r ≡ typed set.now.rtype (lacked_of (untyped (option_copied other.entry)) set.now.contents)) }
 {
@@ -107,7 +107,7 @@ fn lacked(alloc: Global, set: &RecordSet, other: Option<&RecordSet>) -> Result<R
     Ok(left)
 }
 
-/// Puts data of the set's type last, unless another set has them.
+/// Puts data of the RRset's type last, unless another RRset has them.
 fn push_unless(left: &mut Rrset, item: &StoredRecordData, had: bool) -> Result<(), AllocError>
     requires { rtype_of item.now ≡ left.old.rtype }
     ensures { OnOk result (left.new ≡ set_of left.old.rtype left.old.contents.ttl (if had then left.old.contents.items else left.old.contents.items ++ data_fields item.now ∷ [])) }
@@ -118,7 +118,7 @@ fn push_unless(left: &mut Rrset, item: &StoredRecordData, had: bool) -> Result<(
     left.push_data(item.clone()?)
 }
 
-/// Whether a set, if there is one, has this TTL and equal data.
+/// Whether an RRset, if there is one, has this TTL and equal data.
 fn has_record(set: Option<&RecordSet>, ttl: Ttl, item: &StoredRecordData) -> bool
     ensures { result ≡ has_record (untyped (option_copied set.entry)) ttl (data_fields item.now) }
 {

@@ -66,7 +66,7 @@ impl Draft {
         self.version
     }
 
-    /// Puts the data of a record that isn't refused last in its set.
+    /// Puts the data of a record that isn't refused last in its RRset.
     pub fn append(&mut self, alloc: Global, added: StoredRecord) -> Result<(), AllocError>
         requires { add self.old.version added ≡ Ok (appended self.old.version added) }
         ensures ok { OnOk result (self.new ≡ with_version self.old (appended self.old.version added)) }
@@ -82,7 +82,7 @@ impl Draft {
         }
     }
 
-    /// Takes the data of a record that isn't refused out of its set.
+    /// Takes the data of a record that isn't refused out of its RRset.
     pub fn remove(&mut self, deleted: &StoredRecord) -> Result<(), AllocError>
         requires { delete self.old.version deleted.now ≡ Ok (without self.old.version deleted.now) }
         ensures ok { OnOk result (self.new ≡ with_version self.old (without self.old.version deleted.now)) }
@@ -93,7 +93,7 @@ impl Draft {
         remove(&mut self.version, deleted)
     }
 
-    /// Makes the apex SOA set one record.
+    /// Makes the apex SOA RRset one record.
     pub fn set_soa(
         &mut self,
         alloc: Global,
@@ -108,7 +108,7 @@ impl Draft {
         set_soa(&mut self.version, alloc, ttl, soa)
     }
 
-    /// Puts a set in place of the one of its owner and type; an empty one removes that.
+    /// Puts an RRset in place of the one of its owner and type; an empty one removes that.
     pub fn put_set(&mut self, owner: &KeyName, set: RecordSet) -> Result<(), AllocError>
         requires zone { under owner.now self.old.version.apex ≡ true }
         requires differ { all_differ set.contents.items ≡ true }
@@ -120,7 +120,7 @@ impl Draft {
         put_set(&mut self.version, owner, set)
     }
 
-    /// Removes the set of an owner and type.
+    /// Removes the RRset of an owner and type.
     pub fn remove_set(&mut self, owner: &KeyName, rtype: Rtype) -> Result<(), AllocError>
         ensures ok { OnOk result (self.new ≡ with_version self.old (edits.remove_set self.old.version owner.now rtype)) }
         ensures err { OnErr result (self.new ≡ self.old) }
@@ -143,7 +143,7 @@ impl Draft {
         remove_special(&mut self.version, owner)
     }
 
-    /// Puts an address in the zone last in its set, unless equal data are there; the lower TTL stays. Other records change nothing.
+    /// Puts an address in the zone last in its RRset, unless equal data are there; the lower TTL stays. Other records change nothing.
     pub fn add_glue(&mut self, alloc: Global, added: StoredRecord) -> Result<(), AllocError>
         ensures ok { OnOk result (self.new ≡ with_version self.old (edits.add_glue self.old.version added)) }
         ensures err { OnErr result (self.new ≡ self.old) }
@@ -167,7 +167,7 @@ impl Draft {
         clear(&mut self.version, name)
     }
 
-    /// Removes every set.
+    /// Removes every RRset.
     pub fn clear_all(&mut self, alloc: Global) -> Result<(), AllocError>
         ensures ok { OnOk result (self.new ≡ with_version self.old (with_sets self.old.version [])) }
         ensures err { OnErr result (self.new ≡ self.old) }
@@ -190,7 +190,7 @@ impl Draft {
         bump(&mut self.version, alloc, &self.base)
     }
 
-    /// Leaves out what a commit leaves out: DS sets below the apex that lack NS (RFC 4035, 2.4).
+    /// Leaves out what a commit leaves out: DS RRsets below the apex that lack NS (RFC 4035, 2.4).
     pub fn close(&mut self, alloc: Global) -> Result<(), AllocError>
         ensures ok { OnOk result (self.new ≡ with_version self.old (edits.close self.old.version)) }
         ensures valid { OnOk result (IsValid self.new.version) }
@@ -225,7 +225,7 @@ impl Clone for Draft {
     }
 }
 
-/// Puts a record's data last in its set.
+/// Puts a record's data last in its RRset.
 fn append(
     pending: &mut Arc<ZoneVersion>,
     alloc: Global,
@@ -244,7 +244,7 @@ fn append(
     }
 }
 
-/// Takes a record's data out of its set.
+/// Takes a record's data out of its RRset.
 fn remove(pending: &mut Arc<ZoneVersion>, deleted: &StoredRecord) -> Result<(), AllocError>
     requires { delete (arc_value pending.old) deleted.now ≡ Ok (without (arc_value pending.old) deleted.now) }
     ensures ok { OnOk result (arc_value pending.new ≡ without (arc_value pending.old) deleted.now) }
@@ -255,7 +255,7 @@ fn remove(pending: &mut Arc<ZoneVersion>, deleted: &StoredRecord) -> Result<(), 
     Ok(())
 }
 
-/// Makes the apex SOA set one record.
+/// Makes the apex SOA RRset one record.
 fn set_soa(
     pending: &mut Arc<ZoneVersion>,
     alloc: Global,
@@ -269,7 +269,7 @@ fn set_soa(
     version.set_soa(alloc, ttl, soa)
 }
 
-/// Puts a set in place of the one of its owner and type.
+/// Puts an RRset in place of the one of its owner and type.
 fn put_set(
     pending: &mut Arc<ZoneVersion>,
     owner: &KeyName,
@@ -285,7 +285,7 @@ fn put_set(
     version.put_set(owner, set)
 }
 
-/// Removes the set of an owner and type.
+/// Removes the RRset of an owner and type.
 fn remove_set(
     pending: &mut Arc<ZoneVersion>,
     owner: &KeyName,
@@ -321,7 +321,7 @@ fn clear(pending: &mut Arc<ZoneVersion>, name: &KeyName) -> Result<(), AllocErro
     Ok(())
 }
 
-/// Puts an address in the zone last in its set.
+/// Puts an address in the zone last in its RRset.
 fn add_glue(
     pending: &mut Arc<ZoneVersion>,
     alloc: Global,

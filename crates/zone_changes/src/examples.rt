@@ -14,7 +14,7 @@ fn noted_keys()
     ensures other { is_touched both_keys host_ds ≡ false }
 {}
 
-/// The keys at and below a name, and those of a DS set without NS.
+/// The keys at and below a name, and those of a DS RRset without NS.
 fn keys_of_sets()
     ensures below { keys_below (version_of (zone_with 1 60)) t ≡ host_a ∷ [] }
     ensures stray { stray_keys with_stray ≡ host_ds ∷ [] }

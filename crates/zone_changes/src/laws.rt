@@ -18,7 +18,7 @@ pub fn covers_more()
     ensures noted_itself { (keys : List Key) (k : Key) → is_touched (noted keys k) k ≡ true }
 {}
 
-/// A set put or removed at a noted key.
+/// An RRset put or removed at a noted key.
 pub fn covers_edits()
     ensures put { (keys : List Key) (a : Sets) (v : Version) (owner : Name) (rtype : ℕ) (s : RecordSet)
         → is_touched keys (fold owner, rtype) ≡ true → Covers keys a v.sets → Covers keys a (put_set v owner rtype s).sets }
@@ -26,7 +26,7 @@ pub fn covers_edits()
         → is_touched keys (fold owner, rtype) ≡ true → Covers keys a v.sets → Covers keys a (remove_set v owner rtype).sets }
 {}
 
-/// Every set at and below a name removed, or in the zone, whose keys were noted; and those that a commit leaves out.
+/// Every RRset at and below a name removed, or in the zone, whose keys were noted; and those that a commit leaves out.
 pub fn covers_removals()
     ensures below { (keys : List Key) (a : Sets) (v : Version) (n : Name) → Covers keys a v.sets → Covers (noted_all keys (keys_below v n)) a (clear v n).sets }
     ensures zone { (keys : List Key) (a : Sets) (v : Version) → IsSound v → Covers keys a v.sets → Covers (noted_all keys (keys_below v v.apex)) a [] }

@@ -80,7 +80,7 @@ impl TouchedKeys {
         self.note(key.clone()?)
     }
 
-    /// Notes the keys of a version's sets at a name and below it. Without memory for that some of them may be noted.
+    /// Notes the keys of a version's RRsets at a name and below it. Without memory for that some of them may be noted.
     pub fn note_below<N: Labelled>(
         &mut self,
         version: &ZoneVersion,
@@ -92,7 +92,7 @@ impl TouchedKeys {
         self.note_under(version, &name.to_key_name())
     }
 
-    /// Notes the keys of a version's sets at a name and below it.
+    /// Notes the keys of a version's RRsets at a name and below it.
     fn note_under(&mut self, version: &ZoneVersion, name: &KeyName) -> Result<(), AllocError>
         ensures ok { OnOk result (self.new ≡ noted_all self.old (keys_below version.now name.now)) }
         ensures err { OnErr result (Keeps self.old self.new) }
@@ -103,7 +103,7 @@ impl TouchedKeys {
         Ok(())
     }
 
-    /// Notes the keys of the sets that a commit of the version leaves out: DS sets below the apex that lack NS (RFC 4035, 2.4). Without memory
+    /// Notes the keys of the RRsets that a commit of the version leaves out: DS RRsets below the apex that lack NS (RFC 4035, 2.4). Without memory
     /// for that some of them may be noted.
     pub fn note_strays(&mut self, version: &ZoneVersion) -> Result<(), AllocError>
         ensures ok { OnOk result (self.new ≡ noted_all self.old (stray_keys version.now)) }

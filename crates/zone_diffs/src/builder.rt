@@ -15,8 +15,8 @@ use std::marker::Model;
 use zone_sets::SetKey;
 use zone_values::{Rrset, SharedRrset};
 
-/// Builds a difference of the sets that come and go. A record that comes and goes, of the same TTL and data, is in neither side.
-/// A side's set keeps the TTL that it began with and has equal data once. Owners are compared ASCII case aside, and kept in lower case.
+/// Builds a difference of the RRsets that come and go. A record that comes and goes, of the same TTL and data, is in neither side.
+/// A side's RRset keeps the TTL that it began with and has equal data once. Owners are compared ASCII case aside, and kept in lower case.
 #[derive(Drop)]
 pub struct InMemoryZoneDiffBuilder {
     alloc: Global,
@@ -44,7 +44,7 @@ impl InMemoryZoneDiffBuilder {
         }
     }
 
-    /// Notes that the records of a set of this type came: those that the removed side has go there, the others are added.
+    /// Notes that the records of an RRset of this type came: those that the removed side has go there, the others are added.
     pub fn add(
         &mut self,
         owner: StoredName,
@@ -65,7 +65,7 @@ impl InMemoryZoneDiffBuilder {
         )
     }
 
-    /// Notes that the records of a set of this type went: those that the added side has go there, the others are removed.
+    /// Notes that the records of an RRset of this type went: those that the added side has go there, the others are removed.
     pub fn remove(
         &mut self,
         owner: StoredName,
@@ -86,7 +86,7 @@ impl InMemoryZoneDiffBuilder {
         )
     }
 
-    /// The difference. Refused are, in this order, one that removes no SOA set (`MissingStartSoa`), one that adds none (`MissingEndSoa`), and
+    /// The difference. Refused are, in this order, one that removes no SOA RRset (`MissingStartSoa`), one that adds none (`MissingEndSoa`), and
     /// one whose added serial is the removed one or before it (`InvalidSerialRange`; RFC 1982, 3.2).
     pub fn build(self) -> Result<InMemoryZoneDiff, ZoneDiffError>
         ensures { result ≡ built self }
@@ -120,7 +120,7 @@ pub fn is_upto(serial: Serial, other: Serial) -> bool
     }
 }
 
-/// Takes the records of a set out of the one side, and puts those that were not there to the other.
+/// Takes the records of an RRset out of the one side, and puts those that were not there to the other.
 fn move_over(
     alloc: Global,
     from: &mut DiffSets,
@@ -144,7 +144,7 @@ fn move_over(
     from.put(key, kept)
 }
 
-/// Puts the records of a set after those of a side at its key.
+/// Puts the records of an RRset after those of a side at its key.
 fn put_behind(
     alloc: Global,
     side: &mut DiffSets,

@@ -1,13 +1,13 @@
 // Why no difference is built.
 use thiserror::Error;
 
-/// Why the sets that came and went make no difference, tested in this order.
+/// Why the RRsets that came and went make no difference, tested in this order.
 #[derive(Clone, Copy, Debug, PartialEq, Eq, Drop, Error)]
 pub enum ZoneDiffError {
-    /// No SOA set was removed.
+    /// No SOA RRset was removed.
     #[error("MissingStartSoa")]
     MissingStartSoa,
-    /// No SOA set was added.
+    /// No SOA RRset was added.
     #[error("MissingEndSoa")]
     MissingEndSoa,
     /// The added serial is the removed one, or before it (RFC 1982, 3.2).

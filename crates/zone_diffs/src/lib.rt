@@ -1,4 +1,4 @@
-//! Differences between versions of a zone (RFC 1995): built of the sets that come and go, kept in order, and lent by index.
+//! Differences between versions of a zone (RFC 1995): built of the RRsets that come and go, kept in order, and lent by index.
 #![tactic(auto)]
 
 mod builder;

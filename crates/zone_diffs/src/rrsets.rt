@@ -13,7 +13,7 @@ use dns_rdata::StoredRecordData;
 use std::alloc::{AllocError, Global};
 use zone_values::Rrset;
 
-/// The records of a set that another lacks. Records of another TTL are others.
+/// The records of an RRset that another lacks. Records of another TTL are others.
 pub(crate) fn lacked(alloc: Global, set: &Rrset, other: &Rrset) -> Result<Rrset, AllocError>
     ensures { IfOk result (λ r. r ≡ typed set.now.rtype (lacked set.now.contents other.now.contents)) }
 {
@@ -25,7 +25,7 @@ pub(crate) fn lacked(alloc: Global, set: &Rrset, other: &Rrset) -> Result<Rrset,
     Ok(left)
 }
 
-/// The set with the first of equal data (RFC 2181, 5).
+/// The RRset with the first of equal data (RFC 2181, 5).
 pub(crate) fn distinct(alloc: Global, set: &Rrset) -> Result<Rrset, AllocError>
     ensures { IfOk result (λ r. r ≡ typed set.now.rtype (distinct_set set.now.contents)) }
 {
@@ -36,7 +36,7 @@ pub(crate) fn distinct(alloc: Global, set: &Rrset) -> Result<Rrset, AllocError>
     Ok(first)
 }
 
-/// The set with the data of another of its type that it lacks after its own. The TTL stays.
+/// The RRset with the data of another of its type that it lacks after its own. The TTL stays.
 pub(crate) fn merged(held: &Rrset, set: &Rrset) -> Result<Rrset, AllocError>
     requires { set.now.rtype ≡ held.now.rtype }
     ensures { IfOk result (λ r. r ≡ typed held.now.rtype (merged_set (Some held.now.contents) set.now.contents)) }
@@ -46,7 +46,7 @@ pub(crate) fn merged(held: &Rrset, set: &Rrset) -> Result<Rrset, AllocError>
     Ok(both)
 }
 
-/// Puts the data of a set that another lacks last.
+/// Puts the data of an RRset that another lacks last.
 fn push_lacked(into: &mut Rrset, set: &Rrset, other: &Rrset) -> Result<(), AllocError>
     requires { set.now.rtype ≡ into.old.rtype }
     ensures { OnOk result (into.new ≡ set_of into.old.rtype into.old.contents.ttl (into.old.contents.items ++ filter (λ d. not (list_any (same_data d) other.now.contents.items)) set.now.contents.items)) }
@@ -59,7 +59,7 @@ fn push_lacked(into: &mut Rrset, set: &Rrset, other: &Rrset) -> Result<(), Alloc
     Ok(())
 }
 
-/// Puts data last, unless equal data are in the set.
+/// Puts data last, unless equal data are in the RRset.
 fn push_new(into: &mut Rrset, item: &StoredRecordData) -> Result<(), AllocError>
     requires { rtype_of item.now ≡ into.old.rtype }
     ensures { OnOk result (into.new ≡ set_of into.old.rtype into.old.contents.ttl (if list_any (same_data (data_fields item.now)) into.old.contents.items then into.old.contents.items else into.old.contents.items ++ data_fields item.now ∷ [])) }
@@ -70,7 +70,7 @@ fn push_new(into: &mut Rrset, item: &StoredRecordData) -> Result<(), AllocError>
     into.push_data(item.clone()?)
 }
 
-/// Whether equal data are in a set.
+/// Whether equal data are in an RRset.
 #[tactic(auto, using(zone_sets::proofs::Equality::list_any_map))]
 fn has_data(set: &Rrset, item: &StoredRecordData) -> bool
     ensures { result ≡ list_any (same_data (data_fields item.now)) set.now.contents.items }

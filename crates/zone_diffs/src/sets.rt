@@ -20,7 +20,7 @@ use std::marker::Model;
 use zone_sets::SetKey;
 use zone_values::{Rrset, SharedRrset};
 
-/// Record sets by owner and type, none of them empty: owners in lower case and canonical order, each one's types ascending (RFC 4034, 6.1).
+/// RRsets by owner and type, none of them empty: owners in lower case and canonical order, each one's types ascending (RFC 4034, 6.1).
 #[derive(Debug, Drop)]
 pub struct DiffSets {
     entries: BTreeMap<SetKey, SharedRrset>,
@@ -41,7 +41,7 @@ impl Model for DiffSets {
 }
 
 impl DiffSets {
-    /// No sets.
+    /// No RRsets.
     pub fn new(alloc: Global) -> DiffSets
         ensures { result ≡ [] }
     {
@@ -50,7 +50,7 @@ impl DiffSets {
         }
     }
 
-    /// How many sets there are.
+    /// How many RRsets there are.
     pub fn len(&self) -> usize
         ensures len { result ≡ length self.now }
         ensures ordered { IsStrictlySortedBy key_cmp (keys_of self.now) }
@@ -66,28 +66,28 @@ impl DiffSets {
         self.len() == 0
     }
 
-    /// The set at a key.
+    /// The RRset at a key.
     pub fn get(&self, key: &SetKey) -> Option<&SharedRrset>
         ensures { option_copied result ≡ typed_set_in self.now key.now }
     {
         self.entries.get(key)
     }
 
-    /// The sets with their keys, in order.
+    /// The RRsets with their keys, in order.
     pub fn iter(&self) -> Iter<'_, SetKey, SharedRrset>
         ensures { result ≡ map item_of self.now }
     {
         self.entries.iter()
     }
 
-    /// The set at an index from 0, with its key; None at an index from the length on. The time grows with the index.
+    /// The RRset at an index from 0, with its key; None at an index from the length on. The time grows with the index.
     pub fn at(&self, index: usize) -> Option<(&SetKey, &SharedRrset)>
         ensures { option_map deref_pair result ≡ slice_get (map item_of self.now) index }
     {
         self.iter().nth(index)
     }
 
-    /// Puts a set of the key's type in place of the one at the key; an empty one removes that. Memory is only needed where there was none.
+    /// Puts an RRset of the key's type in place of the one at the key; an empty one removes that. Memory is only needed where there was none.
     pub fn put(&mut self, key: SetKey, set: SharedRrset) -> Result<(), AllocError>
         requires { set.rtype ≡ key.1 }
         ensures ok { OnOk result (self.new ≡ put_at self.old key set.contents) }
@@ -102,7 +102,7 @@ impl DiffSets {
         Ok(())
     }
 
-    /// The serial of the first datum of the first SOA set in order, if there is one.
+    /// The serial of the first datum of the first SOA RRset in order, if there is one.
     pub fn first_serial(&self) -> Option<Serial>
         ensures { result ≡ first_serial self.now }
     {
@@ -116,7 +116,7 @@ impl DiffSets {
     }
 }
 
-/// The serial of a set's first datum, 0 where that is no SOA.
+/// The serial of an RRset's first datum, 0 where that is no SOA.
 fn serial_in(set: &Rrset) -> Serial
     ensures { result ≡ set_serial set.now.contents }
 {

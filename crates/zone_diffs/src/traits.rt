@@ -15,7 +15,7 @@ use dns_name::{Labelled, Rtype, Serial};
 use zone_sets::SetKey;
 use zone_values::SharedRrset;
 
-/// The difference from one version of a zone to another (RFC 1995, 4). Its items are sets that aren't empty, in canonical order of their owners,
+/// The difference from one version of a zone to another (RFC 1995, 4). Its items are RRsets that aren't empty, in canonical order of their owners,
 /// each owner's types ascending.
 pub trait ZoneDiff {
     // what the difference says
@@ -29,23 +29,23 @@ pub trait ZoneDiff {
     fn end_serial(&self) -> Serial
         ensures { result ≡ (told self.now).end_serial };
 
-    /// How many sets are added.
+    /// How many RRsets are added.
     fn added_len(&self) -> usize
         ensures len { result ≡ length (told self.now).added }
         ensures ordered { IsStrictlySortedBy key_cmp (keys_of (told self.now).added) }
         ensures full { IsTrue (list_all holds_data (told self.now).added) };
 
-    /// The added set at an index from 0; None from the length on.
+    /// The added RRset at an index from 0; None from the length on.
     fn added_at(&self, index: usize) -> Option<(&SetKey, &SharedRrset)>
         ensures { option_map deref_pair result ≡ slice_get (map item_of (told self.now).added) index };
 
-    /// How many sets are removed.
+    /// How many RRsets are removed.
     fn removed_len(&self) -> usize
         ensures len { result ≡ length (told self.now).removed }
         ensures ordered { IsStrictlySortedBy key_cmp (keys_of (told self.now).removed) }
         ensures full { IsTrue (list_all holds_data (told self.now).removed) };
 
-    /// The removed set at an index from 0; None from the length on.
+    /// The removed RRset at an index from 0; None from the length on.
     fn removed_at(&self, index: usize) -> Option<(&SetKey, &SharedRrset)>
         ensures { option_map deref_pair result ≡ slice_get (map item_of (told self.now).removed) index };
 
@@ -58,7 +58,7 @@ pub trait ZoneDiff {
         ensures { option_copied result ≡ typed_set_in (told self.now).removed (fold (N.labels owner.now), rtype) };
 }
 
-/// One set of a difference with its owner and type.
+/// One RRset of a difference with its owner and type.
 pub trait ZoneDiffItem {
     // its key and its set
     ghost item: { Self → Key × TypedSet };

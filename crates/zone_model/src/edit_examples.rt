@@ -10,7 +10,7 @@ ghost use Rattle.zone_model.specs.Commits as commits;
 ghost use Rattle.zone_model.specs.ZoneRows as rows;
 ghost use Rattle.zone_model.specs.LawRows as law_rows;
 
-/// A record that is added: its TTL becomes the set's; what refuses it, first the owner, then equal data, then a second alias below the apex.
+/// A record that is added: its TTL becomes the RRset's; what refuses it, first the owner, then equal data, then a second alias below the apex.
 pub fn add_row()
     ensures ttl { add (rows.zone (rows.address rows.t 1 ∷ [])) (rows.with_ttl 60 (rows.address rows.t 2)) ≡ Ok (rows.zone (rows.with_ttl 60 (rows.address rows.t 1) ∷ rows.with_ttl 60 (rows.address rows.t 2) ∷ [])) }
     ensures longer_ttl { add (rows.zone (rows.with_ttl 60 (rows.address rows.t 1) ∷ [])) (rows.address rows.t 2) ≡ Ok (rows.zone (rows.address rows.t 1 ∷ rows.address rows.t 2 ∷ [])) }
@@ -21,7 +21,7 @@ pub fn add_row()
     ensures apex_alias { add (rows.zone (rows.alias rows.e rows.a_b ∷ [])) (rows.alias rows.e rows.c_b) ≡ Ok (rows.zone (rows.alias rows.e rows.a_b ∷ rows.alias rows.e rows.c_b ∷ [])) }
 {}
 
-/// A record that is deleted goes by its data alone; what is left takes its TTL, and an empty set goes.
+/// A record that is deleted goes by its data alone; what is left takes its TTL, and an empty RRset goes.
 pub fn delete_row()
     ensures ttl { delete (rows.zone (rows.address rows.t 1 ∷ rows.address rows.t 2 ∷ [])) (rows.with_ttl 60 (rows.address rows.t 1)) ≡ Ok (rows.zone (rows.with_ttl 60 (rows.address rows.t 2) ∷ [])) }
     ensures longer_ttl { delete (rows.zone (rows.with_ttl 60 (rows.address rows.t 1) ∷ rows.with_ttl 60 (rows.address rows.t 2) ∷ [])) (rows.address rows.t 1) ≡ Ok (rows.zone (rows.address rows.t 2 ∷ [])) }
@@ -30,7 +30,7 @@ pub fn delete_row()
     ensures outside { delete rows.empty_zone (rows.address (rows.other (codes "a" ∷ [])) 1) ≡ Err OutOfZone }
 {}
 
-/// A set in place of another: the first of equal data stay, no data remove it, and an alias below the apex has exactly one value.
+/// An RRset in place of another: the first of equal data stay, no data remove it, and an alias below the apex has exactly one value.
 pub fn replace_row()
     ensures once { replace_set (rows.zone (rows.address rows.t 9 ∷ [])) rows.t type_a (record { ttl = 60; items = (rows.address rows.t 1).fields ∷ (rows.address rows.t 2).fields ∷ (rows.address rows.t 1).fields ∷ [] }) ≡ Ok (rows.zone (rows.with_ttl 60 (rows.address rows.t 1) ∷ rows.with_ttl 60 (rows.address rows.t 2) ∷ [])) }
     ensures first { replace_set rows.empty_zone rows.sub type_ns (record { ttl = 3600; items = (rows.ns rows.sub rows.sub).fields ∷ (rows.ns rows.sub rows.loud_sub).fields ∷ [] }) ≡ Ok (rows.zone (rows.ns rows.sub rows.sub ∷ [])) }
@@ -96,7 +96,7 @@ pub fn walk_row()
     ensures last { next_stop rows.cut_zone rows.sub type_ns ≡ None }
 {}
 
-/// Versions are the same whatever the order of a set's data and the case of letters in names, and aren't where a TTL or a record differs.
+/// Versions are the same whatever the order of an RRset's data and the case of letters in names, and aren't where a TTL or a record differs.
 pub fn same_row()
     ensures order { same_version (rows.zone (rows.address rows.t 1 ∷ rows.address rows.t 2 ∷ [])) (rows.zone (rows.address rows.t 2 ∷ rows.address rows.t 1 ∷ [])) ≡ true }
     ensures letters { same_version (rows.zone (rows.ns rows.sub rows.sub ∷ [])) (rows.zone (rows.ns rows.loud_sub rows.loud_sub ∷ [])) ≡ true }
@@ -107,7 +107,7 @@ pub fn same_row()
     ensures fewer { same_version (rows.zone (rows.address rows.t 1 ∷ rows.address rows.t 2 ∷ [])) (rows.zone (rows.address rows.t 1 ∷ [])) ≡ false }
 {}
 
-/// What isn't published: a set without data, equal data, an alias with two values, DS without NS, an owner in upper case, outside, or out of order, and another apex.
+/// What isn't published: an RRset without data, equal data, an alias with two values, DS without NS, an owner in upper case, outside, or out of order, and another apex.
 pub fn valid_row()
     ensures valid { law_rows.is_published rows.loud_e (law_rows.beside_soa rows.sub type_ns ((rows.ns rows.sub rows.sub).fields ∷ [])) ≡ true }
     ensures emptied { law_rows.is_published rows.e (law_rows.beside_soa rows.sub type_ns []) ≡ false }

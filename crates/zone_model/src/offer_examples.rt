@@ -44,7 +44,7 @@ pub fn page_row()
     ensures not_single { are_single 90 ((rows.soa 1 ∷ rows.soa 1 ∷ []) ∷ []) ≡ false }
 {}
 
-/// What a zone opens with: the lowest TTL of a set's records, equal data once, nothing outside; and what a zone file refuses.
+/// What a zone opens with: the lowest TTL of an RRset's records, equal data once, nothing outside; and what a zone file refuses.
 pub fn opened_row()
     ensures opened { classes.opened (record { apex = rows.e; class = 1; accepted = rows.address rows.t 1 ∷ rows.with_ttl 60 (rows.address rows.t 1) ∷ rows.address rows.t 2 ∷ rows.address (rows.other (codes "a" ∷ [])) 5 ∷ [] }) ≡ rows.zone (rows.with_ttl 60 (rows.address rows.t 1) ∷ rows.with_ttl 60 (rows.address rows.t 2) ∷ []) }
     ensures class { classes.classify (record { apex = rows.e; class = 3; accepted = [] }) (rows.soa 1) ≡ classes.Rejected classes.ClassMismatch }

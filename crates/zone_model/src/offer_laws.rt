@@ -8,12 +8,12 @@ pub fn whole_is_text()
     ensures { laws.WholeIsText }
 {}
 
-/// It spells one version on any base of the same apex, with the very sets that it was made of.
+/// It spells one version on any base of the same apex, with the very RRsets that it was made of.
 pub fn whole_spells()
     ensures { laws.WholeSpells }
 {}
 
-/// A version with a set besides its SOA is sent with a record between the SOA records.
+/// A version with an RRset besides its SOA is sent with a record between the SOA records.
 pub fn sets_make_middle()
     ensures { laws.SetsMakeMiddle }
 {}

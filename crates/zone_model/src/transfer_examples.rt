@@ -20,7 +20,7 @@ pub fn history_row()
     ensures whole { (spelling Ixfr rows.history_text rows.history_1).fault ≡ None }
 {}
 
-/// A set whose TTL changed counts whole on both sides.
+/// An RRset whose TTL changed counts whole on both sides.
 pub fn ttl_row()
     ensures { let old = rows.zone (rows.soa 1 ∷ rows.address rows.t 1 ∷ rows.address rows.t 2 ∷ rows.address rows.t 3 ∷ []) in
         let new = rows.zone (rows.soa 2 ∷ rows.with_ttl 60 (rows.address rows.t 1) ∷ rows.with_ttl 60 (rows.address rows.t 2) ∷ rows.with_ttl 60 (rows.address rows.t 3) ∷ []) in

@@ -10,7 +10,7 @@ use dns_rdata::StoredRecordData;
 use std::alloc::{AllocError, Global};
 use std::collections::BTreeSet;
 
-/// How many data may stand in a set without an index: so few are sooner looked through.
+/// How many data may stand in an RRset without an index: so few are sooner looked through.
 pub(crate) const FEW: usize = 8;
 
 /// The index of data.

@@ -7,7 +7,7 @@ use std::alloc::AllocError;
 use std::cmp::Ordering;
 use std::marker::Model;
 
-/// Record data in an order whose ties are equal data, names ASCII case aside (RFC 2181, 5; RFC 4343, 3).
+/// RDATA in an order whose ties are equal data, names ASCII case aside (RFC 2181, 5; RFC 4343, 3).
 #[derive(Drop)]
 pub(crate) struct DataKey {
     item: StoredRecordData,

@@ -21,7 +21,7 @@ use std::collections::btree_map::{Iter, Keys};
 use std::marker::Model;
 use std::ops::Bound;
 
-/// Record sets by owner and type, each of its key's type: owners in lower case and canonical order, each one's types ascending (RFC 4034, 6.1).
+/// RRsets by owner and type, each of its key's type: owners in lower case and canonical order, each one's types ascending (RFC 4034, 6.1).
 #[derive(Drop)]
 pub struct KeyedSets {
     entries: BTreeMap<SetKey, RecordSet>,
@@ -41,7 +41,7 @@ impl Model for KeyedSets {
 }
 
 impl KeyedSets {
-    /// No sets.
+    /// No RRsets.
     pub fn new(alloc: Global) -> KeyedSets
         ensures { result ≡ [] }
     {
@@ -50,28 +50,28 @@ impl KeyedSets {
         }
     }
 
-    /// The set at a key.
+    /// The RRset at a key.
     pub fn get(&self, key: &SetKey) -> Option<&RecordSet>
         ensures { option_copied result ≡ typed_set_in self.now key.now }
     {
         self.entries.get(key)
     }
 
-    /// The sets with their keys, in order.
+    /// The RRsets with their keys, in order.
     pub fn iter(&self) -> Iter<'_, SetKey, RecordSet>
         ensures { result ≡ map item_of self.now }
     {
         self.entries.iter()
     }
 
-    /// The keys of the sets, in order.
+    /// The keys of the RRsets, in order.
     pub fn keys(&self) -> Keys<'_, SetKey, RecordSet>
         ensures { result ≡ keys_of self.now }
     {
         self.entries.keys()
     }
 
-    /// The first set after a key, with its own key.
+    /// The first RRset after a key, with its own key.
     pub fn first_behind(&self, key: &SetKey) -> Option<(&SetKey, &RecordSet)>
         ensures { option_map deref_pair result ≡ option_map item_of (find (λ e. is_lt (key_cmp key.now e.0)) self.now) }
     {
@@ -80,7 +80,7 @@ impl KeyedSets {
             .next()
     }
 
-    /// The first set at a key or after it, with its own key.
+    /// The first RRset at a key or after it, with its own key.
     pub fn first_from(&self, key: &SetKey) -> Option<(&SetKey, &RecordSet)>
         ensures { option_map deref_pair result ≡ option_map item_of (find (λ e. is_le (key_cmp key.now e.0)) self.now) }
     {
@@ -97,7 +97,7 @@ impl KeyedSets {
         self.entries.keys().any(|key| test(key))
     }
 
-    /// Whether equal data stand in the set at a key.
+    /// Whether equal data stand in the RRset at a key.
     pub fn has_item(&self, key: &SetKey, item: &StoredRecordData) -> bool
         ensures { result ≡ list_any (same_data (data_fields item.now)) (items_at self.now key.now) }
     {
@@ -107,7 +107,7 @@ impl KeyedSets {
         }
     }
 
-    /// Whether data other than these stand in the set at a key.
+    /// Whether data other than these stand in the RRset at a key.
     fn has_others(&self, key: &SetKey, item: &StoredRecordData) -> bool
         ensures { result ≡ list_any (λ d. not (same_data (data_fields item.now) d)) (items_at self.now key.now) }
     {
@@ -120,7 +120,7 @@ impl KeyedSets {
 
 // Edits.
 impl KeyedSets {
-    /// Puts a set of the key's type in place of the one at the key. Memory is only needed where there was none.
+    /// Puts an RRset of the key's type in place of the one at the key. Memory is only needed where there was none.
     pub fn insert(&mut self, key: SetKey, set: RecordSet) -> Result<(), AllocError>
         requires { set.rtype ≡ key.1 }
         ensures ok { OnOk result (self.new ≡ insert_entry key_cmp self.old key set.contents) }
@@ -131,14 +131,14 @@ impl KeyedSets {
         Ok(())
     }
 
-    /// Takes the set at a key out.
+    /// Takes the RRset at a key out.
     pub fn remove(&mut self, key: &SetKey)
         ensures { self.new ≡ remove_entry (has_key key.now) self.old }
     {
         drop(self.entries.remove(key));
     }
 
-    /// Keeps the sets at whose keys a test says yes. The test is asked once at each key, in order.
+    /// Keeps the RRsets at whose keys a test says yes. The test is asked once at each key, in order.
     pub fn retain_keys<F: Fn(&SetKey) -> bool>(&mut self, test: F)
         requires { F.IsAlwaysCallable test }
         ensures { (p : Key → Bool) → ((k : _) (b : Bool) → F.post test k b → b ≡ p k.now) → self.new ≡ filter (λ e. p e.0) self.old }
@@ -146,7 +146,7 @@ impl KeyedSets {
         self.entries.retain(|key, _| test(key));
     }
 
-    /// Puts data of the key's type last in the set at the key, and this TTL, in seconds, in place of the set's.
+    /// Puts data of the key's type last in the RRset at the key, and this TTL, in seconds, in place of the RRset's.
     pub fn put_last(
         &mut self,
         alloc: Global,
@@ -162,7 +162,7 @@ impl KeyedSets {
         Ok(())
     }
 
-    /// Puts data of the key's type that the zone opens with in the set at the key, unless it had equal data; the set's TTL is the lower one.
+    /// Puts data of the key's type that the zone opens with in the RRset at the key, unless it had equal data; the RRset's TTL is the lower one.
     pub fn put_opening(
         &mut self,
         alloc: Global,
@@ -179,7 +179,7 @@ impl KeyedSets {
         Ok(())
     }
 
-    /// Takes the data equal to these out of the set at a key, and puts this TTL, in seconds, in place of the set's; an emptied set goes.
+    /// Takes the data equal to these out of the RRset at a key, and puts this TTL, in seconds, in place of the RRset's; an emptied RRset goes.
     #[tactic(auto, using(crate::proofs::Thinning::some_others, crate::proofs::Thinning::no_others, crate::proofs::Thinning::others_some))]
     pub fn take_out(&mut self, key: &SetKey, ttl: Ttl, item: &StoredRecordData)
         ensures { self.new ≡ taken_out ttl (data_fields item.now) key.now self.old }
@@ -191,7 +191,7 @@ impl KeyedSets {
         }
     }
 
-    /// Takes the data equal to these out of a set that stands at a key, and puts this TTL in place of the set's.
+    /// Takes the data equal to these out of an RRset that stands at a key, and puts this TTL in place of the RRset's.
     fn thin_out(&mut self, key: &SetKey, ttl: Ttl, item: &StoredRecordData)
         requires { IsSome (set_in self.old key.now) }
         ensures { self.new ≡ insert_entry key_cmp self.old key.now (thinned ttl (data_fields item.now) self.old key.now) }
@@ -200,7 +200,7 @@ impl KeyedSets {
     }
 }
 
-/// Puts data of the key's type last in the set at the key, and this TTL in place of the set's.
+/// Puts data of the key's type last in the RRset at the key, and this TTL in place of the RRset's.
 fn put_last(
     sets: &mut BTreeMap<SetKey, RecordSet>,
     alloc: Global,
@@ -222,7 +222,7 @@ fn put_last(
     }
 }
 
-/// Puts data of the key's type that the zone opens with in the set at the key, unless it had equal data; the set's TTL is the lower one.
+/// Puts data of the key's type that the zone opens with in the RRset at the key, unless it had equal data; the RRset's TTL is the lower one.
 fn put_opening(
     sets: &mut BTreeMap<SetKey, RecordSet>,
     alloc: Global,
@@ -245,7 +245,7 @@ fn put_opening(
     }
 }
 
-/// Takes the data equal to these out of a set that stands at a key, and puts this TTL in place of the set's.
+/// Takes the data equal to these out of an RRset that stands at a key, and puts this TTL in place of the RRset's.
 fn thin_out(sets: &mut BTreeMap<SetKey, RecordSet>, key: &SetKey, ttl: Ttl, item: &StoredRecordData)
     requires types { IsTrue (list_all has_own_type sets.old.entries) }
     requires there { IsSome (set_in (map entry_of sets.old.entries) key.now) }

@@ -1,6 +1,6 @@
-//! A record set, where it stands in a version, and the sets of a version by owner and type.
+//! An RRset, where it stands in a version, and the sets of a version by owner and type.
 //!
-//! A set knows its type, which its data are of, and stands under a key of that type. Equal data stand in a set once. A set of many data has
+//! An RRset knows its type, which its data are of, and stands under a key of that type. Equal data stand in an RRset once. An RRset of many data has
 //! an index of them, so that an addition doesn't look at each.
 #![tactic(auto)]
 

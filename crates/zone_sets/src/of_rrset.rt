@@ -14,7 +14,7 @@ use std::alloc::{AllocError, Global};
 use zone_values::Rrset;
 
 impl RecordSet {
-    /// The set of the first of equal data of another (RFC 2181, 5).
+    /// The RRset of the first of equal data of another (RFC 2181, 5).
     pub fn from_rrset(alloc: Global, set: &Rrset) -> Result<RecordSet, AllocError>
         ensures is { IfOk result (λ s. s ≡ typed set.now.rtype (distinct_set set.now.contents)) }
         ensures differ { IfOk result (λ s. all_differ s.contents.items ≡ true) }
@@ -23,7 +23,7 @@ impl RecordSet {
     }
 }
 
-/// The set of the first of equal data.
+/// The RRset of the first of equal data.
 fn first_of_equal(alloc: Global, set: &Rrset) -> Result<RecordSet, AllocError>
     ensures { IfOk result (λ s. s ≡ typed set.now.rtype (distinct_set set.now.contents)) }
 {
@@ -34,7 +34,7 @@ fn first_of_equal(alloc: Global, set: &Rrset) -> Result<RecordSet, AllocError>
     Ok(first)
 }
 
-/// Puts data of the set's type last, unless equal data are in the set.
+/// Puts data of the RRset's type last, unless equal data are in the RRset.
 fn push_new(into: &mut RecordSet, alloc: Global, item: &StoredRecordData) -> Result<(), AllocError>
     requires { rtype_of item.now ≡ into.old.rtype }
     ensures { OnOk result (into.new ≡ set_of into.old.rtype into.old.contents.ttl (if list_any (same_data (data_fields item.now)) into.old.contents.items then into.old.contents.items else into.old.contents.items ++ data_fields item.now ∷ [])) }

@@ -40,7 +40,7 @@ impl Model for RecordSet {
 }
 
 impl RecordSet {
-    /// A set of one record's data, and of their type. The TTL is in seconds.
+    /// An RRset of one record's data, and of their type. The TTL is in seconds.
     pub fn of_one(alloc: Global, ttl: Ttl, item: StoredRecordData) -> Result<RecordSet, AllocError>
         ensures { IfOk result (λ s. s ≡ set_of (rtype_of item) ttl (data_fields item ∷ [])) }
     {
@@ -55,7 +55,7 @@ impl RecordSet {
         })
     }
 
-    /// A set of this type and TTL, in seconds, without data.
+    /// An RRset of this type and TTL, in seconds, without data.
     pub(crate) fn empty(alloc: Global, rtype: Rtype, ttl: Ttl) -> RecordSet
         ensures { result ≡ set_of rtype ttl [] }
     {
@@ -89,7 +89,7 @@ impl RecordSet {
         &self.items
     }
 
-    /// Whether equal data stand in the set (RFC 2181, 5).
+    /// Whether equal data stand in the RRset (RFC 2181, 5).
     #[tactic(auto, using(crate::proofs::Equality::list_any_map))]
     pub fn contains(&self, item: &StoredRecordData) -> bool
         ensures { result ≡ list_any (same_data (data_fields item.now)) self.now.contents.items }
@@ -103,7 +103,7 @@ impl RecordSet {
         }
     }
 
-    /// Whether data other than these stand in the set.
+    /// Whether data other than these stand in the RRset.
     #[tactic(auto, using(crate::proofs::Equality::list_any_map))]
     pub fn has_others(&self, item: &StoredRecordData) -> bool
         ensures { result ≡ list_any (λ d. not (same_data (data_fields item.now) d)) self.now.contents.items }
@@ -111,7 +111,7 @@ impl RecordSet {
         has_others(&self.items, item)
     }
 
-    /// Puts data of the set's type last, and this TTL in place of the set's.
+    /// Puts data of the RRset's type last, and this TTL in place of the RRset's.
     pub fn append(
         &mut self,
         alloc: Global,
@@ -127,7 +127,7 @@ impl RecordSet {
         Ok(())
     }
 
-    /// Takes the data equal to these out, and puts this TTL in place of the set's.
+    /// Takes the data equal to these out, and puts this TTL in place of the RRset's.
     #[tactic(auto, using(crate::proofs::Equality::filter_map))]
     pub fn remove(&mut self, ttl: Ttl, item: &StoredRecordData)
         ensures { self.new ≡ set_of self.old.rtype ttl (filter (λ d. not (same_data (data_fields item.now) d)) self.old.contents.items) }
@@ -137,7 +137,7 @@ impl RecordSet {
         self.ttl = ttl;
     }
 
-    /// Puts the lower of this TTL and the set's, and data of the set's type last, unless the set had equal data.
+    /// Puts the lower of this TTL and the RRset's, and data of the RRset's type last, unless the RRset had equal data.
     pub fn open_with(
         &mut self,
         alloc: Global,
@@ -239,7 +239,7 @@ impl Clone for RecordSet {
     }
 }
 
-/// Where a set stands: its owner in lower case, and its type.
+/// Where an RRset stands: its owner in lower case, and its type.
 #[derive(Debug, Drop)]
 pub struct SetKey {
     owner: KeyName,
@@ -259,7 +259,7 @@ impl Model for SetKey {
 }
 
 impl SetKey {
-    /// Where the set of an owner and type stands.
+    /// Where the RRset of an owner and type stands.
     pub fn new<N: Labelled>(owner: &N, rtype: Rtype) -> SetKey
         ensures { result ≡ (fold (N.labels owner.now), rtype) }
     {

@@ -33,7 +33,7 @@ pub fn relative_names()
     ensures root { labels_below [] ns_example ≡ codes "example" ∷ codes "ns" ∷ [] }
 {}
 
-/// Sets.
+/// RRsets.
 pub fn record_sets()
     ensures lower { with_record (set_of 1 3600 (host 1 ∷ [])) 60 (host 2) ≡ set_of 1 60 (host 1 ∷ host 2 ∷ []) }
     ensures higher { with_record (set_of 1 60 (host 1 ∷ [])) 3600 (host 1) ≡ set_of 1 60 (host 1 ∷ host 1 ∷ []) }

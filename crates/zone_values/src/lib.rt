@@ -1,4 +1,4 @@
-//! The values that a zone tree is made of: records and record sets without their owner, zone cuts, values that are kept for each
+//! The values that a zone tree is made of: records and RRsets without their owner, zone cuts, values that are kept for each
 //! version of a zone, names relative to the apex, and the errors of zones. Nothing here reads or writes a zone: the definitions of
 //! versions and transfers are those of `zone_model`, and a zone that can be read and written is `zone_sessions`'s.
 #![tactic(auto)]

@@ -32,7 +32,7 @@ impl Model for Rrset {
 }
 
 impl Rrset {
-    /// A set of this type and TTL, in seconds, without records.
+    /// An RRset of this type and TTL, in seconds, without records.
     pub fn new(alloc: Global, rtype: Rtype, ttl: Ttl) -> Rrset
         ensures { result ≡ set_of rtype ttl [] }
     {
@@ -43,7 +43,7 @@ impl Rrset {
         }
     }
 
-    /// The set of one record.
+    /// The RRset of one record.
     pub fn from_record(alloc: Global, first: StoredRecord) -> Result<Rrset, AllocError>
         ensures { IfOk result (λ s. s ≡ set_of first.rtype first.ttl (first.fields ∷ [])) }
     {
@@ -107,7 +107,7 @@ impl Rrset {
         }
     }
 
-    /// Puts the data of one more record, which are of the set's type, last.
+    /// Puts the data of one more record, which are of the RRset's type, last.
     pub fn push_data(&mut self, item: StoredRecordData) -> Result<(), AllocError>
         requires { rtype_of item ≡ self.old.rtype }
         ensures ok { OnOk result (self.new ≡ with_data self.old (data_fields item)) }
@@ -117,7 +117,7 @@ impl Rrset {
         Ok(())
     }
 
-    /// Puts the data of a record of the set's type last, and lowers the TTL to the record's where it is higher. The record's owner and class
+    /// Puts the data of a record of the RRset's type last, and lowers the TTL to the record's where it is higher. The record's owner and class
     /// aren't looked at.
     pub fn push_record(&mut self, added: StoredRecord) -> Result<(), AllocError>
         requires { added.rtype ≡ self.old.rtype }
@@ -130,7 +130,7 @@ impl Rrset {
         Ok(())
     }
 
-    /// The set after an `Arc`.
+    /// The RRset after an `Arc`.
     pub fn into_shared(self, alloc: Global) -> Result<SharedRrset, AllocError>
         ensures { IfOk result (λ s. s ≡ self) }
     {
@@ -176,7 +176,7 @@ impl Eq for Rrset {
     ghost laws = { same_typed_set_equiv };
 }
 
-/// A record set after an `Arc`, which its copies share.
+/// An RRset after an `Arc`, which its copies share.
 #[derive(Debug, Drop)]
 pub struct SharedRrset {
     set: Arc<Rrset>,
@@ -191,7 +191,7 @@ impl Model for SharedRrset {
 }
 
 impl SharedRrset {
-    /// The set after an `Arc`.
+    /// The RRset after an `Arc`.
     pub fn new(alloc: Global, set: Rrset) -> Result<SharedRrset, AllocError>
         ensures { IfOk result (λ s. s ≡ set) }
     {
@@ -200,7 +200,7 @@ impl SharedRrset {
         })
     }
 
-    /// The set.
+    /// The RRset.
     pub fn as_rrset(&self) -> &Rrset
         ensures { result.now ≡ self.now }
     {
@@ -246,7 +246,7 @@ impl PartialEq for SharedRrset {
 
     ghost laws = { same_typed_set_partial };
 
-    /// Whether the sets are equal, field by field.
+    /// Whether the RRsets are equal, field by field.
     fn eq(&self, other: &SharedRrset) -> bool {
         self.as_rrset() == other.as_rrset()
     }

@@ -9,7 +9,7 @@ pub enum EditError {
     /// The owner is neither the apex nor below it.
     #[error("the owner isn't in the zone")]
     OutOfZone,
-    /// The set has data equal to those that are added, or lacks those that are deleted.
+    /// The RRset has data equal to those that are added, or lacks those that are deleted.
     #[error("the data don't fit what the zone holds")]
     Incompatible,
     /// A second CNAME record of one name (RFC 2181, 10.1).

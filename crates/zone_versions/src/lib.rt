@@ -1,6 +1,6 @@
-//! One version of a zone: its record sets by owner and type, look-ups, the walk, and the edits that make the next one.
+//! One version of a zone: its RRsets by owner and type, look-ups, the walk, and the edits that make the next one.
 //!
-//! A version is one ordered map from owners and types to sets. `zone_sessions` shares versions between read handles and a session that writes
+//! A version is one ordered map from owners and types to RRsets. `zone_sessions` shares versions between read handles and a session that writes
 //! the next.
 #![tactic(auto)]
 

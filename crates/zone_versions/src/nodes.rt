@@ -22,7 +22,7 @@ use zone_sets::{KeyedSets, RecordSet, SetKey};
 use zone_values::Rrset;
 
 impl ZoneVersion {
-    /// Whether a set is refused at a node: a CNAME set below the apex whose data aren't one value (RFC 2181, 10.1).
+    /// Whether an RRset is refused at a node: a CNAME RRset below the apex whose data aren't one value (RFC 2181, 10.1).
     pub fn is_bad_alias(&self, owner: &KeyName, set: &Rrset) -> bool
         ensures { result ≡ edits.is_bad_alias self.now owner.now set.now.rtype set.now.contents }
     {
@@ -35,7 +35,7 @@ impl ZoneVersion {
         !has_one_value(set.data())
     }
 
-    /// Puts a set in place of the one of its owner and type; an empty one removes that.
+    /// Puts an RRset in place of the one of its owner and type; an empty one removes that.
     pub fn put_set(&mut self, owner: &KeyName, set: RecordSet) -> Result<(), AllocError>
         requires zone { under owner.now self.old.apex ≡ true }
         requires differ { all_differ set.contents.items ≡ true }
@@ -48,7 +48,7 @@ impl ZoneVersion {
         Ok(())
     }
 
-    /// Removes the set of an owner and type.
+    /// Removes the RRset of an owner and type.
     pub fn remove_set(&mut self, owner: &KeyName, rtype: Rtype)
         ensures { self.new ≡ edits.remove_set self.old owner.now rtype }
     {
@@ -62,7 +62,7 @@ impl ZoneVersion {
         drop_under(&mut self.sets, name);
     }
 
-    /// Puts an address at or below the apex last in its set, whose TTL is then the lower one, unless equal data are there (RFC 1034, 4.2.1).
+    /// Puts an address at or below the apex last in its RRset, whose TTL is then the lower one, unless equal data are there (RFC 1034, 4.2.1).
     /// Other records change nothing.
     pub fn add_glue(&mut self, alloc: Global, added: StoredRecord) -> Result<(), AllocError>
         ensures ok { OnOk result (self.new ≡ edits.add_glue self.old added) }
@@ -75,7 +75,7 @@ impl ZoneVersion {
         self.put_glue(alloc, added)
     }
 
-    /// Whether a record is no address in the zone, or has equal data in its set.
+    /// Whether a record is no address in the zone, or has equal data in its RRset.
     fn is_passed_over(&self, added: &StoredRecord) -> bool
         ensures { result ≡ (not (is_address_in self.now added.now) || edits.has_data self.now added.now) }
     {
@@ -88,7 +88,7 @@ impl ZoneVersion {
         self.has_data(added)
     }
 
-    /// Puts an address in the zone last in its set, which lacks its data; the lower TTL becomes the set's.
+    /// Puts an address in the zone last in its RRset, which lacks its data; the lower TTL becomes the RRset's.
     fn put_glue(&mut self, alloc: Global, added: StoredRecord) -> Result<(), AllocError>
         requires address { is_address_in self.old added ≡ true }
         requires fresh { edits.has_data self.old added ≡ false }
@@ -102,7 +102,7 @@ impl ZoneVersion {
         Ok(())
     }
 
-    /// Makes the apex SOA set the first record of the published one with the next serial (RFC 1982, 3.1), unless its own first record is another.
+    /// Makes the apex SOA RRset the first record of the published one with the next serial (RFC 1982, 3.1), unless its own first record is another.
     /// Without a published SOA nothing changes.
     pub fn bump(&mut self, alloc: Global, published: &ZoneVersion) -> Result<(), AllocError>
         ensures ok { OnOk result (self.new ≡ edits.bump published.now self.old) }
@@ -114,14 +114,14 @@ impl ZoneVersion {
         }
     }
 
-    /// The apex SOA set.
+    /// The apex SOA RRset.
     fn soa_set(&self) -> Option<&RecordSet>
         ensures { option_copied result ≡ option_map (typed type_soa) (set_at self.now self.now.apex type_soa) }
     {
         self.set_at(&self.apex, Rtype::SOA)
     }
 
-    /// The same with the published SOA set.
+    /// The same with the published SOA RRset.
     fn follow(&mut self, alloc: Global, published: &RecordSet) -> Result<(), AllocError>
         requires { published.now.rtype ≡ type_soa }
         ensures ok { OnOk result (self.new ≡ bump_from self.old (first_record published.now.contents)) }
@@ -160,7 +160,7 @@ impl ZoneVersion {
         }
     }
 
-    /// Makes the apex SOA set this one record.
+    /// Makes the apex SOA RRset this one record.
     fn put_soa(&mut self, alloc: Global, ttl: Ttl, item: StoredRecordData) -> Result<(), AllocError>
         requires { rtype_of item ≡ type_soa }
         ensures ok { OnOk result (self.new ≡ with_soa self.old ttl (data_fields item)) }
@@ -197,7 +197,7 @@ fn is_address(rtype: Rtype) -> bool
     rtype == Rtype::A || rtype == Rtype::AAAA
 }
 
-/// Puts a set at a key, or takes the one there away where it is empty.
+/// Puts an RRset at a key, or takes the one there away where it is empty.
 fn put_at(sets: &mut KeyedSets, key: SetKey, set: RecordSet) -> Result<(), AllocError>
     requires { set.rtype ≡ key.1 }
     ensures ok { OnOk result (sets.new ≡ put_at key set.contents sets.old) }
@@ -218,7 +218,7 @@ fn drop_under(sets: &mut KeyedSets, name: &KeyName)
     sets.retain_keys(|key| !key.owner().ends_with(name));
 }
 
-/// Whether the first record of a set is there and another one than this.
+/// Whether the first record of an RRset is there and another one than this.
 fn is_news(set: &RecordSet, ttl: Ttl, old: &StoredRecordData) -> bool
     ensures { result ≡ edits.is_news (first_record set.now.contents) (ttl, data_fields old.now) }
 {

@@ -28,7 +28,7 @@ use std::collections::btree_map::{Iter, Keys};
 use std::marker::Model;
 use zone_sets::{KeyedSets, RecordSet, SetKey};
 
-/// One version of a zone (RFC 1034, 4.2): the apex as it was given, the class, and the record sets.
+/// One version of a zone (RFC 1034, 4.2): the apex as it was given, the class, and the RRsets.
 #[derive(Drop)]
 pub struct ZoneVersion {
     pub(crate) apex: StoredName,
@@ -94,21 +94,21 @@ impl ZoneVersion {
         self.class
     }
 
-    /// The set at a key.
+    /// The RRset at a key.
     fn set_in(&self, key: &SetKey) -> Option<&RecordSet>
         ensures { option_copied result ≡ typed_set_in self.now.sets key.now }
     {
         self.sets.get(key)
     }
 
-    /// The set of an owner and type.
+    /// The RRset of an owner and type.
     pub fn set_at<N: Labelled>(&self, owner: &N, rtype: Rtype) -> Option<&RecordSet>
         ensures { option_copied result ≡ option_map (typed rtype) (set_at self.now (N.labels owner.now) rtype) }
     {
         self.set_in(&SetKey::new(owner, rtype))
     }
 
-    /// Whether an owner has a set of a type.
+    /// Whether an owner has an RRset of a type.
     #[tactic(auto, using(crate::proofs::TypedStops::is_some_typed))]
     pub fn has_set<N: Labelled>(&self, owner: &N, rtype: Rtype) -> bool
         ensures { result ≡ is_some (set_at self.now (N.labels owner.now) rtype) }
@@ -155,7 +155,7 @@ impl ZoneVersion {
         self.sets.iter()
     }
 
-    /// The keys of the sets, in order.
+    /// The keys of the RRsets, in order.
     pub fn keys(&self) -> Keys<'_, SetKey, RecordSet>
         ensures is { result ≡ keys_of self.now.sets }
         ensures sound { IsSound self.now }
@@ -194,7 +194,7 @@ impl ZoneVersion {
         self.sets.first_behind(key)
     }
 
-    /// The first set whose owner isn't before a name in canonical order (RFC 4034, 6.1).
+    /// The first RRset whose owner isn't before a name in canonical order (RFC 4034, 6.1).
     pub fn first_from<N: Labelled>(&self, owner: &N) -> Option<(&SetKey, &RecordSet)>
         ensures { option_map deref_pair result ≡ option_map item_of (first_from self.now (N.labels owner.now)) }
     {
@@ -215,7 +215,7 @@ impl ZoneVersion {
 
 // Edits.
 impl ZoneVersion {
-    /// Whether a record's data stand in its set.
+    /// Whether a record's data stand in its RRset.
     pub fn has_data(&self, added: &StoredRecord) -> bool
         ensures { result ≡ edits.has_data self.now added.now }
     {
@@ -280,7 +280,7 @@ impl ZoneVersion {
         }
     }
 
-    /// Puts the data of a record that isn't refused last in its set, whose TTL is then the record's.
+    /// Puts the data of a record that isn't refused last in its RRset, whose TTL is then the record's.
     pub fn append(&mut self, alloc: Global, added: StoredRecord) -> Result<(), AllocError>
         requires { add self.old added ≡ Ok (appended self.old added) }
         ensures ok { OnOk result (self.new ≡ appended self.old added) }
@@ -292,7 +292,7 @@ impl ZoneVersion {
         Ok(())
     }
 
-    /// Takes the data of a record that isn't refused out of its set, whose TTL is then the record's; an emptied set goes.
+    /// Takes the data of a record that isn't refused out of its RRset, whose TTL is then the record's; an emptied RRset goes.
     pub fn remove(&mut self, deleted: &StoredRecord)
         requires { delete self.old deleted.now ≡ Ok (without self.old deleted.now) }
         ensures { self.new ≡ without self.old deleted.now }
@@ -301,7 +301,7 @@ impl ZoneVersion {
         self.sets.take_out(&key, deleted.ttl(), deleted.data());
     }
 
-    /// Puts a record that the zone opens with: data that the set has already are not put again, and the lower TTL stays.
+    /// Puts a record that the zone opens with: data that the RRset has already are not put again, and the lower TTL stays.
     pub fn open_with(&mut self, alloc: Global, added: StoredRecord) -> Result<(), AllocError>
         requires zone { under added.owner self.old.apex ≡ true }
         requires no_alias { adds_alias self.old added ≡ false }
@@ -316,7 +316,7 @@ impl ZoneVersion {
         Ok(())
     }
 
-    /// Makes the apex SOA set this one record. The TTL is in seconds.
+    /// Makes the apex SOA RRset this one record. The TTL is in seconds.
     pub fn set_soa(
         &mut self,
         alloc: Global,
@@ -332,7 +332,7 @@ impl ZoneVersion {
         Ok(())
     }
 
-    /// Whether a DS set at a key would be without NS beside it, below the apex (RFC 4035, 2.4).
+    /// Whether a DS RRset at a key would be without NS beside it, below the apex (RFC 4035, 2.4).
     pub fn is_stray(&self, key: &SetKey) -> bool
         ensures { result ≡ is_stray_at self.now key.now }
     {
@@ -345,7 +345,7 @@ impl ZoneVersion {
         !self.has_set(key.owner(), Rtype::NS)
     }
 
-    /// Whether a commit leaves a set out.
+    /// Whether a commit leaves an RRset out.
     pub fn has_stray(&self) -> bool
         ensures is { result ≡ list_any (is_stray_at self.now) (keys_of self.now.sets) }
         ensures none { result ≡ false → IsValid self.now }
@@ -353,7 +353,7 @@ impl ZoneVersion {
         any_stray(self, &self.sets)
     }
 
-    /// What a commit publishes: the version without DS sets below the apex that lack NS.
+    /// What a commit publishes: the version without DS RRsets below the apex that lack NS.
     pub fn closed(&self) -> Result<ZoneVersion, AllocError>
         ensures is { IfOk result (λ v. v ≡ edits.close self.now) }
         ensures valid { IfOk result (λ v. IsValid v) }
@@ -363,7 +363,7 @@ impl ZoneVersion {
         Ok(copy)
     }
 
-    /// The same of a version that isn't needed otherwise, which is copied only where a set goes.
+    /// The same of a version that isn't needed otherwise, which is copied only where an RRset goes.
     #[tactic(auto, using(crate::proofs::Closing::closed_is))]
     pub fn into_closed(self) -> Result<ZoneVersion, AllocError>
         ensures is { IfOk result (λ v. v ≡ edits.close self) }
@@ -378,14 +378,14 @@ impl ZoneVersion {
     }
 }
 
-/// Whether a commit of the version would leave one of the sets out.
+/// Whether a commit of the version would leave one of the RRsets out.
 fn any_stray(version: &ZoneVersion, sets: &KeyedSets) -> bool
     ensures { result ≡ list_any (is_stray_at version.now) (keys_of sets.now) }
 {
     sets.any_key(|key| version.is_stray(key))
 }
 
-/// Drops the sets that a commit of the version leaves out.
+/// Drops the RRsets that a commit of the version leaves out.
 fn drop_strays(version: &ZoneVersion, sets: &mut KeyedSets)
     ensures { sets.new ≡ filter (λ e. not (is_stray_at version.now e.0)) sets.old }
 {

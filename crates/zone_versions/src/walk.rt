@@ -10,7 +10,7 @@ use std::collections::btree_map::Iter;
 use std::marker::Model;
 use zone_sets::{RecordSet, SetKey};
 
-/// One stop of a walk: a set with its owner and type.
+/// One stop of a walk: an RRset with its owner and type.
 #[derive(Drop)]
 pub struct WalkItem<'v> {
     owner: KeyName,
@@ -31,7 +31,7 @@ impl<'v> Model for WalkItem<'v> {
 }
 
 impl<'v> WalkItem<'v> {
-    /// The stop of these parts, a set of this type.
+    /// The stop of these parts, an RRset of this type.
     pub(crate) fn of(
         owner: KeyName,
         rtype: Rtype,
