@@ -51,7 +51,7 @@ fn edit<R>(
     ensures number { OnOk result (session.new.current.number ≡ session.old.current.number + 1) }
     ensures err { OnErr result (session.new.current ≡ session.old.current) }
 {
-    session.open(true);
+    session.want_difference(true);
     let added = address(alloc, number, number.to_be_bytes())?;
     session.add_record(added)?;
     Ok(session.commit(rt, true)?)

@@ -72,7 +72,7 @@ fn run<R>(rt: &R, alloc: Global, sizes: Sizes) -> Result<(u64, Told), EditsError
     let mut session = zone.write(alloc);
     let told = edit_all(rt, alloc, &mut session, sizes.edits)?;
     let last = session.handle()?;
-    Ok((last.version(), told))
+    Ok((last.version_number(), told))
 }
 
 /// Prints what became of it, and gives the exit status.

@@ -12,8 +12,8 @@ use zone_types::{InMemoryZoneDiff, ZoneDiff};
 fn put<R: Abort>(rt: &R, alloc: Global, session: &mut WriteZone<'_>, ttl: u32) {
     let label = Label::from_slice(b"t").expect(rt, "a label");
     assert!(rt; !label.is_root());
-    let node = session.node().update_child(&label);
-    let mut node = node.ok().expect(rt, "a node");
+    let mut node = session.open(false);
+    node.update_child(&label).ok().expect(rt, "a node");
     node.update_rrset(three(rt, alloc, ttl))
         .expect(rt, "memory");
     drop(node);
@@ -66,7 +66,7 @@ fn tells_a_changed_ttl(rt: HostRuntime) {
     let alloc = rt.alloc();
     let mut zone = opened(&rt, alloc, 1);
     let mut session = zone.write(alloc);
-    session.open(true);
+    session.want_difference(true);
     put(&rt, alloc, &mut session, 60);
     put_soa(&rt, alloc, &mut session, 2);
     let diff = told(&rt, &mut session, false);
@@ -84,7 +84,7 @@ fn counts_the_serial_on(rt: HostRuntime) {
     let alloc = rt.alloc();
     let mut zone = opened(&rt, alloc, 4_294_967_295);
     let mut session = zone.write(alloc);
-    session.open(true);
+    session.want_difference(true);
     let diff = told(&rt, &mut session, true);
     is(&rt, diff.start_serial, Serial::from(4_294_967_295));
     is(&rt, diff.end_serial, Serial::from(0));
@@ -104,7 +104,7 @@ fn tells_what_is_left_of_edits(rt: HostRuntime) {
     let mut zone = opened(&rt, alloc, 1);
     let mut session = zone.write(alloc);
     add(&rt, &mut session, address(&rt, alloc, HOST, 60, 9));
-    session.open(true);
+    session.want_difference(true);
     session.clear_all().expect(&rt, "memory");
     put_soa(&rt, alloc, &mut session, 7);
     put(&rt, alloc, &mut session, 3600);
@@ -122,7 +122,7 @@ fn drops_edits_without_a_trace(rt: HostRuntime) {
     let mut zone = opened(&rt, alloc, 1);
     let handle = zone.read(&rt).expect(&rt, "memory");
     let mut session = zone.write(alloc);
-    session.open(true);
+    session.want_difference(true);
     session.clear_all().expect(&rt, "memory");
     drop(session);
     let owner = NameRef::from_octets(HOST).expect(&rt, "a name");

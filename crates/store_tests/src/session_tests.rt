@@ -21,7 +21,7 @@ fn has_set<R: Abort>(rt: &R, zone: &ReadZone, owner: &[u8], rtype: Rtype) -> boo
 fn walks_in_order(rt: HostRuntime) {
     let apex = filled(&rt, rt.alloc());
     let zone = apex.read(&rt).expect(&rt, "memory");
-    is(&rt, zone.version(), 1);
+    is(&rt, zone.version_number(), 1);
     let first = zone.first_rrset().expect(&rt, "a set");
     is(&rt, first.rtype(), Rtype::NS);
     is(&rt, first.owner().as_slice(), b"\x07Example\x00".as_slice());
@@ -85,7 +85,7 @@ fn flags_what_is_below_a_cut(rt: HostRuntime) {
 /// The number of a session's current version.
 fn number_in<R: Abort>(rt: &R, session: &mut WriteZone<'_>) -> u64 {
     let read = session.handle().expect(rt, "memory");
-    let number = read.version();
+    let number = read.version_number();
     drop(read);
     number
 }
@@ -100,7 +100,7 @@ fn counts_commits(rt: HostRuntime) {
     is(&rt, number_in(&rt, &mut session), 3);
     drop(session);
     let read = zone.read(&rt).expect(&rt, "memory");
-    is(&rt, read.version(), 3);
+    is(&rt, read.version_number(), 3);
     drop(read);
     drop(zone);
 }
@@ -133,7 +133,7 @@ fn keeps_a_handles_version(rt: HostRuntime) {
     let after = session.handle().expect(&rt, "memory");
     assert!(rt; after.first_rrset().is_none());
     assert!(rt; before.first_rrset().is_some());
-    is(&rt, before.version(), 1);
+    is(&rt, before.version_number(), 1);
     drop(after);
     drop(session);
     drop(before);
@@ -167,7 +167,7 @@ fn opens_with_what_was_inserted(rt: HostRuntime) {
     is(&rt, outside, Err(InsertError::OutOfZone));
     let zone = builder.build().expect(&rt, "memory");
     let read = zone.read(&rt).expect(&rt, "memory");
-    is(&rt, read.version(), 0);
+    is(&rt, read.version_number(), 0);
     let first = read.first_rrset().expect(&rt, "a set");
     is(&rt, first.items().len(), 1);
     drop(first);
@@ -269,7 +269,7 @@ fn current_of<R: Abort>(rt: &R, session: &mut WriteZone<'_>) -> (u64, bool, bool
         has_set(rt, &read, A, Rtype::A),
         has_set(rt, &read, B, Rtype::A),
     );
-    let current = (read.version(), a, b);
+    let current = (read.version_number(), a, b);
     drop(read);
     current
 }

@@ -91,7 +91,7 @@ fn equal_data_are_passed_over(rt: HostRuntime) {
     let records = format!(in alloc; "{SOA}{ADDRESS}{ADDRESS}{SOA}").expect(&rt, "memory");
     let message = reply(&rt, alloc, "8400", "0004", records.as_str());
     let zone = transferred(&rt, alloc, &message);
-    let number = zone.version();
+    let number = zone.version_number();
     let count = first_data(&zone, Rtype::A);
     is(&rt, number, 1);
     is(&rt, count, 1);

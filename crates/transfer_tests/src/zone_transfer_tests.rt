@@ -228,7 +228,7 @@ fn append_words<R: Abort>(rt: &R, alloc: Global, all: &mut Vec<u8>, words: &str)
 fn walks_of<R: Abort>(rt: &R, alloc: Global, versions: &[ReadZone]) -> Vec<u8> {
     let mut all = Vec::new(alloc);
     for version in versions {
-        append_number(rt, alloc, &mut all, version.version());
+        append_number(rt, alloc, &mut all, version.version_number());
         for stop in version.iter_rrsets() {
             append_set(rt, &mut all, version.class(), &stop);
         }

@@ -1,19 +1,20 @@
 -- Two walks are the same, stop by stop, where their versions are.
-use Rattle.std.proofs.Common.{◌≡◌, is_some, ◌&&◌, ◌==◌, List, [], ◌∷◌, map, refl, sym, ◌∙◌, bytes_eq}
+use Rattle.std.proofs.Common.{◌≡◌, is_some, ◌&&◌, ◌==◌, List, [], ◌∷◌, map, refl, sym, subst, ◌∙◌, bytes_eq}
 use Rattle.std.specs.List.{AllByRecursion, list_all, list_any}
+use Rattle.std.specs.List.Sorted.{IsStrictlySortedBy}
 use Rattle.std.specs.Cmp.Lexicographic.{pointwise}
 use Rattle.std.specs.Map.{keys_of}
 use Rattle.std.proofs.lemmas.List.Folds.{list_all-map}
 use Rattle.dns_name.specs.Names.{Name, fold, same_name}
 use Rattle.dns_rdata.specs.Records.{Field, same_data}
-use Rattle.zone_model.specs.Version.{RecordSet, Key, Sets, Version, IsValid, same_items, same_entry, same_version}
+use Rattle.zone_model.specs.Version.{RecordSet, Key, Sets, Version, IsValid, key_cmp, same_items, same_entry, same_version}
 use Rattle.zone_model.specs.Walk.{Stop, shown_owner, walk}
 use Rattle.zone_model.specs.Answer.{highest_cut}
 use Rattle.zone_model.proofs.Folded.{IsFolded}
 use Rattle.zone_model.proofs.Valid.{valid_good}
 use Rattle.zone_model.proofs.Phases.{shown_folds}
 use Rattle.zone_sets.proofs.Equality.{list_any_map}
-use Rattle.zone_handles.specs.Stops.{same_stop}
+use Rattle.zone_handles.specs.Stops.{same_stop, key_of, entry_of, VisitsOnce}
 
 same_shown : (v w : Version) (m n : Name) → fold m ≡ m → fold n ≡ n → pointwise bytes_eq m n ≡ same_name (shown_owner v m) (shown_owner w n)
 same_shown v w m n f g = λ i. pointwise bytes_eq ((sym f ∙ sym (shown_folds v m)) i) ((sym g ∙ sym (shown_folds w n)) i)
@@ -50,3 +51,17 @@ module _ {D : Type 0} (f : D → List Field) where
 pub are_left : (v w : Version) → IsValid v → IsValid w → (all others ones more : List Stop) → all ≡ walk v → others ≡ walk w
     → pointwise same_stop all others ≡ pointwise same_stop ones more → same_version v w ≡ pointwise same_stop ones more
 are_left v w h k all others ones more e f left = same_walks v w h k ∙ (λ i. pointwise same_stop (sym e i) (sym f i)) ∙ left
+
+-- the stops of a version are its sets
+entries_read : (v : Version) (es : Sets) → AllByRecursion IsFolded (keys_of es) → map entry_of (stops v es) ≡ es
+entries_read v [] f = refl
+entries_read v (e ∷ es) f = λ i. (((shown_folds v e.0.0 ∙ f.0) i, e.0.1), e.1) ∷ entries_read v es f.1 i
+
+keys_read : (v : Version) (es : Sets) → AllByRecursion IsFolded (keys_of es) → map key_of (stops v es) ≡ keys_of es
+keys_read v [] f = refl
+keys_read v (e ∷ es) f = λ i. ((shown_folds v e.0.0 ∙ f.0) i, e.0.1) ∷ keys_read v es f.1 i
+
+pub visits_once : VisitsOnce
+visits_once v h =
+    let folded = (valid_good v h).folded in
+    (entries_read v v.sets folded, subst (λ keys. IsStrictlySortedBy key_cmp keys) (sym (keys_read v v.sets folded)) h.ordered)

@@ -1,5 +1,6 @@
-// Laws of readers and one writer, each the contract of a function with an empty body.
+// Laws of readers, of their walks and of one writer, each the contract of a function with an empty body.
 ghost use Rattle.zone_handles.specs.Steps.{OpensSo, DropAbandons, LeaveNoTrace, HandlesStay};
+ghost use Rattle.zone_handles.specs.Stops.{VisitsOnce};
 
 /// A session and its handles stand for a zone from its opening on, and after a session that was dropped.
 pub fn sessions_stand()
@@ -15,4 +16,9 @@ pub fn leave_no_trace()
 /// A handle's version is the one at its position, and stays so.
 pub fn handles_stay()
     ensures { HandlesStay }
+{}
+
+/// A walk visits each RRset of a published version once.
+pub fn visits_once()
+    ensures { VisitsOnce }
 {}

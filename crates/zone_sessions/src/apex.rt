@@ -84,7 +84,7 @@ impl ZoneApex {
     pub fn versions(&self) -> u64
         ensures { result ≡ self.now.number }
     {
-        self.current.version()
+        self.current.version_number()
     }
 
     /// A read handle of the current version. It doesn't wait, so nothing is asked of `rt`.

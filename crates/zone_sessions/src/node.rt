@@ -8,7 +8,7 @@ ghost use Rattle.zone_model.specs.Edits.{replace_set, make_plain};
 ghost use Rattle.zone_values.specs.TypedSets.{TypedSet};
 ghost use Rattle.zone_sets.specs.TypedEntries.{typed};
 ghost use Rattle.zone_versions.specs.Causes.{refusal_of};
-ghost use Rattle.zone_sessions.specs.Nodes.{with_edit};
+ghost use Rattle.zone_sessions.specs.Nodes.{with_edit, opened_node};
 
 use crate::child::child_name;
 use crate::write::WriteZone;
@@ -19,7 +19,8 @@ use zone_errors::{NodeError, UpdateError};
 use zone_values::{SharedRr, SharedRrset, ZoneCut};
 use zone_versions::{EditError, RecordSet};
 
-/// A node of a zone in a session: a name at or below the apex. Its edits are the session's, and are pending until the session commits.
+/// A node of a zone in a session: a name at or below the apex. Its edits are the session's, and are pending until the session commits; `into_session`
+/// goes on with that session.
 #[derive(Drop)]
 pub struct WriteNode<'s, 'z> {
     session: &'s mut WriteZone<'z>,
@@ -33,16 +34,18 @@ impl<'s, 'z> Model for WriteNode<'s, 'z> {
 
     ghost Value = { Node };
 
-    ghost view = { λ n. record { session = n.session.now; name = n.name } };
+    ghost view = { λ n. record { session = n.session.now; name = n.name; lender = n.session.ghost_name } };
 
     ghost invariant = { λ n. under n.name n.session.now.pending.apex ≡ true };
 }
 
 impl<'z> WriteZone<'z> {
-    /// The node of the apex, from which all others are reached.
-    pub fn node(&mut self) -> WriteNode<'_, 'z>
-        ensures { result ≡ record { session = self.old; name = self.old.pending.apex } }
+    /// Goes on with what is pending, and gives the node of the apex, from which all others are reached. With `create_diff` the next commit is to
+    /// tell the difference.
+    pub fn open(&mut self, create_diff: bool) -> WriteNode<'_, 'z>
+        ensures { result ≡ opened_node self.old create_diff self.entry.ghost_name }
     {
+        self.want_difference(create_diff);
         let name = self.shown().apex().to_key_name();
         WriteNode {
             session: self,
@@ -52,20 +55,30 @@ impl<'z> WriteZone<'z> {
 }
 
 impl<'s, 'z> WriteNode<'s, 'z> {
-    /// The node of a label, which isn't the root's, below this one. Refused is, as `LongName`, a name of more than 255 octets (RFC 1035, 2.3.4).
-    pub fn update_child(self, label: &Label<'_>) -> Result<WriteNode<'s, 'z>, UpdateError>
+    /// Goes on to the node of a label, which isn't the root's, below this one. Refused is, as `LongName`, a name of more than 255 octets (RFC 1035,
+    /// 2.3.4); the node then stays where it is.
+    pub fn update_child(&mut self, label: &Label<'_>) -> Result<(), UpdateError>
         requires { (length label.now == 0) ≡ false }
-        ensures is { IfOk result (λ n. n ≡ record { session = self.entry.session; name = label.now ∷ self.entry.name }) }
-        ensures short { OnOk result (length (name_wire (label.now ∷ self.entry.name)) ≤ 255) }
-        ensures long { OnErr result (256 ≤ length (name_wire (label.now ∷ self.entry.name))) }
+        ensures ok { OnOk result (self.new ≡ record self.old { name = label.now ∷ self.old.name }) }
+        ensures short { OnOk result (length (name_wire (label.now ∷ self.old.name)) ≤ 255) }
+        ensures long { OnErr result (256 ≤ length (name_wire (label.now ∷ self.old.name))) }
+        ensures err { OnErr result (self.new ≡ self.old) }
     {
         match child_name(label, &self.name) {
-            Ok(name) => Ok(WriteNode {
-                session: self.session,
-                name,
-            }),
+            Ok(name) => {
+                self.name = name;
+                Ok(())
+            }
             Err(_) => Err(UpdateError::LongName),
         }
+    }
+
+    /// Ends the node and lends its session back, in which the node's edits are pending.
+    pub fn into_session(self) -> &'s mut WriteZone<'z>
+        ensures session { result.now ≡ self.entry.session }
+        ensures same_borrow { result.ghost_name ≡ self.entry.lender }
+    {
+        self.session
     }
 
     /// The name.

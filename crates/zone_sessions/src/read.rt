@@ -49,11 +49,18 @@ impl ReadZone {
         ReadZone { number, version }
     }
 
-    /// The version's number: 0 for the one that the zone opened with, and one more for each commit.
-    pub fn version(&self) -> u64
+    /// The version's number: one more for each commit than that of the version which the zone opened with, which is 0 unless another was given.
+    pub fn version_number(&self) -> u64
         ensures { result ≡ self.now.number }
     {
         self.number
+    }
+
+    /// The version's number, as `version_number` gives it, by the name that callers of the crate `domain` know. `contents` lends the version itself.
+    pub fn version(&self) -> u64
+        ensures { result ≡ self.now.number }
+    {
+        self.version_number()
     }
 
     /// What may be published: every set has data, all of them different; below the apex an alias is its node's only CNAME; and where a node

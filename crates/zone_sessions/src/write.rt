@@ -58,11 +58,11 @@ impl<'z> WriteZone<'z> {
         }
     }
 
-    /// Goes on with what is pending. With `create_diff` the next commit is to tell the difference.
-    pub fn open(&mut self, create_diff: bool)
-        ensures { self.new ≡ opened_session self.old create_diff }
+    /// With `wanted` the next commit is to tell the difference, as `open` says it with a node.
+    pub fn want_difference(&mut self, wanted: bool)
+        ensures { self.new ≡ opened_session self.old wanted }
     {
-        self.compares = self.compares || create_diff;
+        self.compares = self.compares || wanted;
     }
 
     /// What is pending, lent.
@@ -190,7 +190,7 @@ impl<'z> WriteZone<'z> {
         ensures exhausted { (result ≡ Err CommitError.VersionsExhausted) ↔ (self.old.current.number ≡ 2 ^ 64 - 1) }
         ensures err { OnErr result (self.new ≡ self.old) }
     {
-        let number = self.zone.current().version();
+        let number = self.zone.current().version_number();
         if number == u64::MAX {
             return Err(CommitError::VersionsExhausted);
         }

@@ -116,7 +116,7 @@ impl XfrClient {
         session.rollback();
         let zone = session.handle()?;
         // For the proof: a version's number has 64 bits.
-        let _number = zone.version();
+        let _number = zone.version_number();
         let question = self.question_of(&zone);
         let id = (u64::from(self.at) % 65_536) as u16;
         let mut items = ask(self.alloc, id, &question)?;
