@@ -110,7 +110,8 @@ impl<S: ReplyStream, K: KeyRef> ReplyStream for TsigStream<S, K> {
 
     fn next_item(&mut self) -> Option<Result<CallResult, ServiceError>>
         ensures progress { OnSome result (signed_items_left S.remaining self.new < signed_items_left S.remaining self.old) }
-        ensures item { (items : List Sending) → SignedLeft S.LeftOf K.the_key self.old items → NextOf (SignedLeft S.LeftOf K.the_key self.new) items result }
+        ensures item { (items : List Sending) → SignedLeft S.LeftOf K.the_key self.old items
+            → NextOf (SignedLeft S.LeftOf K.the_key self.new) items result }
         ensures lost { KeepsSigning S.LeftOf K.the_key self.old result self.new }
     {
         match self {
@@ -128,7 +129,8 @@ impl<K: KeyRef> PostprocessingState<K> {
     /// An item with its reply signed, where that is due.
     fn sign_item(&mut self, item: CallResult) -> Result<CallResult, ServiceError>
         ensures { (s : signed.Signer) (signing : SigningOf) (prior : Option (List ℕ)) → signed.Signs K.the_key self.old s signing prior
-            → signed.StepsTo K.the_key s (signed.begun signing item.feedback) prior (signed.step_item s signing prior item) result self.new }
+            → signed.StepsTo K.the_key s (signed.begun signing item.feedback) prior (signed.step_item s signing prior item)
+            result self.new }
     {
         self.begin(item.feedback);
         let CallResult { response, feedback } = item;
@@ -178,7 +180,8 @@ impl<K: KeyRef> PostprocessingState<K> {
     /// A reply with its signature; outside a transaction no further one is signed. Without memory the next one is signed in its place.
     fn sign(&mut self, reply: AdditionalBuilder) -> Result<AdditionalBuilder, ServiceError>
         ensures { (s : signed.Signer) (signing : SigningOf) (prior : Option (List ℕ)) → signed.Signs K.the_key self.old s signing prior
-            → signed.SignsReply K.the_key s signing (signed.behind signing) prior (signed.to_sign s prior reply.octets) result self.new }
+            → signed.SignsReply K.the_key s signing (signed.behind signing) prior (signed.to_sign s prior reply.octets)
+            result self.new }
     {
         let after = self.signing.behind();
         match self.sign_or_replace(reply) {
