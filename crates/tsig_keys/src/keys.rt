@@ -11,7 +11,7 @@ use crate::digests::{Hmac, block_of};
 use crate::errors::{GenerateKeyError, NewKeyError};
 use crate::sources::KeySource;
 use dns_name::{KeyName, Labelled, ToName};
-use std::alloc::Global;
+use std::alloc::{AllocError, Global};
 use std::convert::AsRef;
 use std::fmt;
 use std::marker::Model;
@@ -72,12 +72,12 @@ impl Key {
     /// A new key of the next octets of a source, as many as a whole MAC has, and these octets. The lengths are as for `new`, and
     /// tested before the source is asked: `BadMinMacLen`, then `BadSigningLen`. `GenerationFailed` where the source failed.
     pub fn generate<S: KeySource>(
+        alloc: Global,
         algorithm: Algorithm,
         name: KeyName,
         min_mac_len: Option<usize>,
         signing_len: Option<usize>,
         source: &mut S,
-        alloc: Global,
     ) -> Result<(Key, Vec<u8>), GenerateKeyError>
         ensures len { IfOk result (λ made. length made.1.items ≡ native_len algorithm) }
         ensures octets { IfOk result (λ made. S.Gives source.old made.1.items source.new) }
@@ -137,7 +137,7 @@ impl Key {
             + self.signing_len as u16
     }
 
-    /// The same key again.
+    /// The same key again, as `clone` gives it, but without an answer for want of memory.
     pub fn duplicate(&self) -> Key
         ensures { result ≡ self.now }
     {
@@ -158,6 +158,20 @@ impl Key {
     }
 }
 
+/// The same key again; it takes no memory, so `clone` is Ok always.
+impl Clone for Key {
+    ghost use Rattle.std.specs.Prelude.{◌≡◌, ⊤};
+
+    ghost is_clone = { λ k copy. copy ≡ k };
+
+    ghost is_infallible = { λ _. ⊤ };
+
+    fn clone(&self) -> Result<Key, AllocError> {
+        Ok(self.duplicate())
+    }
+}
+
+/// The key's name.
 impl fmt::Display for Key {
     ghost output = { λ k. Some (name_text k.name) };
 

@@ -44,7 +44,7 @@ pub record ServerStands {K : Type 0} (the_key : K → TsigKey) (s : ServerSequen
   pub context : HoldsHmac s.context (the_key s.key).algorithm (the_key s.key).secret (digested_before request_mac (last_or None macs) [])
   pub first : IsTrue s.first ↔ (macs ≡ [])
 
--- what is wrong with a request's MAC, by what is digested for it: its length, or its octets (RFC 8945, 5.2.2)
+-- what is wrong with a request's MAC, by what is digested for it: its length, or its octets (RFC 8945, 5.2.4 and 5.2.2)
 abbrev pub mac_fault : TsigKey → List ℕ → Tsig → Option ℕ
 mac_fault key input t =
     if nat_lt (length t.mac) key.min_mac_len then Some badtrunc

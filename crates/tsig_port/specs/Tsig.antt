@@ -20,7 +20,8 @@ unfoldable pub use Rattle.tsig_rdata.specs.TsigData.{tsig_of}
 -- ---- how a message is signed
 
 -- Malformed: the message doesn't parse, or its TSIG isn't readable or isn't the last record (RFC 8945, 5.2: FORMERR).
--- Unsigned: it parses, and has no TSIG in its additional section. Signed: its last record is a TSIG, which begins at start.
+-- Unsigned: it parses, and has no TSIG in its additional section. Signed: its last record is a TSIG, which begins at start. A TSIG in the
+-- answer or authority section is a record like any other there, which the MAC covers where there is one.
 pub data Signature : Type 0 where
   Malformed : Signature
   Unsigned : Signature

@@ -74,7 +74,7 @@ impl<K: KeyRef> ClientSequence<K> {
     /// or its TSIG isn't the last record; `ServerUnsigned` for a first answer without TSIG, `TooManyUnsigned` for one after 99
     /// unsigned ones; `ServerBadKey` and `ServerBadSig` as the server says; `BadKey` where the TSIG is of another key; `BadTrunc`
     /// where its MAC is too short; `BadSig` where the MAC is another; `ServerBadTime` as the server says; `BadTime` where the moment
-    /// isn't within the fudge (RFC 8945, 5.3, 5.3.1 and 5.4).
+    /// isn't within the fudge. In this order: the tests are those of RFC 8945, 5.3.1 and 5.4, where truncation is the last one.
     pub fn answer(&mut self, message: &mut MessageBuf, now: Time48) -> Result<(), ValidationError>
         // It is Ok exactly where the answer passes each test.
         ensures checked { (request_mac : List ℕ) (taken : List (List ℕ)) → ClientStands K.the_key self.old request_mac taken → Answers 99 (K.the_key self.old.key) request_mac now taken message.old result message.new }
@@ -199,7 +199,8 @@ fn answer_context(
     context
 }
 
-/// The first test that a signed answer fails, where `context` has taken what is digested for it (RFC 8945, 5.4).
+/// The first test that a signed answer fails, where `context` has taken what is digested for it: the tests of RFC 8945, 5.4, in this
+/// project's order.
 fn signed_fault(
     key: &Key,
     context: Hmac,

@@ -23,7 +23,7 @@ impl<K: KeyRef> ServerError<K> {
     /// BADSIG and BADTRUNC are NOTAUTH with the request's TSIG, its MAC empty, the received id as original id, the error and no
     /// other octets, unsigned; SERVFAIL without a TSIG where `request` has none that can be read. BADTIME is NOTAUTH, signed as a
     /// first answer, with the time signed and the fudge of the request and the server's time as other octets (RFC 8945, 5.2 and
-    /// 5.3.2). `request` is the message as it was refused, `message` is started over and keeps its push limit. `ShortBuf` where
+    /// 5.3.2, but that a BADTRUNC reply would there be signed). `request` is the message as it was refused, `message` is started over and keeps its push limit. `ShortBuf` where
     /// the reply is longer than that, `Memory` without memory; `CountOverflow` never.
     pub fn build_message(
         self,

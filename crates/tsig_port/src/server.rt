@@ -53,7 +53,7 @@ impl<K: KeyRef> ServerSequence<K> {
     /// Checks a request at a moment. `Ok(None)` says that it has no TSIG, and leaves it alone. Where it is accepted, the TSIG is taken off
     /// and the id is set to the original one. A refusal leaves it alone too: FORMERR where it doesn't parse or its TSIG isn't the last record, BADKEY where
     /// the store has no key of its owner and algorithm, BADTRUNC where its MAC is too short, BADSIG where the MAC is another,
-    /// BADTIME where the moment isn't within the fudge, in this order (RFC 8945, 5.2).
+    /// BADTIME where the moment isn't within the fudge. In this order: the tests are those of RFC 8945, 5.2, where truncation is the last one.
     pub fn request<S: KeyStore<Key = K>>(
         store: &S,
         message: &mut MessageBuf,
@@ -160,7 +160,7 @@ fn key_for<S: KeyStore>(store: &S, signed: &SignedBy<'_>) -> Option<S::Key>
     store.get_key(&signed.owner.to_key_name(), algorithm)
 }
 
-/// What is wrong with a request's MAC: its length, or its octets (RFC 8945, 5.2.2).
+/// What is wrong with a request's MAC: its length, or its octets (RFC 8945, 5.2.4 and 5.2.2).
 fn mac_fault(key: &Key, received: &Message<'_>, signed: &SignedBy<'_>) -> Option<TsigRcode>
     requires header { 12 ≤ signed.now.start }
     requires within { signed.now.start ≤ length received.now }

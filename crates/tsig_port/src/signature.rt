@@ -43,7 +43,7 @@ fn last_tsig<'m>(message: &Message<'m>) -> Result<Option<ParsedRecord<'m>>, Pars
 }
 
 /// How the message is signed: by its last record, or not at all. An error where one of its counted items can't be read, where
-/// its TSIG can't be, or where another record follows the TSIG (RFC 8945, 5.2).
+/// its TSIG can't be, or where another record follows the TSIG (RFC 8945, 5.2). Its TSIG is looked for in the additional section alone.
 pub fn signature<'m>(message: &Message<'m>) -> Result<Option<SignedBy<'m>>, ParseError>
     ensures found { IfOk result (λ o. MatchOption o (signature_of message.now ≡ Unsigned) (λ s. signature_of message.now ≡ Signed s.start s.owner s.tsig)) }
     ensures places { IfOk result (λ o. IfSome o (λ s. (12 ≤ s.start) × (s.start < length message.now))) }

@@ -11,10 +11,10 @@ use Rattle.std.specs.Cmp.Lexicographic.{slice_cmp, texts_ties, bytes_decides}
 use Rattle.std.proofs.lemmas.Bool.{and_parts}
 use Rattle.std.proofs.lemmas.Nat.{from_be_bytes-to_be_bytes_2}
 use Rattle.dns_name.specs.Octets.{u16_octets}
-use Rattle.dns_name.specs.Names.{Name, name_wire, label_wire, fold, is_label, is_name}
+use Rattle.dns_name.specs.Names.{Name, name_wire, label_wire, is_label, is_name}
 use Rattle.dns_rdata.proofs.Comparing.{split_order}
-use Rattle.tsig_rdata.specs.TsigData.{Tsig}
-use Rattle.tsig_rdata.specs.CanonicalTsig.{canonical_wire, canonical_tsig_cmp, times_wire, state_wire}
+use Rattle.tsig_rdata.specs.TsigData.{Tsig, tsig_wire}
+use Rattle.tsig_rdata.specs.CanonicalTsig.{canonical_tsig_cmp, times_wire, state_wire}
 
 abbrev cmp : List ℕ → List ℕ → Ordering
 cmp a b = slice_cmp nat_cmp a b
@@ -95,21 +95,21 @@ regrouped n t m s o =
     ∙ then_assoc n (ordering_then t m) (ordering_then s o)
 
 -- the rest of the data in two parts
-two_parts : (t : Tsig) → canonical_wire t ≡ name_wire (fold t.algorithm) ++ ((times_wire t ++ t.mac) ++ (state_wire t ++ t.other))
+two_parts : (t : Tsig) → tsig_wire t ≡ name_wire t.algorithm ++ ((times_wire t ++ t.mac) ++ (state_wire t ++ t.other))
 two_parts t = simp append_assoc refl
 
-pub canonical_parts : (a b : Tsig) → IsTrue (is_name (fold a.algorithm)) → IsTrue (is_name (fold b.algorithm)) → length a.mac < 65536 → length b.mac < 65536
-    → ordering_then (ordering_then (ordering_then (ordering_then (slice_cmp nat_cmp (name_wire (fold a.algorithm)) (name_wire (fold b.algorithm)))
+pub canonical_parts : (a b : Tsig) → IsTrue (is_name a.algorithm) → IsTrue (is_name b.algorithm) → length a.mac < 65536 → length b.mac < 65536
+    → ordering_then (ordering_then (ordering_then (ordering_then (slice_cmp nat_cmp (name_wire a.algorithm) (name_wire b.algorithm))
     (slice_cmp nat_cmp (times_wire a) (times_wire b))) (slice_cmp nat_cmp a.mac b.mac)) (slice_cmp nat_cmp (state_wire a) (state_wire b))) (slice_cmp nat_cmp a.other b.other)
     ≡ canonical_tsig_cmp a b
 canonical_parts a b na nb ma mb =
-    let m = name_wire (fold a.algorithm) in
-    let n = name_wire (fold b.algorithm) in
+    let m = name_wire a.algorithm in
+    let n = name_wire b.algorithm in
     let ta = times_wire a in
     let tb = times_wire b in
     let sa = state_wire a in
     let sb = state_wire b in
-    let names : Splits m n = wires_split (fold a.algorithm) (fold b.algorithm) (and_parts _ _ na).0 (and_parts _ _ nb).0 in
+    let names : Splits m n = wires_split a.algorithm b.algorithm (and_parts _ _ na).0 (and_parts _ _ nb).0 in
     let times : Splits ta tb = long ta tb refl in
     let states : Splits sa sb = long sa sb refl in
     let macs : Splits (ta ++ a.mac) (tb ++ b.mac) = joined ta tb a.mac b.mac times (λ e. long a.mac b.mac (lengths_equal a b ma mb e)) in

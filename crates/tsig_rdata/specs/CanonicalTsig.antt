@@ -4,16 +4,12 @@ use Rattle.std.specs.Ordering.{nat_cmp}
 use Rattle.std.specs.declared.cmp.Ordering.{Ordering}
 use Rattle.std.specs.Cmp.Lexicographic.{slice_cmp}
 use Rattle.dns_name.specs.Octets.{u16_octets, u48_octets}
-use Rattle.dns_name.specs.Names.{name_wire, fold}
-use Rattle.tsig_rdata.specs.TsigData.{Tsig, tsig_rest}
+use Rattle.tsig_rdata.specs.TsigData.{Tsig, tsig_wire}
 
--- the data as they are sent, the algorithm's name written out in lower case (RFC 4034, 6.2)
-abbrev pub canonical_wire : Tsig → List ℕ
-canonical_wire t = name_wire (fold t.algorithm) ++ tsig_rest t
-
--- the order of those octets as strings (RFC 4034, 6.3)
+-- the order of the data as they are sent, as strings of octets: the algorithm's name written out in its own case, since TSIG is none of
+-- the types whose names are put in lower case (RFC 4034, 6.2 and 6.3)
 abbrev pub canonical_tsig_cmp : Tsig → Tsig → Ordering
-canonical_tsig_cmp a b = slice_cmp nat_cmp (canonical_wire a) (canonical_wire b)
+canonical_tsig_cmp a b = slice_cmp nat_cmp (tsig_wire a) (tsig_wire b)
 
 -- the time signed, the fudge and the MAC's length as they are sent (RFC 8945, 4.2)
 abbrev pub times_wire : Tsig → List ℕ

@@ -16,7 +16,8 @@ abbrev pub same_tsig : Tsig → Tsig → Bool
 same_tsig a b = same_name a.algorithm b.algorithm && a.time_signed == b.time_signed && a.fudge == b.fudge && bytes_eq a.mac b.mac
     && a.original_id == b.original_id && a.error == b.error && bytes_eq a.other b.other
 
--- field by field as they are sent: names in canonical order, numbers, octets as strings (RFC 8945, 4.2; RFC 4034, 6.1)
+-- field by field as they are sent: names in canonical order (RFC 4034, 6.1), numbers, octets as strings (RFC 8945, 4.2). This order, whose
+-- ties are equal data, is the crate's own, and not that of RFC 4034, 6.3
 abbrev pub tsig_cmp : Tsig → Tsig → Ordering
 tsig_cmp a b = fold ordering_then Equal (
     canonical_cmp a.algorithm b.algorithm ∷ nat_cmp a.time_signed b.time_signed ∷ nat_cmp a.fudge b.fudge ∷ slice_cmp nat_cmp a.mac b.mac

@@ -46,9 +46,11 @@ pub fn order()
     ensures other { tsig_cmp (tsig_with (codes "a" ∷ []) 1 2 (3 ∷ []) 4 5 (6 ∷ [])) (tsig_with (codes "a" ∷ []) 1 2 (3 ∷ []) 4 5 (7 ∷ [])) ≡ Less }
 {}
 
-/// Canonical order goes by the octets as they are sent, in which a length stands before its octets; the order of fields doesn't.
+/// Canonical order goes by the octets as they are sent, in which case counts and a length stands before its octets; the order of fields
+/// doesn't.
 pub fn canonical_order()
-    ensures upper { canonical_tsig_cmp (tsig_with (codes "a" ∷ []) 1 2 (3 ∷ []) 4 5 (6 ∷ [])) (tsig_with (codes "A" ∷ []) 1 2 (3 ∷ []) 4 5 (6 ∷ [])) ≡ Equal }
+    ensures same { canonical_tsig_cmp (tsig_with (codes "a" ∷ []) 1 2 (3 ∷ []) 4 5 (6 ∷ [])) (tsig_with (codes "a" ∷ []) 1 2 (3 ∷ []) 4 5 (6 ∷ [])) ≡ Equal }
+    ensures upper { canonical_tsig_cmp (tsig_with (codes "a" ∷ []) 1 2 (3 ∷ []) 4 5 (6 ∷ [])) (tsig_with (codes "A" ∷ []) 1 2 (3 ∷ []) 4 5 (6 ∷ [])) ≡ Greater }
     ensures longer_name { canonical_tsig_cmp (tsig_with (codes "b" ∷ []) 1 2 (3 ∷ []) 4 5 (6 ∷ [])) (tsig_with (codes "aa" ∷ []) 0 0 [] 0 0 []) ≡ Less }
     ensures name_by_field { tsig_cmp (tsig_with (codes "b" ∷ []) 1 2 (3 ∷ []) 4 5 (6 ∷ [])) (tsig_with (codes "aa" ∷ []) 0 0 [] 0 0 []) ≡ Greater }
     ensures longer_mac { canonical_tsig_cmp (tsig_with (codes "a" ∷ []) 1 2 (9 ∷ []) 4 5 (6 ∷ [])) (tsig_with (codes "a" ∷ []) 1 2 (3 ∷ 0 ∷ []) 0 0 []) ≡ Less }

@@ -6,10 +6,12 @@ ghost use Rattle.tsig_rdata.specs.CanonicalTsig.{canonical_tsig_cmp};
 ghost use Rattle.tsig_rdata.specs.TsigData.{Tsig, IsTsig, tsig_at, tsig_wire};
 ghost use Rattle.tsig_rdata.specs.TsigOrder.{same_tsig};
 
-/// Canonical order is total, and ties exactly where data that have a wire form are equal.
-pub fn canonical_order_ties_where_equal()
+/// Canonical order is total. Data that have a wire form tie in it exactly where they are the same, the case of the algorithm's name
+/// too, and are then equal.
+pub fn canonical_order_ties_where_same()
     ensures total { IsTotalOrder canonical_tsig_cmp }
-    ensures ties { (a b : Tsig) → IsTsig a → IsTsig b → (canonical_tsig_cmp a b ≡ Equal) ↔ IsTrue (same_tsig a b) }
+    ensures ties { (a b : Tsig) → IsTsig a → IsTsig b → (canonical_tsig_cmp a b ≡ Equal) ↔ (a ≡ b) }
+    ensures equal { (a b : Tsig) → IsTsig a → IsTsig b → canonical_tsig_cmp a b ≡ Equal → IsTrue (same_tsig a b) }
 {}
 
 /// TSIG data that were composed are read again, wherever they stand.

@@ -1,10 +1,11 @@
 // Moments as a TSIG tells them.
-ghost use Rattle.std.specs.Prelude.{◌≡◌, ◌<◌, ◌^◌, ◌==◌, ◌+◌, ◌++◌, ℕ, List, length, Some, None, Ok, IfOk, OnErr, if◌then◌else◌, nat_le, nat_lt};
+ghost use Rattle.std.specs.Prelude.{◌≡◌, ◌<◌, ◌^◌, ◌==◌, ◌+◌, ◌++◌, ℕ, List, length, Some, None, Ok, IfOk, OnOk, OnErr, if◌then◌else◌, nat_le, nat_lt};
 ghost use Rattle.std.specs.Fmt.{decimal};
 ghost use Rattle.std.specs.Int.{abs_diff};
 ghost use Rattle.dns_name.specs.Octets.{u48_at, u48_number, u48_octets};
 
 use dns_name::{ParseError, parse_octets};
+use std::alloc::AllocError;
 use std::fmt;
 use std::marker::Model;
 
@@ -48,6 +49,14 @@ impl Time48 {
     {
         let [_, _, a, b, c, d, e, f] = self.seconds.to_be_bytes();
         [a, b, c, d, e, f]
+    }
+
+    /// These octets at the end of `out` (RFC 8945, 4.2). Without memory `out` is as before.
+    pub fn compose(self, out: &mut Vec<u8>) -> Result<(), AllocError>
+        ensures ok { OnOk result (out.new.items ≡ out.old.items ++ u48_octets self) }
+        ensures err { OnErr result (out.new.items ≡ out.old.items) }
+    {
+        out.extend_from_slice(&self.into_octets())
     }
 
     /// The moment that six octets tell, the most significant first, and None where there aren't six (RFC 8945, 4.2).

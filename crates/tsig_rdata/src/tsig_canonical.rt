@@ -28,7 +28,8 @@ impl<O: AsSlice<u8> + Drop, N: Labelled + Drop> Tsig<O, N> {
         [a, b, c, d, e, f]
     }
 
-    /// Canonical order: the data as they are sent, the algorithm's name in lower case, as strings of octets (RFC 4034, 6.2 and 6.3).
+    /// Canonical order: the data as they are sent, as strings of octets. Case counts in the algorithm's name, since TSIG is none of the types
+    /// whose names are put in lower case (RFC 4034, 6.2 and 6.3).
     #[tactic(auto, using(crate::proofs::CanonicalOrder::canonical_parts))]
     pub fn canonical_cmp<P: AsSlice<u8> + Drop, M: Labelled + Drop>(
         &self,
@@ -36,8 +37,8 @@ impl<O: AsSlice<u8> + Drop, N: Labelled + Drop> Tsig<O, N> {
     ) -> Ordering
         ensures { result ≡ canonical_tsig_cmp self.now other.now }
     {
-        let name = self.algorithm().to_canonical();
-        let other_name = other.algorithm().to_canonical();
+        let name = self.algorithm().to_key_name();
+        let other_name = other.algorithm().to_key_name();
         name.as_slice()
             .cmp(other_name.as_slice())
             .then(self.times().cmp(&other.times()))

@@ -23,7 +23,7 @@ impl<O: AsSlice<u8> + Drop, N: ToName + Drop> Tsig<O, N> {
     }
 
     /// The order of the fields as they are sent, one after another: names in canonical order (RFC 4034, 6.1), numbers, octets as
-    /// strings.
+    /// strings. The order of RFC 4034, 6.3 is `canonical_cmp`.
     pub fn data_cmp<P: AsSlice<u8> + Drop, M: Labelled + Drop>(
         &self,
         other: &Tsig<P, M>,

@@ -46,7 +46,7 @@ fn made<R: Abort, S: KeySource>(
     wire: &[u8],
     source: &mut S,
 ) -> (Key, Vec<u8>) {
-    let made = Key::generate(algorithm, name(rt, wire), None, None, source, alloc);
+    let made = Key::generate(alloc, algorithm, name(rt, wire), None, None, source);
     made.expect(rt, "a key")
 }
 
@@ -80,7 +80,7 @@ fn not_made<R: Abort>(
     source: &mut MemoryKeySource,
 ) -> Option<GenerateKeyError> {
     let root = name(rt, b"\0");
-    let made = Key::generate(algorithm, root, min_mac_len, signing_len, source, alloc);
+    let made = Key::generate(alloc, algorithm, root, min_mac_len, signing_len, source);
     made.err()
 }
 
@@ -240,7 +240,7 @@ fn a_key_under_another_name(rt: HostRuntime) {
 #[test]
 fn texts_of_keys(rt: HostRuntime) {
     let alloc = rt.alloc();
-    let key = key(&rt);
+    let key = key(&rt).clone().expect(&rt, "no memory");
     says(&rt, alloc, &key, "key");
     let text = format!(in alloc; "{key:?}").expect(&rt, "memory");
     is(

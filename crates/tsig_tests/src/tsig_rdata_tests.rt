@@ -63,6 +63,19 @@ fn case_of_the_algorithm(rt: HostRuntime) {
     let hash = hash_of(&data);
     let other = hash_of(&upper);
     is(&rt, hash, other);
+    let canonical = data.canonical_cmp(&upper);
+    is(&rt, canonical, Ordering::Greater);
+    let itself = data.canonical_cmp(&data);
+    is(&rt, itself, Ordering::Equal);
+}
+
+#[test]
+fn octets_of_a_moment(rt: HostRuntime) {
+    let mut octets = Vec::new(rt.alloc());
+    let composed = Time48::from_u64(0x0102_0304_0506).compose(&mut octets);
+    composed.expect(&rt, "memory");
+    is(&rt, octets.as_slice(), [1, 2, 3, 4, 5, 6].as_slice());
+    drop(octets);
 }
 
 /// The second, once it is asserted that the first is lower, with another hash.

@@ -76,7 +76,11 @@ puts the_key state next message new (Err CountOverflow) adds goes kept s signing
     let m = message.octets in
     let P : ServerSequence _ → Type 0 = λ q. Signs the_key (record state { sequence = q }) s signing prior in
     (has_no_count (fits 65535 (signed_reply s prior m)) (header_number 10 m) added.1, subst P (sym kept) signs)
-puts the_key state next message new (Err Memory) adds goes kept s signing prior signs limit = tt
+puts the_key state next message new (Err Memory) adds goes kept s signing prior signs limit =
+    let added = rw (signs.key, signs.last, signs.at, limit) at (adds s.request_mac signs.macs signs.stands) in
+    let m = message.octets in
+    let P : ServerSequence _ → Type 0 = λ q. Signs the_key (record state { sequence = q }) s signing prior in
+    (has_both (fits 65535 (signed_reply s prior m)) (header_number 10 m) added.0 added.1, subst P (sym kept) signs)
 
 -- ---- a reply, or the truncated one in its place
 
@@ -97,16 +101,16 @@ built_none octets false e is = e
 
 -- the reply has its TSIG
 pub signed_reply_is : {K : Type 0} (the_key : K → TsigKey) (s : Signer) (signing : Signing) (prior : Option (List ℕ)) (message : List ℕ) (u : Unit {0}) (new : Building) (state : PostprocessingState K)
-    → PutsTsig the_key s signing prior message (Ok u) new state → SignsReply the_key s signing prior (to_sign s prior message) (Ok new) state
+    → PutsTsig the_key s signing prior message (Ok u) new state → SignsReply the_key s signing signing prior (to_sign s prior message) (Ok new) state
 signed_reply_is the_key s signing prior message u new state put =
-    let P : Option (List ℕ) → Type 0 = λ m. SignsReply the_key s signing prior m (Ok new) state in
+    let P : Option (List ℕ) → Type 0 = λ m. SignsReply the_key s signing signing prior m (Ok new) state in
     subst P (sym (signed_when s prior message put.0)) (put.1, put.2)
 
 -- the truncated one stands in its place
 pub replaced : {K : Type 0} (the_key : K → TsigKey) (s : Signer) (signing : Signing) (prior : Option (List ℕ)) (message : List ℕ) (result : Result Building ServiceError) (state : PostprocessingState K)
-    → can_be_signed s prior message ≡ false → SignsReply the_key s signing prior (short_to_sign s prior) result state → SignsReply the_key s signing prior (to_sign s prior message) result state
+    → can_be_signed s prior message ≡ false → SignsReply the_key s signing signing prior (short_to_sign s prior) result state → SignsReply the_key s signing signing prior (to_sign s prior message) result state
 replaced the_key s signing prior message result state none short =
-    let P : Option (List ℕ) → Type 0 = λ m. SignsReply the_key s signing prior m result state in
+    let P : Option (List ℕ) → Type 0 = λ m. SignsReply the_key s signing signing prior m result state in
     subst P (sym (short_when s prior message none)) short
 
 short_signed : (s : Signer) (prior : Option (List ℕ)) → fits 65535 (short_reply s) ≡ true → can_be_signed s prior (short_reply s) ≡ true → short_to_sign s prior ≡ Some (short_reply s)
@@ -127,14 +131,14 @@ short_limit received short made =
 -- the truncated reply is built, and has its TSIG or not
 pub short_is : {K : Type 0} (the_key : K → TsigKey) (s : Signer) (signing : Signing) (prior : Option (List ℕ)) (received : List ℕ) (short new : Building) (u : Unit {0}) (state : PostprocessingState K)
     → truncated_reply received ≡ Some short → received ≡ s.received → PutsTsig the_key s signing prior short.octets (Ok u) new state
-    → SignsReply the_key s signing prior (short_to_sign s prior) (Ok new) state
+    → SignsReply the_key s signing signing prior (short_to_sign s prior) (Ok new) state
 short_is the_key s signing prior received short new u state made same put =
     let octets = message_wire (truncated_answer received) in
     let is = built_is octets short (fits 65535 octets) refl made in
     let whole : short.octets ≡ short_reply s = ap (λ (b : Building). b.octets) is.1 ∙ ap (λ r. message_wire (truncated_answer r)) same in
     let fit : fits 65535 (short_reply s) ≡ true = ap (λ r. fits 65535 (message_wire (truncated_answer r))) (sym same) ∙ is.0 in
     let now = rw whole at put in
-    let P : Option (List ℕ) → Type 0 = λ m. SignsReply the_key s signing prior m (Ok new) state in
+    let P : Option (List ℕ) → Type 0 = λ m. SignsReply the_key s signing signing prior m (Ok new) state in
     subst P (sym (short_signed s prior fit now.0)) (now.1, now.2)
 
 short_out : (s : Signer) (prior : Option (List ℕ)) (received : List ℕ) (short : Building) → truncated_reply received ≡ Some short → received ≡ s.received
@@ -147,35 +151,44 @@ short_out s prior received short made same none =
 
 pub short_refused : {K : Type 0} (the_key : K → TsigKey) (s : Signer) (signing : Signing) (prior : Option (List ℕ)) (received : List ℕ) (short new : Building) (e : PushError) (state : PostprocessingState K)
     → truncated_reply received ≡ Some short → received ≡ s.received → PutsTsig the_key s signing prior short.octets (Err e) new state
-    → SignsReply the_key s signing prior (short_to_sign s prior) (Err (service_error_of e)) state
+    → SignsReply the_key s signing signing prior (short_to_sign s prior) (Err (service_error_of e)) state
 short_refused the_key s signing prior received short new ShortBuf state made same put = (short_out s prior received short made same put.0, put.1)
 short_refused the_key s signing prior received short new CountOverflow state made same put = (short_out s prior received short made same put.0, put.1)
-short_refused the_key s signing prior received short new Memory state made same put = tt
+short_refused the_key s signing prior received short new Memory state made same put = put.1
 
 -- ---- the state
 
 -- after a reply
-pub now_behind : {K : Type 0} (the_key : K → TsigKey) (state : PostprocessingState K) (which : Signing) (s : Signer) (signing : Signing) (prior : Option (List ℕ)) → which ≡ behind state.signing
+now_behind : {K : Type 0} (the_key : K → TsigKey) (state : PostprocessingState K) (which : Signing) (s : Signer) (signing : Signing) (prior : Option (List ℕ)) → which ≡ behind signing
     → Signs the_key state s signing prior → Signs the_key (record state { signing = which }) s (behind signing) prior
 now_behind the_key state which s signing prior is signs =
-    record { macs = signs.macs; stands = signs.stands; last = signs.last; key = signs.key; received = signs.received; at = signs.at; which = is ∙ ap behind signs.which }
+    record { macs = signs.macs; stands = signs.stands; last = signs.last; key = signs.key; received = signs.received; at = signs.at; which = is }
+
+pub signed_behind : {K : Type 0} (the_key : K → TsigKey) (state : PostprocessingState K) (which : Signing) (s : Signer) (signing : Signing) (prior message : Option (List ℕ)) (new : Building) → which ≡ behind signing
+    → SignsReply the_key s signing signing prior message (Ok new) state → SignsReply the_key s signing (behind signing) prior message (Ok new) (record state { signing = which })
+signed_behind the_key state which s signing prior None new is made = made
+signed_behind the_key state which s signing prior (Some message) new is made = (made.0, now_behind the_key state which s signing _ is made.1)
+
+pub failed_behind : {K : Type 0} (the_key : K → TsigKey) (state : PostprocessingState K) (which : Signing) (s : Signer) (signing : Signing) (prior message : Option (List ℕ)) → which ≡ behind signing
+    → SignsReply the_key s signing signing prior message (Err InternalError) state → SignsReply the_key s signing (behind signing) prior message (Err InternalError) (record state { signing = which })
+failed_behind the_key state which s signing prior message is made = (made.0, now_behind the_key state which s signing prior is made.1)
 
 -- ---- a step
 
 signed_item_is : {K : Type 0} (the_key : K → TsigKey) (s : Signer) (signing : Signing) (prior : Option (List ℕ)) (feedback : Option ServiceFeedback) (new : Building) (state : PostprocessingState K) (message : Option (List ℕ))
-    → SignedAs the_key s (behind signing) prior new state message → StepsTo the_key s (signed_step s signing prior feedback message) (Ok (record { response = Some new; feedback = feedback })) state
+    → SignedAs the_key s (behind signing) prior new state message → StepsTo the_key s signing prior (signed_step s signing prior feedback message) (Ok (record { response = Some new; feedback = feedback })) state
 signed_item_is the_key s signing prior feedback new state None made = absurd made
 signed_item_is the_key s signing prior feedback new state (Some message) made = (ap (λ (b : Building). Given (record { response = Some b; feedback = feedback })) (sym made.0), made.1)
 
 unsigned_item_is : {K : Type 0} (the_key : K → TsigKey) (s : Signer) (signing : Signing) (prior : Option (List ℕ)) (feedback : Option ServiceFeedback) (state : PostprocessingState K) (message : Option (List ℕ))
-    → message ≡ None → Signs the_key state s (behind signing) prior → StepsTo the_key s (signed_step s signing prior feedback message) (Err InternalError) state
+    → message ≡ None → Signs the_key state s (behind signing) prior → StepsTo the_key s signing prior (signed_step s signing prior feedback message) (Err InternalError) state
 unsigned_item_is the_key s signing prior feedback state None e signs = (refl, signs)
 unsigned_item_is the_key s signing prior feedback state (Some message) e signs = cc
 
 -- an item with a reply that is signed where that is due
 pub step_with : {K : Type 0} (the_key : K → TsigKey) (s : Signer) (signing : Signing) (prior : Option (List ℕ)) (feedback : Option ServiceFeedback) (reply new : Building) (state : PostprocessingState K) (due : Bool)
     → SignsWhere due the_key s signing prior reply (Ok new) state
-    → StepsTo the_key s (cond due (signed_step s signing prior feedback (to_sign s prior reply.octets)) (as_it_is signing prior (record { response = Some reply; feedback = feedback }))) (Ok (record { response = Some new; feedback = feedback })) state
+    → StepsTo the_key s signing prior (cond due (signed_step s signing prior feedback (to_sign s prior reply.octets)) (as_it_is signing prior (record { response = Some reply; feedback = feedback }))) (Ok (record { response = Some new; feedback = feedback })) state
 step_with the_key s signing prior feedback reply new state true where_due = signed_item_is the_key s signing prior feedback new state (to_sign s prior reply.octets) where_due
 step_with the_key s signing prior feedback reply new state false where_due =
     let same : new ≡ reply = cc in
@@ -183,33 +196,34 @@ step_with the_key s signing prior feedback reply new state false where_due =
 
 pub step_failed : {K : Type 0} (the_key : K → TsigKey) (s : Signer) (signing : Signing) (prior : Option (List ℕ)) (feedback : Option ServiceFeedback) (reply : Building) (e : ServiceError) (state : PostprocessingState K) (due : Bool)
     → SignsWhere due the_key s signing prior reply (Err e) state
-    → StepsTo the_key s (cond due (signed_step s signing prior feedback (to_sign s prior reply.octets)) (as_it_is signing prior (record { response = Some reply; feedback = feedback }))) (Err e) state
+    → StepsTo the_key s signing prior (cond due (signed_step s signing prior feedback (to_sign s prior reply.octets)) (as_it_is signing prior (record { response = Some reply; feedback = feedback }))) (Err e) state
 step_failed the_key s signing prior feedback reply InternalError state true where_due = unsigned_item_is the_key s signing prior feedback state (to_sign s prior reply.octets) where_due.0 where_due.1
 step_failed the_key s signing prior feedback reply InternalError state false where_due = cc
-step_failed the_key s signing prior feedback reply NoMemory state due where_due = tt
+step_failed the_key s signing prior feedback reply NoMemory state true where_due = where_due
+step_failed the_key s signing prior feedback reply NoMemory state false where_due = cc
 
 -- an item without a reply stays as it is
 pub step_none : {K : Type 0} (the_key : K → TsigKey) (s : Signer) (signing : Signing) (prior : Option (List ℕ)) (item : CallResult) (state : PostprocessingState K) → item.response ≡ None
-    → Signs the_key state s (begun signing item.feedback) prior → StepsTo the_key s (step_item s signing prior item) (Ok (record { response = None; feedback = item.feedback })) state
+    → Signs the_key state s (begun signing item.feedback) prior → StepsTo the_key s (begun signing item.feedback) prior (step_item s signing prior item) (Ok (record { response = None; feedback = item.feedback })) state
 step_none the_key s signing prior item state none signs =
-    let P : Option Building → Type 0 = λ r. StepsTo the_key s (step_reply s (begun signing item.feedback) prior item.feedback r) (Ok (record { response = None; feedback = item.feedback })) state in
+    let P : Option Building → Type 0 = λ r. StepsTo the_key s (begun signing item.feedback) prior (step_reply s (begun signing item.feedback) prior item.feedback r) (Ok (record { response = None; feedback = item.feedback })) state in
     subst P (sym none) (refl, signs)
 
 -- one with a reply has it signed where that is due
 pub step_some : {K : Type 0} (the_key : K → TsigKey) (s : Signer) (signing : Signing) (prior : Option (List ℕ)) (item : CallResult) (reply new : Building) (state : PostprocessingState K) → item.response ≡ Some reply
     → SignsWhere (is_due (begun signing item.feedback)) the_key s (begun signing item.feedback) prior reply (Ok new) state
-    → StepsTo the_key s (step_item s signing prior item) (Ok (record { response = Some new; feedback = item.feedback })) state
+    → StepsTo the_key s (begun signing item.feedback) prior (step_item s signing prior item) (Ok (record { response = Some new; feedback = item.feedback })) state
 step_some the_key s signing prior item reply new state some where_due =
     let now = begun signing item.feedback in
-    let P : Option Building → Type 0 = λ r. StepsTo the_key s (step_reply s now prior item.feedback r) (Ok (record { response = Some new; feedback = item.feedback })) state in
+    let P : Option Building → Type 0 = λ r. StepsTo the_key s now prior (step_reply s now prior item.feedback r) (Ok (record { response = Some new; feedback = item.feedback })) state in
     subst P (sym some) (step_with the_key s now prior item.feedback reply new state (is_due now) where_due)
 
 pub step_error : {K : Type 0} (the_key : K → TsigKey) (s : Signer) (signing : Signing) (prior : Option (List ℕ)) (item : CallResult) (reply : Building) (e : ServiceError) (state : PostprocessingState K) → item.response ≡ Some reply
     → SignsWhere (is_due (begun signing item.feedback)) the_key s (begun signing item.feedback) prior reply (Err e) state
-    → StepsTo the_key s (step_item s signing prior item) (Err e) state
+    → StepsTo the_key s (begun signing item.feedback) prior (step_item s signing prior item) (Err e) state
 step_error the_key s signing prior item reply e state some where_due =
     let now = begun signing item.feedback in
-    let P : Option Building → Type 0 = λ r. StepsTo the_key s (step_reply s now prior item.feedback r) (Err e) state in
+    let P : Option Building → Type 0 = λ r. StepsTo the_key s now prior (step_reply s now prior item.feedback r) (Err e) state in
     subst P (sym some) (step_failed the_key s now prior item.feedback reply e state (is_due now) where_due)
 
 -- whether a reply is signed, as it was tested

@@ -38,7 +38,8 @@ pub record SendsSigned {M K : Type 0} (the_key : K → TsigKey) (keys : Keys) (N
   pub next : Next (accepted_request r key known) given
   pub signed : sent ≡ option_map (signed_items (signer_for r key) First None) given
 
--- the one reply to a request that was refused for this, and None where even the request's questions and one TSIG pass 65,535 octets (RFC 8945, 5.2)
+-- the one reply to a request that was refused for this (RFC 8945, 5.2; BADTRUNC unsigned), and None where even the request's questions and
+-- one TSIG pass 65,535 octets
 abbrev pub refusal_sends : {M : Type 0} → Request M → Verdict → Option (List Sending)
 refusal_sends r found = option_map (λ reply. all_given (one_reply reply)) (built (reply_to found r.message r.message r.at))
 

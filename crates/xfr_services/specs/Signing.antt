@@ -114,31 +114,32 @@ pub record Signs {K : Type 0} (the_key : K → TsigKey) (state : PostprocessingS
   pub which : state.signing ≡ signing
 
 -- One case for each answer of a call that puts the next TSIG on a message: it is there, and the state stands after it; or there is
--- no room, and the state is as before.
+-- no room, or no memory, and the state is as before.
 abbrev pub PutsTsig : {K : Type 0} → (K → TsigKey) → Signer → Signing → Option (List ℕ) → List ℕ → Result (Unit {0}) PushError → Building → PostprocessingState K → Type 0
 PutsTsig the_key s signing prior message (Ok u) new state = (can_be_signed s prior message ≡ true) × (new ≡ record { octets = signed_reply s prior message; limit = 65535 }) × Signs the_key state s signing (Some (reply_tsig s prior message).mac)
 PutsTsig the_key s signing prior message (Err ShortBuf) new state = (can_be_signed s prior message ≡ false) × Signs the_key state s signing prior
 PutsTsig the_key s signing prior message (Err CountOverflow) new state = (can_be_signed s prior message ≡ false) × Signs the_key state s signing prior
-PutsTsig the_key s signing prior message (Err NoMemory) new state = Unit {0}
+PutsTsig the_key s signing prior message (Err NoMemory) new state = (can_be_signed s prior message ≡ true) × Signs the_key state s signing prior
 
 -- a reply is this message with its TSIG
 abbrev pub SignedAs : {K : Type 0} → (K → TsigKey) → Signer → Signing → Option (List ℕ) → Building → PostprocessingState K → Option (List ℕ) → Type 0
 SignedAs the_key s signing prior reply state None = ⊥
 SignedAs the_key s signing prior reply state (Some message) = (reply ≡ record { octets = signed_reply s prior message; limit = 65535 }) × Signs the_key state s signing (Some (reply_tsig s prior message).mac)
 
--- One case for each answer of a call that signs this message, or none: the message with its TSIG, or InternalError.
-abbrev pub SignsReply : {K : Type 0} → (K → TsigKey) → Signer → Signing → Option (List ℕ) → Option (List ℕ) → Result Building ServiceError → PostprocessingState K → Type 0
-SignsReply the_key s signing prior message (Ok reply) state = SignedAs the_key s signing prior reply state message
-SignsReply the_key s signing prior message (Err InternalError) state = (message ≡ None) × Signs the_key state s signing prior
-SignsReply the_key s signing prior message (Err Memory) state = Unit {0}
+-- One case for each answer of a call that signs this message, or none: the message with its TSIG, or InternalError, after both of which
+-- these are signed; without memory the state is as before.
+abbrev pub SignsReply : {K : Type 0} → (K → TsigKey) → Signer → Signing → Signing → Option (List ℕ) → Option (List ℕ) → Result Building ServiceError → PostprocessingState K → Type 0
+SignsReply the_key s signing after prior message (Ok reply) state = SignedAs the_key s after prior reply state message
+SignsReply the_key s signing after prior message (Err InternalError) state = (message ≡ None) × Signs the_key state s after prior
+SignsReply the_key s signing after prior message (Err Memory) state = Signs the_key state s signing prior
 
 -- the same of a reply that is signed where that is due
 abbrev pub SignsWhere : {K : Type 0} → Bool → (K → TsigKey) → Signer → Signing → Option (List ℕ) → Building → Result Building ServiceError → PostprocessingState K → Type 0
-SignsWhere true the_key s signing prior reply result state = SignsReply the_key s (behind signing) prior (to_sign s prior reply.octets) result state
+SignsWhere true the_key s signing prior reply result state = SignsReply the_key s signing (behind signing) prior (to_sign s prior reply.octets) result state
 SignsWhere false the_key s signing prior reply result state = (result ≡ Ok reply) × Signs the_key state s signing prior
 
--- the same of a step with an item
-abbrev pub StepsTo : {K : Type 0} → (K → TsigKey) → Signer → Step → Result CallResult ServiceError → PostprocessingState K → Type 0
-StepsTo the_key s step (Ok item) state = (step.sending ≡ Given item) × Signs the_key state s step.signing step.prior
-StepsTo the_key s step (Err InternalError) state = (step.sending ≡ Failed) × Signs the_key state s step.signing step.prior
-StepsTo the_key s step (Err Memory) state = Unit {0}
+-- the same of a step with an item, where these were to be signed, after this MAC
+abbrev pub StepsTo : {K : Type 0} → (K → TsigKey) → Signer → Signing → Option (List ℕ) → Step → Result CallResult ServiceError → PostprocessingState K → Type 0
+StepsTo the_key s signing prior step (Ok item) state = (step.sending ≡ Given item) × Signs the_key state s step.signing step.prior
+StepsTo the_key s signing prior step (Err InternalError) state = (step.sending ≡ Failed) × Signs the_key state s step.signing step.prior
+StepsTo the_key s signing prior step (Err Memory) state = Signs the_key state s signing prior

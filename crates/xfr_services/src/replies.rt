@@ -32,7 +32,7 @@ pub fn refuse(alloc: Global, request: &MessageBuf, rcode: Rcode) -> Result<Repli
     Ok(Replies::single(alloc, reply)?)
 }
 
-/// The reply to a request that was refused for this (RFC 8945, 5.2).
+/// The reply to a request that was refused for this (RFC 8945, 5.2; BADTRUNC unsigned).
 pub fn refusal_reply<K: KeyRef>(
     alloc: Global,
     refusal: ServerError<K>,

@@ -18,8 +18,8 @@ use std::marker::Model;
 use tsig_port::{KeyRef, KeyStore, ServerSequence, Time48};
 
 /// Checks the signatures of requests, hands them on with their key, and signs the replies with it. A refused request gets the one
-/// reply that tells its TSIG error (RFC 8945, 5.2), and `InternalError` where that would pass 65,535 octets. Contracts see the next
-/// service and the keys.
+/// reply that tells its TSIG error (RFC 8945, 5.2; BADTRUNC unsigned), and `InternalError` where that would pass 65,535 octets.
+/// Contracts see the next service and the keys.
 #[derive(Drop)]
 pub struct TsigMiddlewareSvc<S: Drop, KS: Drop> {
     next: S,
@@ -100,11 +100,20 @@ pub enum TsigStream<S: ReplyStream, K: KeyRef> {
 }
 
 impl<S: ReplyStream, K: KeyRef> ReplyStream for TsigStream<S, K> {
+    ghost use Rattle.std.specs.Prelude.{◌<◌, OnSome};
+    ghost use Rattle.xfr_services.specs.Items.{Sending, NextOf};
+    ghost use Rattle.xfr_services.specs.SignedStreams.{KeepsSigning};
+
     ghost remaining = { signed_items_left S.remaining };
 
     ghost LeftOf = { SignedLeft S.LeftOf K.the_key };
 
-    fn next_item(&mut self) -> Option<Result<CallResult, ServiceError>> {
+    fn next_item(&mut self) -> Option<Result<CallResult, ServiceError>>
+        ensures progress { OnSome result (signed_items_left S.remaining self.new < signed_items_left S.remaining self.old) }
+        ensures item { (items : List Sending) → SignedLeft S.LeftOf K.the_key self.old items
+            → NextOf (SignedLeft S.LeftOf K.the_key self.new) items result }
+        ensures lost { KeepsSigning S.LeftOf K.the_key self.old result self.new }
+    {
         match self {
             TsigStream::Refused(reply) => Some(Ok(CallResult::new(reply.take()?))),
             TsigStream::Unsigned(replies) => replies.next_item(),
@@ -120,7 +129,8 @@ impl<K: KeyRef> PostprocessingState<K> {
     /// An item with its reply signed, where that is due.
     fn sign_item(&mut self, item: CallResult) -> Result<CallResult, ServiceError>
         ensures { (s : signed.Signer) (signing : SigningOf) (prior : Option (List ℕ)) → signed.Signs K.the_key self.old s signing prior
-            → signed.StepsTo K.the_key s (signed.step_item s signing prior item) result self.new }
+            → signed.StepsTo K.the_key s (signed.begun signing item.feedback) prior (signed.step_item s signing prior item)
+            result self.new }
     {
         self.begin(item.feedback);
         let CallResult { response, feedback } = item;
@@ -167,13 +177,24 @@ impl<K: KeyRef> PostprocessingState<K> {
         }
     }
 
-    /// A reply with its signature; outside a transaction no further one is signed.
+    /// A reply with its signature; outside a transaction no further one is signed. Without memory the next one is signed in its place.
     fn sign(&mut self, reply: AdditionalBuilder) -> Result<AdditionalBuilder, ServiceError>
         ensures { (s : signed.Signer) (signing : SigningOf) (prior : Option (List ℕ)) → signed.Signs K.the_key self.old s signing prior
-            → signed.SignsReply K.the_key s (signed.behind signing) prior (signed.to_sign s prior reply.octets) result self.new }
+            → signed.SignsReply K.the_key s signing (signed.behind signing) prior (signed.to_sign s prior reply.octets)
+            result self.new }
     {
-        self.signing = self.signing.behind();
-        self.sign_or_replace(reply)
+        let after = self.signing.behind();
+        match self.sign_or_replace(reply) {
+            Ok(reply) => {
+                self.signing = after;
+                Ok(reply)
+            }
+            Err(ServiceError::InternalError) => {
+                self.signing = after;
+                Err(ServiceError::InternalError)
+            }
+            Err(ServiceError::Memory) => Err(ServiceError::Memory),
+        }
     }
 
     /// A reply with its signature; where there is no room for that, a reply that says so (RFC 8945, 5.3).
@@ -182,7 +203,7 @@ impl<K: KeyRef> PostprocessingState<K> {
         reply: AdditionalBuilder,
     ) -> Result<AdditionalBuilder, ServiceError>
         ensures { (s : signed.Signer) (signing : SigningOf) (prior : Option (List ℕ)) → signed.Signs K.the_key self.old s signing prior
-            → signed.SignsReply K.the_key s signing prior (signed.to_sign s prior reply.octets) result self.new }
+            → signed.SignsReply K.the_key s signing signing prior (signed.to_sign s prior reply.octets) result self.new }
     {
         let mut reply = reply;
         reply.clear_push_limit();
@@ -197,7 +218,7 @@ impl<K: KeyRef> PostprocessingState<K> {
     /// The truncated reply with its signature.
     fn sign_short(&mut self) -> Result<AdditionalBuilder, ServiceError>
         ensures { (s : signed.Signer) (signing : SigningOf) (prior : Option (List ℕ)) → signed.Signs K.the_key self.old s signing prior
-            → signed.SignsReply K.the_key s signing prior (signed.short_to_sign s prior) result self.new }
+            → signed.SignsReply K.the_key s signing signing prior (signed.short_to_sign s prior) result self.new }
     {
         let mut short = replies::truncated_reply(self.alloc, &self.received)?;
         match self.put_tsig(&mut short) {
