@@ -1,9 +1,10 @@
 -- Records added to a section of a message that is being built.
-use Rattle.std.proofs.Common.{◌≡◌, ◌≢◌, ℕ, ◌+◌, ◌*◌, ◌<◌, ◌≤◌, ◌^◌, true, false, List, [], ◌∷◌, ◌++◌, length, map, refl, sym, ap, ◌∙◌, subst, arith, length-append}
-use Rattle.std.specs.Prelude.{flat_map, Option, Some, None, Result, Ok, Err}
+use Rattle.std.proofs.Common.{◌≡◌, ℕ, ◌+◌, ◌*◌, ◌<◌, ◌≤◌, ◌^◌, Bool, true, false, List, [], ◌∷◌, ◌++◌, All, length, map, refl, sym, ap, ◌∙◌, subst, arith, length-append}
+use Rattle.std.specs.Prelude.{flat_map, Option, Some, None, Result, Ok, Err, if◌then◌else◌}
 use Rattle.std.specs.Option.{option_map_or}
 use Rattle.std.proofs.lemmas.Bool.Decides.{nat_tests}
 use Rattle.std.proofs.lemmas.List.{append_assoc, append-nil}
+use Rattle.std.proofs.lemmas.List.Elements.{All-head, All-tail}
 use Rattle.std.proofs.lemmas.List.Concat.{flat_map-append}
 use Rattle.std.proofs.lemmas.Nat.{from_be_bytes-to_be_bytes_2}
 use Rattle.dns_name.specs.Octets.{u16_octets, u32_octets}
@@ -211,6 +212,13 @@ record_with owner rtype class ttl fields = record { owner = owner; rtype = rtype
 abbrev pub set_of : {X : Type 0} → (X → List Field) → Name → ℕ → ℕ → ℕ → List X → List Record
 set_of f owner rtype class ttl xs = records_of owner rtype class (record { ttl = ttl; items = map f xs })
 
+-- the first of the data is of the set's type, and so are the others
+pub typed_rest : {X : Type 0} (t : X → ℕ) (rtype : ℕ) (xs behind : List X) (x : X) → xs ≡ x ∷ behind → All (λ d. t d ≡ rtype) xs
+    → (t x ≡ rtype) × All (λ d. t d ≡ rtype) behind
+typed_rest t rtype xs behind x split types =
+    let all = subst (All (λ d. t d ≡ rtype)) split types in
+    (All-head (λ d. t d ≡ rtype) x behind all, All-tail (λ d. t d ≡ rtype) x behind all)
+
 pub set_more : {X : Type 0} (f : X → List Field) (owner : Name) (rtype class ttl : ℕ) (rest behind : List X) (x : X) (made : Record) (k base : ℕ) (M : List Record → Message)
     (all : List Record) (now old new : Building) (u : Unit {0}) → Section k base M → rest ≡ x ∷ behind → made ≡ record_with owner rtype class ttl (f x)
     → Kept M now old (set_of f owner rtype class ttl rest) all → Adds k (record_wire made) now (Ok u) new → Kept M new old (set_of f owner rtype class ttl behind) all
@@ -232,11 +240,10 @@ pub set_done : {X : Type 0} (f : X → List Field) (owner : Name) (rtype class t
 set_done f owner rtype class ttl [] M all now old u none kept = kept_done M all now old u kept
 set_done f owner rtype class ttl (x ∷ xs) M all now old u none kept = cc
 
-pub set_is : {X : Type 0} (f : X → List Field) (owner : Name) (rtype class ttl : ℕ) (xs : List X) (s : TypedSet) → rtype ≡ s.rtype → ttl ≡ s.contents.ttl → map f xs ≡ s.contents.items
-    → set_of f owner rtype class ttl xs ≡ set_at_name owner class s
-set_is f owner rtype class ttl xs s type_is ttl_is items =
-    ap (λ t. records_of owner t class (record { ttl = ttl; items = map f xs })) type_is
-    ∙ ap (λ t. records_of owner s.rtype class (record { ttl = t; items = map f xs })) ttl_is
+pub set_is : {X : Type 0} (f : X → List Field) (owner : Name) (class ttl : ℕ) (xs : List X) (s : TypedSet) → ttl ≡ s.contents.ttl → map f xs ≡ s.contents.items
+    → set_of f owner s.rtype class ttl xs ≡ set_at_name owner class s
+set_is f owner class ttl xs s ttl_is items =
+    ap (λ t. records_of owner s.rtype class (record { ttl = t; items = map f xs })) ttl_is
     ∙ ap (λ ds. records_of owner s.rtype class (record { ttl = s.contents.ttl; items = ds })) items
 
 -- ---- one after another
@@ -251,7 +258,7 @@ front_refused k base M xs ys old mid after Memory s refused = tt
 -- records after a front that was added
 pub added_behind : (m n : Message) (old mid new : Building) (u : Unit {0}) (result : Result (Unit {0}) PushError) → Reaches m old (Ok u) mid
     → (Stands m mid → Reaches n mid result new) → Reaches n old result new
-added_behind m n old mid new u (Ok v) front back = let then = back front.0 in (then.0, then.1 ∙ front.1)
+added_behind m n old mid new u (Ok v) front back = let added = back front.0 in (added.0, added.1 ∙ front.1)
 added_behind m n old mid new u (Err ShortBuf) front back = ap (λ l. fits l (message_wire n)) (sym front.1) ∙ back front.0
 added_behind m n old mid new u (Err CountOverflow) front back = back front.0
 added_behind m n old mid new u (Err Memory) front back = tt
@@ -262,13 +269,12 @@ regrouped M xs ys zs old new result reached =
     let P : List Record → Type 0 = λ rs. Reaches (M rs) old result new in
     subst P (append_assoc xs ys zs) reached
 
--- the same set at the same owner
-pub set_given : (owner other : Name) (class : ℕ) (s t : TypedSet) (M : List Record → Message) (before : List Record) (old new : Building) (result : Result (Unit {0}) PushError)
-    → owner ≡ other → s ≡ t → Reaches (M (before ++ set_at_name owner class s)) old result new → Reaches (M (before ++ set_at_name other class t)) old result new
-set_given owner other class s t M before old new result owner_is set_is reached =
-    let P : Name → Type 0 = λ n. Reaches (M (before ++ set_at_name n class s)) old result new in
-    let Q : TypedSet → Type 0 = λ x. Reaches (M (before ++ set_at_name other class x)) old result new in
-    subst Q set_is (subst P owner_is reached)
+-- the same set, and the same records
+pub set_given : (owner : Name) (class : ℕ) (s t : TypedSet) (M : List Record → Message) (before : List Record) (old new : Building) (result : Result (Unit {0}) PushError)
+    → s ≡ t → Reaches (M (before ++ set_at_name owner class s)) old result new → Reaches (M (before ++ set_at_name owner class t)) old result new
+set_given owner class s t M before old new result is reached =
+    let P : TypedSet → Type 0 = λ x. Reaches (M (before ++ set_at_name owner class x)) old result new in
+    subst P is reached
 
 pub list_given : (xs ys : List Record) (M : List Record → Message) (before : List Record) (old new : Building) (result : Result (Unit {0}) PushError)
     → xs ≡ ys → Reaches (M (before ++ xs)) old result new → Reaches (M (before ++ ys)) old result new
@@ -283,7 +289,39 @@ content_is owner class content x h qs old new result is reached =
     let P : AnswerContent → Type 0 = λ y. Reaches (in_answer h qs (content_records owner class y)) old result new in
     subst P (sym is) reached
 
+-- ---- what a reply is to have, and what it isn't
+
+pub is_said : (said : Bool) (xs : List Record) (M : List Record → Message) (old new : Building) (result : Result (Unit {0}) PushError) → said ≡ true
+    → Reaches (M xs) old result new → Reaches (M (if said then xs else [])) old result new
+is_said true xs M old new result is reached = reached
+is_said false xs M old new result is reached = cc
+
+pub is_unsaid : (said : Bool) (xs : List Record) (M : List Record → Message) (old : Building) (u : Unit {0}) → said ≡ false
+    → Stands (M []) old → Reaches (M (if said then xs else [])) old (Ok u) old
+is_unsaid true xs M old u is stands = cc
+is_unsaid false xs M old u is stands = (stands, refl)
+
 -- ---- whole messages
+
+abbrev pub message_of : Header → List Question → List Record → List Record → List Record → Message
+message_of h qs xs ys zs = record { header = h; questions = qs; answers = xs; authority = ys; additional = zs }
+
+-- a message without its last sections is no longer than the whole
+pub begun : (h : Header) (qs : List Question) (xs ys zs : List Record) → length (message_wire (in_answer h qs [])) ≤ length (message_wire (message_of h qs xs ys zs))
+begun h qs xs ys zs = omega (arith, wire_length (in_answer h qs []), wire_length (message_of h qs xs ys zs))
+
+pub answered : (h : Header) (qs : List Question) (xs ys zs : List Record) → length (message_wire (in_answer h qs xs)) ≤ length (message_wire (message_of h qs xs ys zs))
+answered h qs xs ys zs = omega (arith, wire_length (in_answer h qs xs), wire_length (message_of h qs xs ys zs))
+
+pub referred : (h : Header) (qs : List Question) (xs ys zs : List Record) → length (message_wire (in_authority h qs xs ys)) ≤ length (message_wire (message_of h qs xs ys zs))
+referred h qs xs ys zs = omega (arith, wire_length (in_authority h qs xs ys), wire_length (message_of h qs xs ys zs))
+
+-- what refuses a message refuses a longer one
+pub refused_longer : (m n : Message) (limit : ℕ) (e : PushError) → length (message_wire m) ≤ length (message_wire n) → Builds (message_wire m) limit (Err e)
+    → Builds (message_wire n) limit (Err e)
+refused_longer m n limit ShortBuf more refused = not_fitting limit (message_wire m) (message_wire n) more refused
+refused_longer m n limit CountOverflow more refused = refused
+refused_longer m n limit Memory more refused = tt
 
 pub stood : (m : Message) (limit : ℕ) (b : Building) → Builds (message_wire m) limit (Ok b) → Stands m b
 stood m limit b built =
@@ -300,12 +338,6 @@ pub refused_more : (m n : Message) (limit : ℕ) (b new : Building) (e : PushErr
 refused_more m n limit b new ShortBuf built refused = ap (λ (c : Building). fits c.limit (message_wire n)) (sym built.1) ∙ refused
 refused_more m n limit b new CountOverflow built refused = refused
 refused_more m n limit b new Memory built refused = tt
-
-pub still_refused : (k base : ℕ) (M : List Record → Message) (xs ys : List Record) (limit : ℕ) (e : PushError) → Section k base M
-    → Builds (message_wire (M xs)) limit (Err e) → Builds (message_wire (M (xs ++ ys))) limit (Err e)
-still_refused k base M xs ys limit ShortBuf s refused = not_fitting limit (message_wire (M xs)) (message_wire (M (xs ++ ys))) (longer k base M xs ys s) refused
-still_refused k base M xs ys limit CountOverflow s refused = refused
-still_refused k base M xs ys limit Memory s refused = tt
 
 pub moved : (octets : List ℕ) (limit : ℕ) (b new : Building) → new ≡ b → Builds octets limit (Ok b) → Builds octets limit (Ok new)
 moved octets limit b new is built = (built.0, is ∙ built.1)

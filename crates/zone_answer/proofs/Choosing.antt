@@ -1,12 +1,18 @@
 -- The first message within the limit.
-use Rattle.std.proofs.Common.{◌≡◌, ℕ, Bool, true, false, List, [], ◌∷◌, refl, sym, ap, ◌∙◌, subst}
-use Rattle.std.specs.Prelude.{find, Option, Some, None, option_map, unwrap_or, Result, Ok, Err, IfOk}
-use Rattle.dns_wire.specs.Wire.{Building, Message, message_wire, fits}
+use Rattle.std.proofs.Common.{◌≡◌, ℕ, Bool, true, false, List, [], ◌∷◌, length, map, refl, sym, ap, ◌∙◌, subst}
+use Rattle.std.specs.Prelude.{Option, Some, None, option_map, unwrap_or, Ok, Err}
+use Rattle.std.proofs.lemmas.List.{append-nil}
+use Rattle.dns_wire.specs.Wire.{Building, Question, Message, message_wire, fits}
 use Rattle.dns_wire.specs.Reply.{answer_with, error_answer}
 use Rattle.dns_wire.specs.Builds.{Builds, building}
 use Rattle.dns_wire.specs.declared.builder.PushError.{PushError}
 use Rattle.dns_wire.specs.declared.builder.PushError.TheVariants.{ShortBuf}
-use Rattle.zone_answer.specs.Sending.{refusal, refusal_message, first_within, first_or_header, built_first, Tried, Tries}
+use Rattle.zone_answer.specs.Replies.{Reply}
+use Rattle.zone_answer.specs.declared.sending.Extent.{Extent}
+use Rattle.zone_answer.specs.Sending.{answers_of, authority_of, required_of, reply_with, whole_reply, cut_replies, replies_to, reply_to_extent, refusal, refusal_message, first_within, first_or_header, built_first, Tried}
+
+abbrev pub extent : Bool → Bool → Bool → Bool → Extent
+extent answers authority required discardable = record { answers = answers; authority = authority; required = required; discardable = discardable }
 
 -- ---- of a list
 
@@ -39,16 +45,28 @@ tried_later limit m ms found later none tried is =
     let P : Option Building → Type 0 = λ o. Tried (message_wire m) limit o in
     is ∙ sym (ap (option_map (λ (x : Message). building (message_wire x) limit)) (first_later limit m ms (subst P none tried)))
 
-pub later_ok : {E : Type 0} (limit : ℕ) (m : Message) (ms : List Message) (found : Option Building) (result : Result (Option Building) E) → found ≡ None
-    → Tried (message_wire m) limit found → IfOk result (λ later. later ≡ built_first limit ms) → IfOk result (λ later. later ≡ built_first limit (m ∷ ms))
-later_ok limit m ms found (Ok later) none tried is = tried_later limit m ms found later none tried is
-later_ok limit m ms found (Err e) none tried is = tt
+-- .. over what is left of a table of them
+pub row_built : {E : Type 0} (f : E → Message) (limit : ℕ) (rest behind : List E) (x : E) (found : Option Building) (b : Building) → rest ≡ x ∷ behind → found ≡ Some b
+    → Tried (message_wire (f x)) limit found → Some b ≡ built_first limit (map f rest)
+row_built f limit rest behind x found b split is tried =
+    tried_first limit (f x) (map f behind) found b is tried ∙ sym (ap (λ xs. built_first limit (map f xs)) split)
 
-pub last_ok : {E : Type 0} (limit : ℕ) (m : Message) (result : Result (Option Building) E) → Tries (message_wire m) limit result
-    → IfOk result (λ found. found ≡ built_first limit (m ∷ []))
-last_ok limit m (Ok (Some b)) tried = tried_first limit m [] (Some b) b refl tried
-last_ok limit m (Ok None) tried = tried_later limit m [] None None refl tried refl
-last_ok limit m (Err e) tried = tt
+pub row_refused : {E : Type 0} (f : E → Message) (limit : ℕ) (rest behind : List E) (x : E) (found : Option Building) → rest ≡ x ∷ behind → found ≡ None
+    → Tried (message_wire (f x)) limit found → built_first limit (map f behind) ≡ built_first limit (map f rest)
+row_refused f limit rest behind x found split none tried =
+    tried_later limit (f x) (map f behind) found (built_first limit (map f behind)) none tried refl ∙ sym (ap (λ xs. built_first limit (map f xs)) split)
+
+pub no_rows : {E : Type 0} (f : E → Message) (limit : ℕ) (rest : List E) → length rest ≡ 0 → None ≡ built_first limit (map f rest)
+no_rows f limit [] none = refl
+no_rows f limit (x ∷ xs) none = cc
+
+-- the table of an answer's replies
+pub rows_are : (request : List ℕ) (a : Reply) (q : Question) (extents : List Extent)
+    → extents ≡ extent true true true true ∷ extent true true true false ∷ extent true true false false ∷ extent true false false false ∷ extent false false false false ∷ []
+    → map (reply_to_extent request a q) extents ≡ replies_to request a q
+rows_are request a q extents is =
+    ap (map (reply_to_extent request a q)) is
+    ∙ ap (λ rs. whole_reply request a q ∷ reply_with request a false (answers_of q a) (authority_of q a) rs ∷ cut_replies request a q) (append-nil (required_of a))
 
 pub header_or : (limit : ℕ) (request : List ℕ) (rcode : ℕ) (messages : List Message) (b : Building) → Some b ≡ built_first limit messages
     → b ≡ building (message_wire (first_or_header limit request rcode messages)) limit

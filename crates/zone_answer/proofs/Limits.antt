@@ -1,12 +1,12 @@
 -- What the chosen message is.
-use Rattle.std.proofs.Common.{◌≡◌, ℕ, ◌≤◌, Bool, true, false, List, [], ◌∷◌, refl, sym, ap, ◌∙◌, subst, arith}
+use Rattle.std.proofs.Common.{◌≡◌, ℕ, ◌≤◌, Bool, true, false, List, [], ◌∷◌, refl, ap, ◌∙◌, arith}
 use Rattle.std.specs.Prelude.{Option, Some, None, option_map, unwrap_or, filter_map, ◌==◌, if◌then◌else◌}
 use Rattle.std.proofs.lemmas.Bool.Decides.{nat_tests}
 use Rattle.dns_wire.specs.Wire.{Question, Message, message_wire, fits, qdcount_in}
 use Rattle.dns_wire.specs.Parse.{questions_in, sole_question_in, question_at, readings, reading_then}
 use Rattle.dns_wire.specs.Reply.{answer_with, error_answer}
 use Rattle.zone_answer.specs.Replies.{Reply}
-use Rattle.zone_answer.specs.Sending.{whole_reply, needed_reply, cut_replies, replies_to, reply_message, reply_for, refusal, refusal_message, first_within, first_or_header}
+use Rattle.zone_answer.specs.Sending.{whole_reply, needed_reply, cut_replies, replies_to, reply_message, reply_for, refusal, first_or_header}
 use Rattle.zone_answer.proofs.Choosing.{chosen, first_is, first_later}
 
 -- ---- within the limit

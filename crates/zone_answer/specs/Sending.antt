@@ -1,5 +1,5 @@
 -- The message that says an answer (RFC 1035, 4.1; RFC 2181, 9).
-use Rattle.std.specs.Prelude.{◌≡◌, ℕ, ◌==◌, Bool, true, false, List, [], ◌∷◌, ◌++◌, find, Option, Some, None, unwrap_or, option_map, Result, Ok, Err, if◌then◌else◌}
+use Rattle.std.specs.Prelude.{◌≡◌, ℕ, ◌==◌, Bool, true, false, List, [], ◌∷◌, ◌++◌, find, Option, Some, None, unwrap_or, option_map, Result, Ok, Err, not, if◌then◌else◌}
 use Rattle.std.specs.Option.{option_map_or}
 use Rattle.dns_name.specs.Codes.{formerr}
 use Rattle.dns_name.specs.Names.{Name}
@@ -15,6 +15,7 @@ use Rattle.zone_values.specs.TypedSets.{TypedRecord, TypedSet}
 use Rattle.zone_answer.specs.Replies.{Reply, Authority, Additional}
 use Rattle.zone_answer.specs.declared.content.AnswerContent.{AnswerContent}
 use Rattle.zone_answer.specs.declared.content.AnswerContent.TheVariants.{Data, Cname, NoData}
+use Rattle.zone_answer.specs.declared.sending.Extent.{Extent}
 
 -- ---- the records of an answer
 
@@ -95,6 +96,14 @@ needed_reply request a q = reply_with request a false (answers_of q a) (authorit
 -- the messages that say an answer, fullest first: whole, with what it needs, and those that are cut (RFC 2181, 9)
 abbrev pub replies_to : List ℕ → Reply → Question → List Message
 replies_to request a q = whole_reply request a q ∷ needed_reply request a q ∷ cut_replies request a q
+
+-- the parts of an answer that a reply has, section by section; TC says where one that the answer needs is missing
+abbrev pub additional_to : Reply → Extent → List Record
+additional_to a e = (if e.required then required_of a else []) ++ (if e.discardable then discardable_of a else [])
+
+abbrev pub reply_to_extent : List ℕ → Reply → Question → Extent → Message
+reply_to_extent request a q e =
+    reply_with request a (not e.required) (if e.answers then answers_of q a else []) (if e.authority then authority_of q a else []) (additional_to a e)
 
 -- the first of these that is within the limit
 abbrev pub first_within : ℕ → List Message → Option Message

@@ -4,7 +4,6 @@
 mod answer;
 mod content;
 mod laws;
-mod lent;
 mod parts;
 mod sections;
 mod sending;

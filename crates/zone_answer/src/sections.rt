@@ -1,21 +1,21 @@
 // The records of an answer, pushed section by section.
-ghost use Rattle.std.specs.Prelude.{◌≡◌, List, [], ◌++◌};
-ghost use Rattle.dns_rdata.specs.Records.{Record};
+ghost use Rattle.std.specs.Prelude.{◌≡◌, List, [], ◌∷◌, ◌++◌, option_copied};
+ghost use Rattle.std.specs.Option.{option_map_or};
+ghost use Rattle.dns_rdata.specs.Records.{Record as RecordOf};
 ghost use Rattle.dns_wire.specs.Wire.{in_answer, in_authority, Header as HeaderOf, Question as QuestionOf, Message as MessageOf};
-ghost use Rattle.zone_answer.specs.Sending.{set_at_name, content_records, soa_records, ns_records, ds_records, authority_records, Stands, Reaches};
+ghost use Rattle.zone_answer.specs.Sending.{record_at, set_at_name, content_records, authority_records, Stands, Reaches};
 
 use crate::content::AnswerContent;
-use crate::lent::LentRecord;
 use crate::parts::AnswerAuthority;
-use dns_name::{Class, KeyName, Labelled};
-use dns_rdata::StoredRecord;
+use dns_name::{Class, NameRef};
+use dns_rdata::{Record, StoredRecord};
 use dns_wire::{AdditionalBuilder, AnswerBuilder, AuthorityBuilder, PushError};
-use zone_values::Rrset;
+use zone_values::{Rrset, SharedRr, SharedRrset};
 
 /// Adds the content to the answer section, at that owner.
 pub(crate) fn push_content(
     section: &mut AnswerBuilder,
-    owner: &KeyName,
+    owner: &NameRef<'_>,
     class: Class,
     content: &AnswerContent,
 ) -> Result<(), PushError>
@@ -24,9 +24,8 @@ pub(crate) fn push_content(
 {
     match content {
         AnswerContent::Data(set) => push_answers(section, owner, class, set.as_rrset()),
-        AnswerContent::Cname(cname) => section.push(&LentRecord::new(
-            owner,
-            cname.rtype(),
+        AnswerContent::Cname(cname) => section.push(&Record::new(
+            owner.borrowed(),
             class,
             cname.ttl(),
             cname.data(),
@@ -38,38 +37,36 @@ pub(crate) fn push_content(
 /// Adds the records of a set to the answer section, at that owner.
 fn push_answers(
     section: &mut AnswerBuilder,
-    owner: &KeyName,
+    owner: &NameRef<'_>,
     class: Class,
     set: &Rrset,
 ) -> Result<(), PushError>
     ensures { (h : HeaderOf) (qs : List QuestionOf) → Stands (in_answer h qs []) section.old
         → Reaches (in_answer h qs (set_at_name owner.now class set.now)) section.old result section.new }
 {
-    let rtype = set.rtype();
     let ttl = set.ttl();
     let mut rest = set.data();
     'records: while let Some((rdata, behind)) = rest.split_first() {
-        section.push(&LentRecord::new(owner, rtype, class, ttl, rdata))?;
+        section.push(&Record::new(owner.borrowed(), class, ttl, rdata))?;
         rest = behind;
     }
     Ok(())
 }
 
 /// Adds the records of a set to the authority section, at that owner.
-fn push_servers(
+fn push_referred(
     section: &mut AuthorityBuilder,
-    owner: &KeyName,
+    owner: &NameRef<'_>,
     class: Class,
     set: &Rrset,
 ) -> Result<(), PushError>
-    ensures { (h : HeaderOf) (qs : List QuestionOf) (answers before : List Record) → Stands (in_authority h qs answers before) section.old
+    ensures { (h : HeaderOf) (qs : List QuestionOf) (answers before : List RecordOf) → Stands (in_authority h qs answers before) section.old
         → Reaches (in_authority h qs answers (before ++ set_at_name owner.now class set.now)) section.old result section.new }
 {
-    let rtype = set.rtype();
     let ttl = set.ttl();
     let mut rest = set.data();
     'records: while let Some((rdata, behind)) = rest.split_first() {
-        section.push(&LentRecord::new(owner, rtype, class, ttl, rdata))?;
+        section.push(&Record::new(owner.borrowed(), class, ttl, rdata))?;
         rest = behind;
     }
     Ok(())
@@ -97,69 +94,46 @@ impl AnswerAuthority {
         section: &mut AuthorityBuilder,
         class: Class,
     ) -> Result<(), PushError>
-        ensures { (h : HeaderOf) (qs : List QuestionOf) (answers : List Record) → Stands (in_authority h qs answers []) section.old
+        ensures { (h : HeaderOf) (qs : List QuestionOf) (answers : List RecordOf) → Stands (in_authority h qs answers []) section.old
             → Reaches (in_authority h qs answers (authority_records class self.now)) section.old result section.new }
     {
-        let owner = self.owner().to_key_name();
-        self.push_soa(section, &owner, class)?;
-        self.push_ns(section, &owner, class)?;
-        self.push_ds(section, &owner, class)
+        let owner = self.owner().borrowed();
+        push_soa(section, &owner, class, self.soa())?;
+        push_set(section, &owner, class, self.ns())?;
+        push_set(section, &owner, class, self.ds())
     }
+}
 
-    /// Adds the SOA record, if there is one.
-    fn push_soa(
-        &self,
-        section: &mut AuthorityBuilder,
-        owner: &KeyName,
-        class: Class,
-    ) -> Result<(), PushError>
-        requires { owner.now ≡ self.now.owner }
-        ensures { (h : HeaderOf) (qs : List QuestionOf) (answers before : List Record) → Stands (in_authority h qs answers before) section.old
-            → Reaches (in_authority h qs answers (before ++ soa_records class self.now)) section.old result section.new }
-    {
-        match self.soa() {
-            Some(soa) => section.push(&LentRecord::new(
-                owner,
-                soa.rtype(),
-                class,
-                soa.ttl(),
-                soa.data(),
-            )),
-            None => Ok(()),
-        }
+/// Adds an SOA record to the authority section, at that owner, if there is one.
+fn push_soa(
+    section: &mut AuthorityBuilder,
+    owner: &NameRef<'_>,
+    class: Class,
+    soa: Option<&SharedRr>,
+) -> Result<(), PushError>
+    ensures { (h : HeaderOf) (qs : List QuestionOf) (answers before : List RecordOf) → Stands (in_authority h qs answers before) section.old
+        → Reaches (in_authority h qs answers (before ++ option_map_or (λ r. record_at owner.now class r ∷ []) (option_copied soa.entry) []))
+        section.old result section.new }
+{
+    match soa {
+        Some(soa) => { section.push(&Record::new(owner.borrowed(), class, soa.ttl(), soa.data())) }
+        None => Ok(()),
     }
+}
 
-    /// Adds the NS set, if there is one.
-    fn push_ns(
-        &self,
-        section: &mut AuthorityBuilder,
-        owner: &KeyName,
-        class: Class,
-    ) -> Result<(), PushError>
-        requires { owner.now ≡ self.now.owner }
-        ensures { (h : HeaderOf) (qs : List QuestionOf) (answers before : List Record) → Stands (in_authority h qs answers before) section.old
-            → Reaches (in_authority h qs answers (before ++ ns_records class self.now)) section.old result section.new }
-    {
-        match self.ns() {
-            Some(set) => push_servers(section, owner, class, set.as_rrset()),
-            None => Ok(()),
-        }
-    }
-
-    /// Adds the DS set, if there is one.
-    fn push_ds(
-        &self,
-        section: &mut AuthorityBuilder,
-        owner: &KeyName,
-        class: Class,
-    ) -> Result<(), PushError>
-        requires { owner.now ≡ self.now.owner }
-        ensures { (h : HeaderOf) (qs : List QuestionOf) (answers before : List Record) → Stands (in_authority h qs answers before) section.old
-            → Reaches (in_authority h qs answers (before ++ ds_records class self.now)) section.old result section.new }
-    {
-        match self.ds() {
-            Some(set) => push_servers(section, owner, class, set.as_rrset()),
-            None => Ok(()),
-        }
+/// Adds the records of a set to the authority section, at that owner, if there is one.
+fn push_set(
+    section: &mut AuthorityBuilder,
+    owner: &NameRef<'_>,
+    class: Class,
+    set: Option<&SharedRrset>,
+) -> Result<(), PushError>
+    ensures { (h : HeaderOf) (qs : List QuestionOf) (answers before : List RecordOf) → Stands (in_authority h qs answers before) section.old
+        → Reaches (in_authority h qs answers (before ++ option_map_or (set_at_name owner.now class) (option_copied set.entry) []))
+        section.old result section.new }
+{
+    match set {
+        Some(set) => push_referred(section, owner, class, set.as_rrset()),
+        None => Ok(()),
     }
 }

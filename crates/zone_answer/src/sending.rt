@@ -1,19 +1,44 @@
 // The message that says an answer.
-ghost use Rattle.std.specs.Prelude.{◌≡◌, ℕ, List, [], ◌++◌, IfOk, true, false};
+ghost use Rattle.std.specs.Prelude.{◌≡◌, ℕ, List, [], ◌++◌, IfOk, map, if◌then◌else◌};
 ghost use Rattle.dns_rdata.specs.Records.{Record};
-ghost use Rattle.dns_wire.specs.Wire.{in_authority, message_wire, Header as HeaderOf, Question as QuestionOf, Message as MessageOf};
+ghost use Rattle.dns_wire.specs.Wire.{in_answer, in_authority, message_wire, Header as HeaderOf, Question as QuestionOf, Message as MessageOf};
 ghost use Rattle.dns_wire.specs.Reply.{answer_with};
 ghost use Rattle.dns_wire.specs.Builds.{Builds, building};
-ghost use Rattle.zone_answer.specs.Sending.{answers_of, authority_of, required_of, discardable_of, reply_header, reply_with, replies_to, cut_replies, refusal, reply_message, authority_in, first_or_header, refusal_message, Stands, Reaches, Tries, built_first};
+ghost use Rattle.zone_answer.specs.Sending.{answers_of, required_of, discardable_of, additional_to, reply_to_extent, reply_with, replies_to, refusal, reply_message, authority_of, first_or_header, refusal_message, Stands, Reaches, Tries, built_first};
 
 use crate::answer::Answer;
 use crate::sections::{push_content, push_records};
-use dns_name::{Class, Labelled, ParsedName, Rcode};
+use dns_name::{Labelled, ParsedName, Rcode};
+use dns_rdata::StoredRecord;
 use dns_wire::{
     AdditionalBuilder, AnswerBuilder, AuthorityBuilder, Message, MessageBuilder, PushError,
     Question,
 };
 use std::alloc::{AllocError, Global};
+
+/// The parts of an answer that a reply has: the records of the answer and the authority section, the additional ones that the answer
+/// needs, and those that may be left out. TC says where one that the answer needs is missing (RFC 2181, 9).
+#[derive(Clone, Copy, Drop)]
+pub(crate) struct Extent {
+    answers: bool,
+    authority: bool,
+    required: bool,
+    discardable: bool,
+}
+
+impl Extent {
+    /// These parts.
+    fn of(answers: bool, authority: bool, required: bool, discardable: bool) -> Extent
+        ensures { result ≡ record { answers = answers; authority = authority; required = required; discardable = discardable } }
+    {
+        Extent {
+            answers,
+            authority,
+            required,
+            discardable,
+        }
+    }
+}
 
 impl Answer {
     /// The message that says this answer to a request, in at most `limit` octets, ready for more additional records (RFC 1035, 4.1).
@@ -21,7 +46,8 @@ impl Answer {
     /// It has the request's id, opcode, RD and question, QR, the rcode and AA of the answer; the content at the name and in the class that were asked
     /// for; SOA, NS and DS at the authority's owner; and the additional records, the required ones first. Where not all has room, the additional
     /// records that may be left out are, all of them; where the others have no room either, the first section that isn't whole and those after
-    /// it are empty, and TC says so (RFC 2181, 9). Where the question has no room, there is a header alone, without AA.
+    /// it are empty, and TC says so (RFC 2181, 9). Where the question has no room, there is a header alone, with neither AA nor TC, also where that
+    /// is above the limit.
     ///
     /// A request without one question that can be read has the reply NOTIMP where QDCOUNT isn't 1, else FORMERR, as by `start_error`.
     /// Refused only where memory runs out.
@@ -56,7 +82,7 @@ impl Answer {
         }
     }
 
-    /// The fullest message that says the answer to this question within the limit, if one does.
+    /// The fullest message that says the answer to this question within the limit, if one does (RFC 2181, 9).
     fn fullest(
         &self,
         alloc: Global,
@@ -66,99 +92,56 @@ impl Answer {
     ) -> Result<Option<AdditionalBuilder>, AllocError>
         ensures { IfOk result (λ found. found ≡ built_first limit (replies_to request.now self.now question.now)) }
     {
-        if let Some(whole) = fitting(self.write_all(alloc, request, question, limit))? {
-            return Ok(Some(whole));
-        }
-        if let Some(whole) = fitting(self.write_required(alloc, request, question, limit))? {
-            return Ok(Some(whole));
-        }
-        self.fullest_cut(alloc, request, question, limit)
+        let fullest_first = [
+            Extent::of(true, true, true, true),
+            Extent::of(true, true, true, false),
+            Extent::of(true, true, false, false),
+            Extent::of(true, false, false, false),
+            Extent::of(false, false, false, false),
+        ];
+        self.first_of(alloc, request, question, limit, &fullest_first)
     }
 
-    /// The fullest message within the limit that is said to be cut, if one is.
-    fn fullest_cut(
+    /// The first message within the limit that has the answer to this question to one of these extents, if one does.
+    fn first_of(
         &self,
         alloc: Global,
         request: &Message<'_>,
         question: &Question<ParsedName<'_>>,
         limit: usize,
+        extents: &[Extent],
     ) -> Result<Option<AdditionalBuilder>, AllocError>
-        ensures { IfOk result (λ found. found ≡ built_first limit (cut_replies request.now self.now question.now)) }
+        ensures { IfOk result (λ found. found ≡ built_first limit (map (reply_to_extent request.now self.now question.now) extents.now)) }
     {
-        if let Some(cut) = fitting(self.write_authority(alloc, request, question, limit, true))? {
-            return Ok(Some(cut));
+        let mut rest = extents;
+        'extents: while let Some((extent, behind)) = rest.split_first() {
+            let tried = self.write(alloc, request, question, limit, *extent);
+            if let Some(reply) = fitting(tried)? {
+                return Ok(Some(reply));
+            }
+            rest = behind;
         }
-        if let Some(cut) = fitting(self.cut_behind_answers(alloc, request, question, limit))? {
-            return Ok(Some(cut));
-        }
-        fitting(self.cut_behind_question(alloc, request, limit))
+        Ok(None)
     }
 
-    /// The message with all records.
-    fn write_all(
+    /// The message that has the answer to this question to this extent.
+    fn write(
         &self,
         alloc: Global,
         request: &Message<'_>,
         question: &Question<ParsedName<'_>>,
         limit: usize,
+        extent: Extent,
     ) -> Result<AdditionalBuilder, PushError>
-        ensures { Builds (message_wire (reply_with request.now self.now false (answers_of question.now self.now) (authority_of question.now self.now)
-            (required_of self.now ++ discardable_of self.now))) limit result }
+        ensures { Builds (message_wire (reply_to_extent request.now self.now question.now extent)) limit result }
     {
-        let mut section = self.write_required(alloc, request, question, limit)?;
-        self.push_discardable(&mut section)?;
-        Ok(section)
-    }
-
-    /// The message with all records but the additional ones that may be left out.
-    fn write_required(
-        &self,
-        alloc: Global,
-        request: &Message<'_>,
-        question: &Question<ParsedName<'_>>,
-        limit: usize,
-    ) -> Result<AdditionalBuilder, PushError>
-        ensures { Builds (message_wire (reply_with request.now self.now false (answers_of question.now self.now) (authority_of question.now self.now)
-            (required_of self.now))) limit result }
-    {
-        let mut section = self.write_authority(alloc, request, question, limit, false)?;
-        self.push_required(&mut section)?;
-        Ok(section)
-    }
-
-    /// The message up to the authority section.
-    fn write_authority(
-        &self,
-        alloc: Global,
-        request: &Message<'_>,
-        question: &Question<ParsedName<'_>>,
-        limit: usize,
-        cut: bool,
-    ) -> Result<AdditionalBuilder, PushError>
-        ensures { Builds (message_wire (reply_with request.now self.now cut (answers_of question.now self.now) (authority_of question.now self.now) []))
-            limit result }
-    {
-        let answers = self.write_answers(alloc, request, question, limit, cut)?;
-        let mut section = answers.authority();
-        self.push_authority(&mut section, question.qclass())?;
-        Ok(section.additional())
-    }
-
-    /// The message up to the answer section.
-    fn write_answers(
-        &self,
-        alloc: Global,
-        request: &Message<'_>,
-        question: &Question<ParsedName<'_>>,
-        limit: usize,
-        cut: bool,
-    ) -> Result<AnswerBuilder, PushError>
-        ensures { Builds (message_wire (reply_with request.now self.now cut (answers_of question.now self.now) [] [])) limit result }
-    {
-        let owner = question.qname().to_key_name();
-        let mut section = self.write_question(alloc, request, limit, cut)?;
-        push_content(&mut section, &owner, question.qclass(), self.content())?;
-        Ok(section)
+        let mut answer_section = self.write_question(alloc, request, limit, !extent.required)?;
+        self.push_answers(&mut answer_section, question, extent.answers)?;
+        let mut authority_section = answer_section.authority();
+        self.push_authority(&mut authority_section, question, extent.authority)?;
+        let mut additional_section = authority_section.additional();
+        self.push_additional(&mut additional_section, extent)?;
+        Ok(additional_section)
     }
 
     /// The message with the question alone.
@@ -183,61 +166,77 @@ impl Answer {
         Ok(section)
     }
 
-    /// The message up to the answer section, said to be cut.
-    fn cut_behind_answers(
+    /// Adds the content at the name that was asked for, where a reply is to have it.
+    fn push_answers(
         &self,
-        alloc: Global,
-        request: &Message<'_>,
+        section: &mut AnswerBuilder,
         question: &Question<ParsedName<'_>>,
-        limit: usize,
-    ) -> Result<AdditionalBuilder, PushError>
-        ensures { Builds (message_wire (reply_with request.now self.now true (answers_of question.now self.now) [] [])) limit result }
+        said: bool,
+    ) -> Result<(), PushError>
+        ensures { (h : HeaderOf) (qs : List QuestionOf) → Stands (in_answer h qs []) section.old
+            → Reaches (in_answer h qs (if said then answers_of question.now self.now else [])) section.old result section.new }
     {
-        let section = self.write_answers(alloc, request, question, limit, true)?;
-        Ok(section.additional())
+        if !said {
+            return Ok(());
+        }
+        let owner = question.qname().to_key_name();
+        push_content(
+            section,
+            &owner.borrowed(),
+            question.qclass(),
+            self.content(),
+        )
     }
 
-    /// The message with the question alone, said to be cut.
-    fn cut_behind_question(
+    /// Adds the authority records, if there are any, where a reply is to have them.
+    fn push_authority(
         &self,
-        alloc: Global,
-        request: &Message<'_>,
-        limit: usize,
-    ) -> Result<AdditionalBuilder, PushError>
-        ensures { Builds (message_wire (reply_with request.now self.now true [] [] [])) limit result }
-    {
-        let section = self.write_question(alloc, request, limit, true)?;
-        Ok(section.additional())
-    }
-
-    /// Adds the authority records, if there are any.
-    fn push_authority(&self, section: &mut AuthorityBuilder, class: Class) -> Result<(), PushError>
+        section: &mut AuthorityBuilder,
+        question: &Question<ParsedName<'_>>,
+        said: bool,
+    ) -> Result<(), PushError>
         ensures { (h : HeaderOf) (qs : List QuestionOf) (answers : List Record) → Stands (in_authority h qs answers []) section.old
-            → Reaches (in_authority h qs answers (authority_in class self.now)) section.old result section.new }
+            → Reaches (in_authority h qs answers (if said then authority_of question.now self.now else [])) section.old result section.new }
     {
+        if !said {
+            return Ok(());
+        }
         match self.authority() {
-            Some(authority) => authority.push_into(section, class),
+            Some(authority) => authority.push_into(section, question.qclass()),
             None => Ok(()),
         }
     }
 
-    /// Adds the additional records that the answer needs.
-    fn push_required(&self, section: &mut AdditionalBuilder) -> Result<(), PushError>
-        ensures { (m : MessageOf) → Stands m section.old → Reaches (record m { additional = m.additional ++ required_of self.now }) section.old result section.new }
+    /// Adds the additional records that a reply of this extent has.
+    fn push_additional(
+        &self,
+        section: &mut AdditionalBuilder,
+        extent: Extent,
+    ) -> Result<(), PushError>
+        ensures { (m : MessageOf) → Stands m section.old
+            → Reaches (record m { additional = m.additional ++ additional_to self.now extent }) section.old result section.new }
+    {
+        push_records(section, self.required(extent.required))?;
+        push_records(section, self.discardable(extent.discardable))
+    }
+
+    /// The additional records that the answer needs, where a reply is to have them.
+    fn required(&self, said: bool) -> &[StoredRecord]
+        ensures { result.now ≡ (if said then required_of self.now else []) }
     {
         match self.additional() {
-            Some(additional) => push_records(section, additional.required()),
-            None => Ok(()),
+            Some(additional) if said => additional.required(),
+            _ => &[],
         }
     }
 
-    /// Adds the additional records that may be left out.
-    fn push_discardable(&self, section: &mut AdditionalBuilder) -> Result<(), PushError>
-        ensures { (m : MessageOf) → Stands m section.old → Reaches (record m { additional = m.additional ++ discardable_of self.now }) section.old result section.new }
+    /// The additional records that may be left out, where a reply is to have them.
+    fn discardable(&self, said: bool) -> &[StoredRecord]
+        ensures { result.now ≡ (if said then discardable_of self.now else []) }
     {
         match self.additional() {
-            Some(additional) => push_records(section, additional.discardable()),
-            None => Ok(()),
+            Some(additional) if said => additional.discardable(),
+            _ => &[],
         }
     }
 }

@@ -1,4 +1,4 @@
-use Rattle.std.proofs.Common.{◌++◌, refl, ap}
+use Rattle.std.proofs.Common.{◌++◌, refl}
 use Rattle.std.proofs.lemmas.Result.{err_from_is_err_and}
 use Rattle.zone_answer.proofs.Adding.{additional, with_additional, records_more, records_refused, records_done}
 use Rattle.zone_answer.proofs.sections.push_records.Goals as goal

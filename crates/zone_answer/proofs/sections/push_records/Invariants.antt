@@ -1,4 +1,4 @@
-use Rattle.std.proofs.Common.{List, ◌++◌, length}
+use Rattle.std.proofs.Common.{◌++◌, length}
 use Rattle.dns_wire.specs.Wire.{Message}
 use Rattle.zone_answer.specs.Sending.{Stands}
 use Rattle.zone_answer.proofs.Adding.{Kept, with_additional}
