@@ -1,6 +1,7 @@
 -- Records that a loop adds one after another, by what is left.
-use Rattle.std.proofs.Common.{◌≡◌, ℕ, List, [], ◌∷◌, ◌++◌, length, map, Some, None, refl, sym, ap, ◌∙◌, subst}
+use Rattle.std.proofs.Common.{◌≡◌, ℕ, List, [], ◌∷◌, ◌++◌, All, length, map, Option, Some, None, is_some, option_map, true≢false, refl, sym, ap, ◌∙◌, subst}
 use Rattle.std.specs.Prelude.{Result, Ok, Err, flat_map, slice_get}
+use Rattle.std.proofs.lemmas.List.Elements.{All-head, All-tail}
 use Rattle.dns_name.specs.Codes.{type_soa}
 use Rattle.dns_name.specs.Names.{Name}
 use Rattle.dns_rdata.specs.Records.{Field, Record, record_wire}
@@ -10,6 +11,8 @@ use Rattle.dns_wire.specs.declared.builder.PushError.{PushError}
 use Rattle.zone_model.specs.Version.{RecordSet, Version, set_at}
 use Rattle.zone_model.specs.Answer.{apex_soa_record, records_of}
 use Rattle.zone_model.specs.Walk.{Stop}
+use Rattle.zone_values.specs.TypedSets.{TypedSet}
+use Rattle.zone_sets.specs.TypedEntries.{typed}
 use Rattle.xfr_server.specs.TransferMessage.{with_answers, have_room, AddsAnswers, stop_records}
 use Rattle.xfr_server.proofs.Answers.{with_more, with_append, room_more, room_behind}
 use Rattle.xfr_server.proofs.Adding.{adds_one, refused_first, refused_front, refused_as, added_all, soa_empty, soa_first}
@@ -26,6 +29,13 @@ abbrev pub record_with : Name → ℕ → ℕ → ℕ → List Field → Record
 record_with owner rtype class ttl fields = record { owner = owner; rtype = rtype; class = class; ttl = ttl; fields = fields }
 
 -- ---- the data of a set
+
+-- the first of the data is of the set's type, and so are the others
+pub typed_rest : {X : Type 0} (t : X → ℕ) (rtype : ℕ) (xs behind : List X) (x : X) → xs ≡ x ∷ behind → All (λ d. t d ≡ rtype) xs
+    → (t x ≡ rtype) × All (λ d. t d ≡ rtype) behind
+typed_rest t rtype xs behind x split types =
+    let all = subst (All (λ d. t d ≡ rtype)) split types in
+    (All-head (λ d. t d ≡ rtype) x behind all, All-tail (λ d. t d ≡ rtype) x behind all)
 
 pub rest_refused : {X : Type 0} (f : X → List Field) (owner : Name) (rtype class ttl : ℕ) (rest behind items : List X) (x : X) (made : Record) (now old new after : Building) (e : PushError)
     → rest ≡ x ∷ behind → made ≡ record_with owner rtype class ttl (f x) → now.limit ≡ old.limit
@@ -132,6 +142,15 @@ some_inj x y e = cc
 has_first : {X : Type 0} (xs : List X) (x : X) → Some x ≡ slice_get xs 0 → (more : List X) × (xs ≡ x ∷ more)
 has_first [] x e = cc
 has_first (y ∷ xs) x e = (xs, ap (λ z. z ∷ xs) (sym (some_inj x y e)))
+
+-- the first data of a set that was looked up are of its type
+pub looked_up_type : {X : Type 0} (t : X → ℕ) (rtype : ℕ) (xs : List X) (x : X) (s : TypedSet) (o : Option RecordSet) → Some x ≡ slice_get xs 0 → All (λ d. t d ≡ s.rtype) xs
+    → Some s ≡ option_map (typed rtype) o → t x ≡ rtype
+looked_up_type t rtype xs x s None first types found = absurd (true≢false (ap is_some found))
+looked_up_type t rtype xs x s (Some r) first types found =
+    let split = has_first xs x first in
+    All-head (λ d. t d ≡ s.rtype) x split.0 (subst (All (λ d. t d ≡ s.rtype)) split.1 types)
+    ∙ ap (λ (y : Option TypedSet). elim y as (λ z. ℕ) [ Some z ↦ z.rtype | None ↦ s.rtype ]) found
 
 pub no_soa_data : {X : Type 0} (f : X → List Field) (xs : List X) (v : Version) (s : RecordSet) → Some s ≡ set_at v v.apex type_soa → None ≡ slice_get xs 0 → map f xs ≡ s.items
     → apex_soa_record v ≡ []

@@ -6,7 +6,6 @@ mod examples;
 mod laws;
 pub mod providers;
 mod replies;
-mod set_records;
 pub mod transfer;
 mod transfer_message;
 

@@ -1,7 +1,7 @@
 // The text of a transfer, written into one message (RFC 5936, 2.2).
-ghost use Rattle.std.specs.Prelude.{◌≡◌, ◌++◌, ◌↔◌, map, flat_map, not, filter, IfSome, IsSome, IsTrue};
+ghost use Rattle.std.specs.Prelude.{◌≡◌, ◌++◌, ◌↔◌, All, map, flat_map, not, filter, IfSome, IsSome, IsTrue};
 ghost use Rattle.dns_rdata.specs.Soa.{serial_of};
-ghost use Rattle.dns_rdata.specs.ZoneData.{data_fields};
+ghost use Rattle.dns_rdata.specs.ZoneData.{rtype_of, data_fields};
 ghost use Rattle.zone_model.specs.Version.{has_one_apex_soa};
 ghost use Rattle.zone_model.specs.Answer.{apex_soa_record, records_of};
 ghost use Rattle.zone_model.specs.Difference.{zone_serial as serial_of_version};
@@ -10,9 +10,8 @@ ghost use Rattle.zone_model.specs.Walk.{walk};
 ghost use Rattle.xfr_server.specs.TransferMessage.{transfer_message, Writes, AddsAnswers, is_soa_stop, stop_records};
 
 use crate::replies::start_transfer;
-use crate::set_records::SetRecord;
 use dns_name::{Class, KeyName, Labelled, Rtype, Serial, ToName, Ttl};
-use dns_rdata::{StoredRecordData, ZoneRecordData};
+use dns_rdata::{Record, StoredRecordData, ZoneRecordData};
 use dns_wire::{AdditionalBuilder, AnswerBuilder, MessageBuf, PushError};
 use std::alloc::Global;
 use zone_sessions::{ReadZone, WalkItem};
@@ -86,8 +85,8 @@ fn push_soa(answer: &mut AnswerBuilder, zone: &ReadZone) -> Result<(), PushError
     let Some(rdata) = found.items().first() else {
         return Ok(());
     };
-    let owner = zone.apex_name().to_key_name();
-    answer.push(&SetRecord::new(&owner, Rtype::SOA, zone.class(), found.ttl(), rdata))
+    let owner = zone.apex_name().borrowed();
+    answer.push(&Record::new(owner, zone.class(), found.ttl(), rdata))
 }
 
 /// All records but the apex SOA, owners in canonical order, types ascending.
@@ -128,7 +127,7 @@ fn is_soa_stop(zone: &ReadZone, stop: &WalkItem<'_>) -> bool
     stop.rtype() == Rtype::SOA && stop.owner().name_eq(zone.apex_name())
 }
 
-/// The records of one owner, type, class and TTL with these data.
+/// The records of one owner, class and TTL with these data, which are of this type.
 fn push_set(
     answer: &mut AnswerBuilder,
     owner: &KeyName,
@@ -137,11 +136,12 @@ fn push_set(
     ttl: Ttl,
     items: &[StoredRecordData],
 ) -> Result<(), PushError>
+    requires { All (λ d. rtype_of d ≡ rtype) items.now }
     ensures { AddsAnswers (records_of owner.now rtype class (record { ttl = ttl; items = map data_fields items.now })) answer.old result answer.new }
 {
     let mut rest = items;
     'records: while let Some((rdata, behind)) = rest.split_first() {
-        answer.push(&SetRecord::new(owner, rtype, class, ttl, rdata))?;
+        answer.push(&Record::new(owner.borrowed(), class, ttl, rdata))?;
         rest = behind;
     }
     Ok(())

@@ -1,5 +1,5 @@
 -- Lent sets with their type and without it.
-use Rattle.std.proofs.Common.{◌≡◌, ℕ, suc, List, ◌∷◌, All, arith, subst, refl, ap, ◌∙◌, true≢false, Option, Some, None, option_map, is_some, IfSome}
+use Rattle.std.proofs.Common.{◌≡◌, ℕ, refl, ap, ◌∙◌, true≢false, Option, Some, None, option_map, is_some, IfSome}
 use denote.Ref.{Bor}
 use Rattle.std.specs.Option.{option_copied}
 use Rattle.zone_model.specs.Version.{RecordSet, Key}
@@ -18,10 +18,6 @@ lent_type rtype (Some s) o e = by o e
     by : (p : Option RecordSet) → Some s.now ≡ option_map (typed rtype) p → s.now.rtype ≡ rtype
     by None g = absurd (true≢false (ap is_some g))
     by (Some t) g = ap (λ (x : Option TypedSet). elim x as (λ y. ℕ) [ Some y ↦ y.rtype | None ↦ s.now.rtype ]) g
-
--- all but the first
-pub all_behind : {X : Type 0} (P : X → Type 0) (xs : List X) (x : X) (rest : List X) → xs ≡ x ∷ rest → All P xs → All P rest
-all_behind P xs x rest e h = λ k d below. (subst (All P) e h) (suc k) d (omega arith)
 
 -- an entry that is found, without its set's type
 pub found_untyped : (o : Option (Key × RecordSet)) → option_map entry_of (option_map item_of o) ≡ o

@@ -1,5 +1,6 @@
-//! Questions to one version of a zone (RFC 1034, 4.3.2; RFC 4592): what it has for a name and a type, its sets lent
-//! or in memory of the answer's own.
+//! Questions to one version of a zone (RFC 1034, 4.3.2, step 3; RFC 4592): what it has for a name and a type, its sets lent
+//! or in memory of the answer's own. No alias is followed, ANY has one RRset, and nothing is added but a referral's glue; the SOA record of a
+//! negative answer has its own TTL, not the lower of that and its MINIMUM (RFC 2308, 3).
 //!
 //! A name is walked label by label, with one ordered look-up or two at each; that a name exists is a question for the first owner from it on,
 //! since in canonical order the owners at or below a name stand together.
@@ -7,8 +8,8 @@
 
 mod answer_ref;
 mod content;
-mod finding;
 mod laws;
+mod look_up_steps;
 mod owning;
 mod question;
 mod records;

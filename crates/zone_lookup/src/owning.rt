@@ -182,7 +182,7 @@ fn own_record(alloc: Global, lent: &AnswerRecord<'_>) -> Result<StoredRecord, Al
     ensures { IfOk result (λ r. r ≡ lent.now) }
 {
     let owner = lent.owner().to_stored(alloc)?;
-    let rdata = lent.data().clone()?;
+    let rdata = (*lent.data()).clone()?;
     Ok(Record::new(owner, lent.class(), lent.ttl(), rdata))
 }
 

@@ -1,7 +1,7 @@
 //! The report of a transfer.
-ghost use Rattle.std.specs.Prelude.{◌≡◌, ◌++◌, [], IfOk, IsSomeAnd, OnOk, flat_map, map};
+ghost use Rattle.std.specs.Prelude.{◌≡◌, ◌++◌, [], All, IfOk, IsSomeAnd, OnOk, flat_map, map};
 ghost use Rattle.dns_rdata.specs.Records.{record_wire};
-ghost use Rattle.dns_rdata.specs.ZoneData.{data_fields};
+ghost use Rattle.dns_rdata.specs.ZoneData.{rtype_of, data_fields};
 ghost use Rattle.zone_model.specs.Walk.{walk};
 ghost use Rattle.zone_sync.specs.Report.{stop_lines, report};
 ghost use Rattle.zone_sync.specs.Ending.{outcome_of};
@@ -10,8 +10,8 @@ ghost use Rattle.zone_sync.specs.Lines.{set_record, item_line};
 use crate::answers::append_answers;
 use crate::outcome::{SyncError, SyncOk};
 use crate::outcome_line::append_outcome;
-use dns_name::{Class, Labelled};
-use dns_rdata::{RecordData, StoredRecordData};
+use dns_name::Class;
+use dns_rdata::{ComposeRecord, Record, StoredRecordData};
 use std::alloc::{AllocError, Global};
 use zone_script::queries::Query;
 use zone_sessions::{ReadZone, WalkItem};
@@ -66,6 +66,7 @@ fn append_items(
     stop: &WalkItem<'_>,
     items: &[StoredRecordData],
 ) -> Result<(), AllocError>
+    requires { All (λ d. rtype_of d ≡ stop.now.rtype) items.now }
     ensures { OnOk result (out.new.items ≡ out.old.items ++ flat_map (item_line class stop.now) (map data_fields items.now)) }
 {
     let mut rest = items;
@@ -84,6 +85,7 @@ fn append_item(
     stop: &WalkItem<'_>,
     item: &StoredRecordData,
 ) -> Result<(), AllocError>
+    requires { rtype_of item.now ≡ stop.now.rtype }
     ensures { OnOk result (out.new.items ≡ out.old.items ++ item_line class stop.now (data_fields item.now)) }
 {
     let wire = record_octets(alloc, class, stop, item)?;
@@ -104,14 +106,11 @@ fn record_octets(
     stop: &WalkItem<'_>,
     item: &StoredRecordData,
 ) -> Result<Vec<u8>, AllocError>
+    requires { rtype_of item.now ≡ stop.now.rtype }
     ensures { IfOk result (λ v. v.items ≡ record_wire (set_record class stop.now (data_fields item.now))) }
 {
+    let record = Record::new(stop.owner().borrowed(), class, stop.ttl(), item);
     let mut out = Vec::new(alloc);
-    stop.owner().compose(&mut out)?;
-    out.extend_from_slice(&stop.rtype().to_int().to_be_bytes())?;
-    out.extend_from_slice(&class.to_int().to_be_bytes())?;
-    out.extend_from_slice(&stop.ttl().to_int().to_be_bytes())?;
-    out.extend_from_slice(&item.rdlen().to_be_bytes())?;
-    item.compose_rdata(&mut out)?;
+    record.compose_record(&mut out)?;
     Ok(out)
 }

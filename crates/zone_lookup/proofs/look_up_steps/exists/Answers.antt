@@ -4,7 +4,7 @@ use Rattle.dns_name.specs.Names.{under}
 use Rattle.zone_sets.specs.TypedEntries.{entry_of}
 use Rattle.zone_lookup.proofs.LentTypes.{found_untyped}
 use Rattle.zone_lookup.proofs.Existence.{exists_by}
-use Rattle.zone_lookup.proofs.finding.exists.Goals as goal
+use Rattle.zone_lookup.proofs.look_up_steps.exists.Goals as goal
 
 -- The first owner from the name on is at or below it.
 pub returns-in-Some : goal.returns-in-Some

@@ -6,7 +6,7 @@ use Rattle.zone_sets.specs.TypedEntries.{entry_of}
 use Rattle.zone_versions.proofs.TypedStops.{found_type}
 use Rattle.zone_lookup.proofs.LentTypes.{found_untyped}
 use Rattle.zone_lookup.proofs.FirstSets.{first_is, own_then, own_else}
-use Rattle.zone_lookup.proofs.finding.first_set.Goals as goal
+use Rattle.zone_lookup.proofs.look_up_steps.first_set.Goals as goal
 
 -- The set is of its key's type.
 pub set_or_no_data-requires : goal.set_or_no_data-requires

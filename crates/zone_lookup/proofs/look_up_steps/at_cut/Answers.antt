@@ -6,8 +6,8 @@ use Rattle.zone_model.specs.Answer.Answer.{Referral}
 use Rattle.zone_sets.specs.TypedEntries.{untyped}
 use Rattle.zone_lookup.proofs.LentTypes.{lent_set, lent_type}
 use Rattle.zone_lookup.proofs.Referrals.{and_false, cut_refers, no_servers}
-use Rattle.zone_lookup.proofs.finding.at_cut.Goals.{else-eq-via-then-eq+else-name_eq, else-eq-via-else-eq}
-use Rattle.zone_lookup.proofs.finding.at_cut.Goals as goal
+use Rattle.zone_lookup.proofs.look_up_steps.at_cut.Goals.{else-eq-via-then-eq+else-name_eq, else-eq-via-else-eq}
+use Rattle.zone_lookup.proofs.look_up_steps.at_cut.Goals as goal
 
 -- The sets are of the types that were asked for.
 pub referral-requires-clause-servers : goal.referral-requires-clause-servers

@@ -3,7 +3,7 @@ use Rattle.std.specs.Option.{option_or, option_map_or}
 use Rattle.std.specs.Prelude.{IfSome, true}
 use Rattle.zone_model.specs.Version.{is_cut}
 use Rattle.zone_model.specs.Answer.{highest_cut}
-use Rattle.zone_lookup.proofs.finding.highest_cut.Given as goal
+use Rattle.zone_lookup.proofs.look_up_steps.highest_cut.Given as goal
 
 -- what is left above decides before what was found below, which is a cut
 abbrev pub invariant-loop-highest : goal.invariant-loop-highest

@@ -1,4 +1,4 @@
-// How a version is asked: cuts first, then the name, then the wildcard below its closest encloser.
+// The steps of a look-up: cuts first, then the name, then the wildcard below its closest encloser (RFC 1034, 4.3.2, step 3).
 ghost use Rattle.std.specs.Prelude.{◌≡◌, ◌≤◌, true, false, length, IfSome};
 ghost use Rattle.dns_name.specs.Names.{under, wildcard_below, name_wire};
 ghost use Rattle.zone_model.specs.Version.{IsValid, exists, is_cut};

@@ -1,6 +1,6 @@
 use Rattle.std.proofs.Common.{◌≡◌, sym, ap, ◌∙◌}
 use Rattle.zone_lookup.proofs.Wildcards.{wildcard_put, wildcard_is, wildcard_is_name, wildcard_spelled}
-use Rattle.zone_lookup.proofs.finding.wildcard_below.Goals as goal
+use Rattle.zone_lookup.proofs.look_up_steps.wildcard_below.Goals as goal
 
 pub from_wire-requires-clause-name : goal.from_wire-requires-clause-name
 from_wire-requires-clause-name c =

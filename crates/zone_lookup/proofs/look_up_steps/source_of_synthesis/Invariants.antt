@@ -2,7 +2,7 @@ use Rattle.std.proofs.Common.{◌≡◌, length, true, false}
 use Rattle.dns_name.specs.Names.{under}
 use Rattle.zone_model.specs.Version.{exists}
 use Rattle.zone_model.specs.Answer.{closest_encloser}
-use Rattle.zone_lookup.proofs.finding.source_of_synthesis.Given as goal
+use Rattle.zone_lookup.proofs.look_up_steps.source_of_synthesis.Given as goal
 
 -- the names passed don't exist, and are in the zone
 abbrev pub invariant-loop-parent : goal.invariant-loop-parent

@@ -4,8 +4,8 @@ use Rattle.std.specs.Prelude.{IfSome}
 use Rattle.zone_model.specs.Version.{is_cut}
 use Rattle.zone_model.specs.Answer.{highest_cut}
 use Rattle.zone_lookup.proofs.Highest.{at_first, step_cut, step_on}
-use Rattle.zone_lookup.proofs.finding.highest_cut.Goals.{then-is_cut, else-is_cut}
-use Rattle.zone_lookup.proofs.finding.highest_cut.Goals as goal
+use Rattle.zone_lookup.proofs.look_up_steps.highest_cut.Goals.{then-is_cut, else-is_cut}
+use Rattle.zone_lookup.proofs.look_up_steps.highest_cut.Goals as goal
 
 pub loop-highest-init : goal.loop-highest-init
 loop-highest-init c = (at_first c.args.version.now c.args.name.now ∙ ap (λ x. option_or (highest_cut c.args.version.now x) None) (sym c.borrowed-rest.ensures.value), tt)

@@ -2,7 +2,7 @@ use Rattle.std.proofs.Common.{◌≡◌, sym, ap, ◌∙◌}
 use Rattle.dns_name.specs.Names.{wildcard_below}
 use Rattle.zone_lookup.proofs.Enclosers.{not_here, is_here, parent_inside}
 use Rattle.zone_lookup.proofs.Wildcards.{room_above}
-use Rattle.zone_lookup.proofs.finding.source_of_synthesis.Goals as goal
+use Rattle.zone_lookup.proofs.look_up_steps.source_of_synthesis.Goals as goal
 
 pub wildcard_below-requires : goal.wildcard_below-requires
 wildcard_below-requires c = room_above c.loop-parent.rest c.in-Some.parent c.in-Some.field-0-0 c.in-Some.ensures c.as_slice.ensures.name
