@@ -10,7 +10,6 @@ use Rattle.zone_model.specs.Offer.{Provider, is_granted}
 use Rattle.zone_model.proofs.Folded.{same_name-Decides}
 use Rattle.xfr_server.specs.Items.{Sending}
 use Rattle.xfr_server.specs.Offers.{key_id}
-use Rattle.zone_devices.specs.Links.{LinkLists}
 use Rattle.zone_sync.specs.SoFar.{Asking, asked_octets}
 use Rattle.zone_sync.specs.Fitting.{Fits}
 use Rattle.zone_sync.specs.Delivery.{WasHonest, IsGranted, Delivers}
@@ -20,7 +19,7 @@ use Rattle.zone_sync.specs.declared.outcome.SyncError.TheVariants as why
 use Rattle.zone_script.specs.Script as scripts
 use Rattle.zone_script.specs.Script.{script_of}
 use Rattle.zone_script.specs.ScriptReaders.{readers_so_far}
-use Rattle.zone_sync.specs.Reported.{Ran, IsDue, Took, FitsLink, status_by, provider_of, primary_version, asking_in}
+use Rattle.zone_sync.specs.Reported.{Crossed, Ran, IsDue, Took, FitsLink, status_by, provider_of, primary_version, asking_in}
 use Rattle.zone_sync.specs.declared.program.Status.{Status}
 use Rattle.zone_sync.specs.declared.program.Status.TheVariants.{Done, Refused, Usage, Script, SourceFault, SinkFault, Memory, LinkFault, TooLong}
 
@@ -48,7 +47,7 @@ good_status v s (Err why.VersionsExhausted) d = absurd d
 
 module _ (SendsOf : Provider → TsigKey → ℕ → List ℕ → Option (List Sending) → Type 0)
     (grants : (p : Provider) (key : TsigKey) (a : Asking) (at longest : ℕ) → a.key ≡ key → is_granted p.grants (Some (key_id key)) ≡ true → Fits a at p.kept → length (asked_octets a) ≤ min longest 65535 → IsGranted (SendsOf p key at) a at longest p.kept)
-    (text : List ℕ) (t : scripts.Script TsigKey) (key : TsigKey) (longest : ℕ) (old new : Option LinkLists) (f g : ℕ) (taken_old taken_new : Option (List ℕ)) (spelt : script_of readers_so_far text ≡ Ok t) (fits : FitsLink t key longest) (honest : WasHonest old new f g) where
+    (text : List ℕ) (t : scripts.Script TsigKey) (key : TsigKey) (link : Crossed) (taken_old taken_new : Option (List ℕ)) (spelt : script_of readers_so_far text ≡ Ok t) (fits : FitsLink t key link.longest) (honest : WasHonest link.lists_old link.lists_new link.faults_old link.faults_new) where
   same_script : (u : scripts.Script TsigKey) → script_of readers_so_far text ≡ Ok u → t ≡ u
   same_script u e = ap (unless t) (sym spelt ∙ e)
     where
@@ -59,18 +58,18 @@ module _ (SendsOf : Provider → TsigKey → ℕ → List ℕ → Option (List S
   same_key : (x y : TsigKey) → Some x ≡ Some y → x ≡ y
   same_key x y e = ap (λ o. unwrap_or o x) e
 
-  fits_too : (u : scripts.Script TsigKey) (k : TsigKey) → script_of readers_so_far text ≡ Ok u → u.key ≡ Some k → FitsLink u k longest
+  fits_too : (u : scripts.Script TsigKey) (k : TsigKey) → script_of readers_so_far text ≡ Ok u → u.key ≡ Some k → FitsLink u k link.longest
   fits_too u k e keyed =
-      let mine = subst (λ (x : scripts.Script TsigKey). FitsLink x key longest) (same_script u e) fits in
-      subst (λ (x : TsigKey). FitsLink u x longest) (same_key key k (sym mine.keyed ∙ keyed)) mine
+      let mine = subst (λ (x : scripts.Script TsigKey). FitsLink x key link.longest) (same_script u e) fits in
+      subst (λ (x : TsigKey). FitsLink u x link.longest) (same_key key k (sym mine.keyed ∙ keyed)) mine
 
   -- a run that was reported ends so
-  reported_well : (octets : List ℕ) (s : Status) → Ran SendsOf (Some text) longest old new f g octets s → (s ≡ Done) ⊎ (s ≡ Memory)
+  reported_well : (octets : List ℕ) (s : Status) → Ran SendsOf (Some text) link octets s → (s ≡ Done) ⊎ (s ≡ Memory)
   reported_well octets s r =
       let fit = fits_too r.script r.key (subst (λ (x : List ℕ). script_of readers_so_far x ≡ Ok r.script) r.whole r.spells) r.keyed in
       let v = primary_version r.script in
       let k = r.reports in
-      let grant = grants (provider_of v r.key) r.key (asking_in r.script r.key) r.script.at_primary longest refl (granted_to_one r.key.name (key_id r.key).1) fit.fits fit.request_fits in
+      let grant = grants (provider_of v r.key) r.key (asking_in r.script r.key) r.script.at_primary link.longest refl (granted_to_one r.key.name (key_id r.key).1) fit.fits fit.request_fits in
       ends_by (good_status v k.session k.answer (k.transfer.delivers v grant honest))
     where
       ends_by : (status_by r.reports.answer ≡ Done) ⊎ (status_by r.reports.answer ≡ Memory) → (s ≡ Done) ⊎ (s ≡ Memory)
@@ -78,7 +77,7 @@ module _ (SendsOf : Provider → TsigKey → ℕ → List ℕ → Option (List S
       ends_by (inr e) = inr (r.reports.ended ∙ e)
 
   pub delivers_so : (SinkFaults : Type 0) (s : Status) → (s ≢ Usage) × (s ≢ SourceFault) × (s ≢ TooLong) × (s ≢ Script) → (s ≡ SinkFault → SinkFaults)
-      → (s ≢ SinkFault → Took (λ octets. IsDue SendsOf (Some text) longest old new f g octets s) taken_old taken_new) → ¬ SinkFaults → (s ≡ Done) ⊎ (s ≡ Memory)
+      → (s ≢ SinkFault → Took (λ octets. IsDue SendsOf (Some text) link octets s) taken_old taken_new) → ¬ SinkFaults → (s ≡ Done) ⊎ (s ≡ Memory)
   delivers_so SinkFaults Done others sink written no_sink = inl refl
   delivers_so SinkFaults Memory others sink written no_sink = inr refl
   delivers_so SinkFaults Refused others sink written no_sink = let t = written (λ e. cc e) in reported_well t.octets Refused t.due

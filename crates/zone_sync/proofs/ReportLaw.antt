@@ -18,13 +18,13 @@ use Rattle.zone_sync.specs.declared.outcome.SyncError.{SyncError}
 use Rattle.zone_sync.specs.declared.outcome.SyncError.TheVariants as why
 use Rattle.zone_sync.specs.Report.{report}
 use Rattle.zone_sync.specs.Notices.{is_reported}
-use Rattle.zone_sync.specs.Reported.{Reports, status_by, asking_with}
+use Rattle.zone_sync.specs.Reported.{crossed, Crossed, Reports, status_by, asking_with}
 use Rattle.zone_sync.specs.declared.program.Status.{Status}
 use Rattle.zone_sync.specs.declared.program.Status.TheVariants.{LinkFault}
 
 -- a status that comes with a report
-pub ends_reported : (Sends : List ℕ → Option (List Sending) → Type 0) (a : Asking) (at longest : ℕ) (queries : List (Name × ℕ)) (old new : Option LinkLists) (f g : ℕ) (octets : List ℕ) (status : Status) → Reports Sends a at longest queries old new f g octets status → IsTrue (is_reported status)
-ends_reported Sends a at longest queries old new f g octets status r = subst (λ s. IsTrue (is_reported s)) (sym r.ended) (by r.answer r.names)
+pub ends_reported : (Sends : List ℕ → Option (List Sending) → Type 0) (a : Asking) (at : ℕ) (queries : List (Name × ℕ)) (link : Crossed) (octets : List ℕ) (status : Status) → Reports Sends a at queries link octets status → IsTrue (is_reported status)
+ends_reported Sends a at queries link octets status r = subst (λ s. IsTrue (is_reported s)) (sym r.ended) (by r.answer r.names)
   where
     by : (answer : Result SyncOk SyncError) → outcome_of answer ≡ Some r.how → IsTrue (is_reported (status_by answer))
     by (Ok done) h = refl
@@ -66,10 +66,10 @@ module _ (Sends : List ℕ → Option (List Sending) → Type 0) (at longest : �
   -- what was made of an answer is its report
   pub reports_so : (a : Asking) (asked queries : List (Name × ℕ)) (handles : List Commit) (s : Session) (answer : Result SyncOk SyncError) (octets : List ℕ) (n : ℕ) (last : Commit) (status : Status)
       → Synchronizes Sends a at longest old new f g [] handles s answer → n ≡ length handles → last ≡ s.current → status ≡ status_by answer → asked ≡ queries
-      → IsSomeAnd (outcome_of answer) (λ how. octets ≡ report record_wire how n last.version asked []) → Reports Sends a at longest queries old new f g octets status
+      → IsSomeAnd (outcome_of answer) (λ how. octets ≡ report record_wire how n last.version asked []) → Reports Sends a at queries (crossed longest old new f g) octets status
   reports_so a asked queries handles s answer octets n last status says counted current ends same named = by (outcome_of answer) refl named
     where
-      by : (o : Option Outcome) → outcome_of answer ≡ o → IsSomeAnd o (λ how. octets ≡ report record_wire how n last.version asked []) → Reports Sends a at longest queries old new f g octets status
+      by : (o : Option Outcome) → outcome_of answer ≡ o → IsSomeAnd o (λ how. octets ≡ report record_wire how n last.version asked []) → Reports Sends a at queries (crossed longest old new f g) octets status
       by (Some how) e is = record {
         answer = answer;
         handles = handles;

@@ -4,6 +4,7 @@ pub mod Lines
 pub mod Primaries
 pub mod Reported
 pub mod Notices
+pub mod Statuses
 pub mod Refusals
 pub mod Ending
 pub mod Modes

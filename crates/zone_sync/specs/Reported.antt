@@ -1,5 +1,5 @@
 -- What a run of the program writes: the report of the transfer that a script asks for, the number of a bad line, or a notice.
-use Rattle.std.specs.Prelude.{◌≡◌, ℕ, List, [], length, take, Option, Some, IfSome, Result, Ok, Err, ◌≤◌, ◌∷◌, min, false}
+use Rattle.std.specs.Prelude.{◌≡◌, ◌≢◌, ℕ, List, [], length, take, Option, Some, IfSome, Result, Ok, Err, ◌≤◌, ◌∷◌, min, false}
 use Rattle.dns_name.specs.Names.{Name}
 use Rattle.dns_rdata.specs.Records.{record_wire}
 use Rattle.tsig_port.specs.Tsig.{TsigKey}
@@ -22,12 +22,24 @@ use Rattle.zone_sync.specs.declared.outcome.SyncOk.{SyncOk}
 use Rattle.zone_sync.specs.declared.outcome.SyncError.{SyncError}
 use Rattle.zone_sync.specs.declared.outcome.SyncError.TheVariants as why
 use Rattle.zone_script.specs.Script.{Script, script_of, secondary_version}
+use Rattle.zone_script.specs.declared.script.Script as read_scripts
 use Rattle.zone_script.specs.ScriptReaders.{readers_so_far}
 use Rattle.zone_sync.specs.Report.{report}
 use Rattle.zone_devices.specs.Streams.{with_more}
 use Rattle.zone_sync.specs.Notices.{usage_line, fault_line, long_line, bad_line}
 use Rattle.zone_sync.specs.declared.program.Status.{Status}
 use Rattle.zone_sync.specs.declared.program.Status.TheVariants as ends
+
+-- what a link told, before and after: the longest request that it takes, what passed over it, and how often it had failed
+pub record Crossed : Type 0 where
+  pub longest : ℕ
+  pub lists_old : Option LinkLists
+  pub lists_new : Option LinkLists
+  pub faults_old : ℕ
+  pub faults_new : ℕ
+
+abbrev pub crossed : ℕ → Option LinkLists → Option LinkLists → ℕ → ℕ → Crossed
+crossed longest old new f g = record { longest = longest; lists_old = old; lists_new = new; faults_old = f; faults_new = g }
 
 -- the status of a transfer's answer
 abbrev pub status_by : Result SyncOk SyncError → Status
@@ -41,11 +53,11 @@ abbrev pub asking_with : TsigKey → ℕ → Commit → Asking
 asking_with key at base = record { key = key; mode = Axfr; at = at; base = base }
 
 -- a transfer was answered so that it ends with that status, and octets are its report: outcome, count of versions made, the records of the last one, and what it answers to the questions
-pub record Reports (Sends : List ℕ → Option (List Sending) → Type 0) (a : Asking) (at longest : ℕ) (queries : List (Name × ℕ)) (old new : Option LinkLists) (faults_old faults_new : ℕ) (octets : List ℕ) (status : Status) : Type 0 where
+pub record Reports (Sends : List ℕ → Option (List Sending) → Type 0) (a : Asking) (at : ℕ) (queries : List (Name × ℕ)) (link : Crossed) (octets : List ℕ) (status : Status) : Type 0 where
   pub answer : Result SyncOk SyncError
   pub handles : List Commit
   pub session : Session
-  pub transfer : Synchronizes Sends a at longest old new faults_old faults_new [] handles session answer
+  pub transfer : Synchronizes Sends a at link.longest link.lists_old link.lists_new link.faults_old link.faults_new [] handles session answer
   pub ended : status ≡ status_by answer
   pub how : Outcome
   pub names : outcome_of answer ≡ Some how
@@ -62,15 +74,20 @@ primary_version script = close (opened script.primary)
 abbrev pub asking_in : Script TsigKey → TsigKey → Asking
 asking_in script key = asking_with key script.at_secondary (record { number = 0; version = secondary_version script })
 
+-- the same of a script that was read: octets are the report of its transfer from a primary of its zone and key
+abbrev pub ReportsOn : (Provider → TsigKey → ℕ → List ℕ → Option (List Sending) → Type 0) → read_scripts.Script → Crossed → List ℕ → Status → Type 0
+ReportsOn SendsOf script link octets status =
+    Reports (SendsOf (provider_of script.primary.version script.key) script.key script.at_primary) (asking_with script.key script.at_secondary script.secondary) script.at_primary script.queries link octets status
+
 -- what the source had, where it tells it, spells a script, and octets are the report of its transfer from a primary of the script's zone and key that sends so
-pub record Ran (SendsOf : Provider → TsigKey → ℕ → List ℕ → Option (List Sending) → Type 0) (left : Option (List ℕ)) (longest : ℕ) (old new : Option LinkLists) (faults_old faults_new : ℕ) (octets : List ℕ) (status : Status) : Type 0 where
+pub record Ran (SendsOf : Provider → TsigKey → ℕ → List ℕ → Option (List Sending) → Type 0) (left : Option (List ℕ)) (link : Crossed) (octets : List ℕ) (status : Status) : Type 0 where
   pub text : List ℕ
   pub whole : IfSome left (λ had. text ≡ had)
   pub script : Script TsigKey
   pub spells : script_of readers_so_far text ≡ Ok script
   pub key : TsigKey
   pub keyed : script.key ≡ Some key
-  pub reports : Reports (SendsOf (provider_of (primary_version script) key) key script.at_primary) (asking_in script key) script.at_primary longest script.queries old new faults_old faults_new octets status
+  pub reports : Reports (SendsOf (provider_of (primary_version script) key) key script.at_primary) (asking_in script key) script.at_primary script.queries link octets status
 
 -- a script whose zones, key and moments fit each other, and whose request fits the link
 pub record FitsLink (script : Script TsigKey) (key : TsigKey) (longest : ℕ) : Type 0 where
@@ -87,14 +104,14 @@ pub record NamesLine (left : Option (List ℕ)) (octets : List ℕ) : Type 0 whe
   pub is : octets ≡ bad_line number
 
 -- what there is to write with a status; with that of a failed sink nothing is, and a first part of what another status would have written was taken
-abbrev pub IsDue : (Provider → TsigKey → ℕ → List ℕ → Option (List Sending) → Type 0) → Option (List ℕ) → ℕ → Option LinkLists → Option LinkLists → ℕ → ℕ → List ℕ → Status → Type 0
-IsDue SendsOf left longest old new f g octets ends.Usage = octets ≡ usage_line
-IsDue SendsOf left longest old new f g octets ends.Script = NamesLine left octets
-IsDue SendsOf left longest old new f g octets ends.SourceFault = octets ≡ fault_line
-IsDue SendsOf left longest old new f g octets ends.TooLong = octets ≡ long_line
-IsDue SendsOf left longest old new f g octets ends.Memory = octets ≡ []
-IsDue SendsOf left longest old new f g octets ends.SinkFault = ⊥
-IsDue SendsOf left longest old new f g octets status = Ran SendsOf left longest old new f g octets status
+abbrev pub IsDue : (Provider → TsigKey → ℕ → List ℕ → Option (List Sending) → Type 0) → Option (List ℕ) → Crossed → List ℕ → Status → Type 0
+IsDue SendsOf left link octets ends.Usage = octets ≡ usage_line
+IsDue SendsOf left link octets ends.Script = NamesLine left octets
+IsDue SendsOf left link octets ends.SourceFault = octets ≡ fault_line
+IsDue SendsOf left link octets ends.TooLong = octets ≡ long_line
+IsDue SendsOf left link octets ends.Memory = octets ≡ []
+IsDue SendsOf left link octets ends.SinkFault = ⊥
+IsDue SendsOf left link octets status = Ran SendsOf left link octets status
 
 -- a sink took octets of which this holds
 pub record Took (Holds : List ℕ → Type 0) (old new : Option (List ℕ)) : Type 0 where
@@ -109,3 +126,10 @@ pub record TookFirst (Holds : List ℕ → Status → Type 0) (old new : Option 
   pub count : ℕ
   pub due : Holds octets status
   pub taken : new ≡ with_more (take count octets) old
+
+-- What a sink took by the end of a run that gave a status.
+pub record Wrote (Holds : List ℕ → Status → Type 0) (old new : Option (List ℕ)) (status : Status) : Type 0 where
+  -- all that belongs to the status, unless the sink failed
+  pub whole : status ≢ ends.SinkFault → Took (λ octets. Holds octets status) old new
+  -- where it failed, a first part of what belongs to some status
+  pub part : status ≡ ends.SinkFault → TookFirst Holds old new

@@ -3,7 +3,8 @@ ghost use Rattle.std.specs.Prelude.{◌≡◌, ◌≢◌, ◌⊎◌, ◌<◌, �
 ghost use Rattle.zone_model.specs.TransferText.{Axfr};
 ghost use Rattle.zone_devices.specs.Calls.{Rose};
 ghost use Rattle.zone_devices.specs.Streams.{with_more, emptied};
-ghost use Rattle.zone_sync.specs.Reported.{Reports, FitsLink, provider_of, IsDue, Took, TookFirst, status_by, asking_with};
+ghost use Rattle.zone_sync.specs.Reported.{ReportsOn, FitsLink, provider_of, IsDue, Took, TookFirst, Wrote, crossed, status_by};
+ghost use Rattle.zone_sync.specs.Statuses.{TellsLink, TellsScript, TellsSink, TellsSource, TellsWords};
 ghost use Rattle.zone_sync.specs.Primaries.{refuser};
 ghost use Rattle.zone_sync.specs.Serving.{request_at};
 ghost use Rattle.zone_sync.specs.Delivery.{WasHonest};
@@ -90,8 +91,8 @@ fn status_of(outcome: &Result<SyncOk, SyncError>) -> Status
     }
 }
 
-/// Runs the program: tests its words, reads the script, transfers the zone over the link, and writes the report. Nothing waits, so nothing
-/// is asked of `rt`.
+/// Runs the program: tests its words, reads the script, transfers the zone over the link, and writes the report. Nothing
+/// waits, so nothing is asked of `rt`.
 pub fn run<R, S: Source, K: Sink, L: Link>(
     rt: &R,
     alloc: Global,
@@ -101,31 +102,25 @@ pub fn run<R, S: Source, K: Sink, L: Link>(
     link: &mut L,
 ) -> Status
     // What is written with each status; with status 5 a first part of it.
-    ensures written { result ≢ Status.SinkFault → Took (λ octets. IsDue (λ provider key at m. ⟦<Primary as Service<()>>⟧.Sends ((refuser, provider), key) (request_at m at)) (S.remaining src.old) (L.longest link.old) (L.lists link.old) (L.lists link.new) (L.faults link.old) (L.faults link.new) octets result) (K.taken out.old) (K.taken out.new) }
-    ensures part { result ≡ Status.SinkFault → TookFirst (IsDue (λ provider key at m. ⟦<Primary as Service<()>>⟧.Sends ((refuser, provider), key) (request_at m at)) (S.remaining src.old) (L.longest link.old) (L.lists link.old) (L.lists link.new) (L.faults link.old) (L.faults link.new)) (K.taken out.old) (K.taken out.new) }
+    ensures wrote { Wrote
+        (IsDue (λ p key at m. ⟦<Primary as Service<()>>⟧.Sends ((refuser, p), key) (request_at m at))
+        (S.remaining src.old) (crossed (L.longest link.old) (L.lists link.old) (L.lists link.new)
+        (L.faults link.old) (L.faults link.new)))
+        (K.taken out.old) (K.taken out.new) result }
     // Other words are answered by status 2 alone, or by 5, and nothing is read.
-    ensures usage { result ≡ Status.Usage → form_of (map string_bytes words.now) ≢ Some (Transfer Axfr 0) }
-    ensures no_form { form_of (map string_bytes words.now) ≢ Some (Transfer Axfr 0) → (result ≡ Status.Usage) ⊎ (result ≡ Status.SinkFault) }
+    ensures by_words { TellsWords (form_of (map string_bytes words.now)) result }
     ensures unread { form_of (map string_bytes words.now) ≢ Some (Transfer Axfr 0) → src.new ≡ src.old }
-    // The statuses of faults come where a count of faults rose, and only want of memory and a later fault hide one.
-    ensures source_fault { result ≡ Status.SourceFault → Rose (S.faults src.old) (S.faults src.new) }
-    ensures sink_fault { result ≡ Status.SinkFault → Rose (K.faults out.old) (K.faults out.new) }
-    ensures link_fault { result ≡ Status.LinkFault → Rose (L.faults link.old) (L.faults link.new) }
-    ensures source_fails { S.faults src.old < S.faults src.new → (result ≡ Status.SourceFault) ⊎ (result ≡ Status.SinkFault) }
-    ensures sink_fails { K.faults out.old < K.faults out.new → result ≡ Status.SinkFault }
-    ensures link_fails { L.faults link.old < L.faults link.new → (result ≡ Status.LinkFault) ⊎ ((result ≡ Status.SinkFault) ⊎ (result ≡ Status.Memory)) }
-    // A script is too long exactly where it has more octets, and else a line is named exactly where the definition names it.
-    ensures long { result ≡ Status.TooLong → IfSome (S.remaining src.old) (λ left. MOST_OCTETS < length left) }
-    ensures too_long { (text : List ℕ) → form_of (map string_bytes words.now) ≡ Some (Transfer Axfr 0) → S.remaining src.old ≡ Some text → MOST_OCTETS < length text → (result ≡ Status.TooLong) ⊎ IsTrue (is_fault result) }
-    ensures bad_script { (text : List ℕ) (n : ℕ) → form_of (map string_bytes words.now) ≡ Some (Transfer Axfr 0) → S.remaining src.old ≡ Some text → length text ≤ MOST_OCTETS → script_of readers_so_far text ≡ Err n → (result ≡ Status.Script) ⊎ IsTrue (is_fault result) }
-    // Where a script is spelt and no call failed, the transfer is answered, or memory ran out.
-    ensures completes { (text : List ℕ) (script : scripts.Script TsigKey) → form_of (map string_bytes words.now) ≡ Some (Transfer Axfr 0) → S.remaining src.old ≡ Some text → length text ≤ MOST_OCTETS
-        → script_of readers_so_far text ≡ Ok script → ¬ Rose (S.faults src.old) (S.faults src.new) → ¬ Rose (K.faults out.old) (K.faults out.new) → ¬ Rose (L.faults link.old) (L.faults link.new)
-        → (result ≡ Status.Done) ⊎ ((result ≡ Status.Refused) ⊎ (result ≡ Status.Memory)) }
-    // .. and where the script's parts fit each other and the link was honest, it ends well, or memory ran out.
-    ensures delivers { (text : List ℕ) (script : scripts.Script TsigKey) (key : TsigKey) → form_of (map string_bytes words.now) ≡ Some (Transfer Axfr 0) → S.remaining src.old ≡ Some text → length text ≤ MOST_OCTETS
-        → script_of readers_so_far text ≡ Ok script → FitsLink script key (L.longest link.old) → WasHonest (L.lists link.old) (L.lists link.new) (L.faults link.old) (L.faults link.new)
-        → ¬ Rose (S.faults src.old) (S.faults src.new) → ¬ Rose (K.faults out.old) (K.faults out.new) → (result ≡ Status.Done) ⊎ (result ≡ Status.Memory) }
+    // The statuses of faults come where a count of faults rose; only want of memory and a later fault hide one.
+    ensures source_faults { TellsSource (S.faults src.old) (S.faults src.new) result }
+    ensures sink_faults { TellsSink (K.faults out.old) (K.faults out.new) result }
+    ensures link_faults { TellsLink (L.faults link.old) (L.faults link.new) result }
+    // A script is too long only where it has more octets, and what one says decides the status.
+    ensures long { result ≡ Status.TooLong → IfSome (S.remaining src.old) (λ xs. MOST_OCTETS < length xs) }
+    ensures by_script { (text : List ℕ) → form_of (map string_bytes words.now) ≡ Some (Transfer Axfr 0)
+        → S.remaining src.old ≡ Some text
+        → TellsScript text (S.faults src.old) (S.faults src.new) (K.faults out.old) (K.faults out.new)
+        (crossed (L.longest link.old) (L.lists link.old) (L.lists link.new)
+        (L.faults link.old) (L.faults link.new)) result }
     // With a report or the number of a line, the source was read to its end.
     ensures none_left { IsTrue (is_read result) → S.remaining src.new ≡ emptied (S.remaining src.old) }
 {
@@ -146,8 +141,7 @@ fn write_last<K: Sink>(out: &mut K, octets: &[u8], status: Status) -> Status
     ensures done { result ≢ Status.SinkFault → result ≡ status }
     ensures written { result ≢ Status.SinkFault → K.taken out.new ≡ with_more octets.now (K.taken out.old) }
     ensures part { (n : ℕ) × (K.taken out.new ≡ with_more (take n octets.now) (K.taken out.old)) }
-    ensures failed { result ≡ Status.SinkFault → Rose (K.faults out.old) (K.faults out.new) }
-    ensures steady { result ≢ Status.SinkFault → K.faults out.new ≡ K.faults out.old }
+    ensures sink_faults { TellsSink (K.faults out.old) (K.faults out.new) result }
 {
     match write_all(out, octets) {
         Ok(()) => status,
@@ -163,16 +157,21 @@ fn run_script<R, K: Sink, L: Link>(
     out: &mut K,
     link: &mut L,
 ) -> Status
-    ensures written { result ≢ Status.SinkFault → Took (λ octets. IsDue (λ provider key at m. ⟦<Primary as Service<()>>⟧.Sends ((refuser, provider), key) (request_at m at)) (Some text.now) (L.longest link.old) (L.lists link.old) (L.lists link.new) (L.faults link.old) (L.faults link.new) octets result) (K.taken out.old) (K.taken out.new) }
-    ensures part { result ≡ Status.SinkFault → TookFirst (IsDue (λ provider key at m. ⟦<Primary as Service<()>>⟧.Sends ((refuser, provider), key) (request_at m at)) (Some text.now) (L.longest link.old) (L.lists link.old) (L.lists link.new) (L.faults link.old) (L.faults link.new)) (K.taken out.old) (K.taken out.new) }
-    ensures sink_fault { result ≡ Status.SinkFault → Rose (K.faults out.old) (K.faults out.new) }
-    ensures link_fault { result ≡ Status.LinkFault → Rose (L.faults link.old) (L.faults link.new) }
-    ensures link_fails { L.faults link.old < L.faults link.new → (result ≡ Status.LinkFault) ⊎ ((result ≡ Status.SinkFault) ⊎ (result ≡ Status.Memory)) }
-    ensures delivers { (script : scripts.Script TsigKey) (key : TsigKey) → script_of readers_so_far text.now ≡ Ok script → FitsLink script key (L.longest link.old)
-        → WasHonest (L.lists link.old) (L.lists link.new) (L.faults link.old) (L.faults link.new) → ¬ Rose (K.faults out.old) (K.faults out.new) → (result ≡ Status.Done) ⊎ (result ≡ Status.Memory) }
-    ensures steady { result ≢ Status.SinkFault → K.faults out.new ≡ K.faults out.old }
-    ensures script { (s : scripts.Script TsigKey) → script_of readers_so_far text.now ≡ Ok s → result ≢ Status.Script }
-    ensures bad_script { (n : ℕ) → script_of readers_so_far text.now ≡ Err n → (result ≡ Status.Script) ⊎ IsTrue (is_fault result) }
+    ensures wrote { Wrote
+        (IsDue (λ p key at m. ⟦<Primary as Service<()>>⟧.Sends ((refuser, p), key) (request_at m at))
+        (Some text.now) (crossed (L.longest link.old) (L.lists link.old) (L.lists link.new)
+        (L.faults link.old) (L.faults link.new)))
+        (K.taken out.old) (K.taken out.new) result }
+    ensures sink_faults { TellsSink (K.faults out.old) (K.faults out.new) result }
+    ensures link_faults { TellsLink (L.faults link.old) (L.faults link.new) result }
+    ensures delivers { (script : scripts.Script TsigKey) (key : TsigKey)
+        → script_of readers_so_far text.now ≡ Ok script → FitsLink script key (L.longest link.old)
+        → WasHonest (L.lists link.old) (L.lists link.new) (L.faults link.old) (L.faults link.new)
+        → ¬ Rose (K.faults out.old) (K.faults out.new) → (result ≡ Status.Done) ⊎ (result ≡ Status.Memory) }
+    ensures script { (s : scripts.Script TsigKey) → script_of readers_so_far text.now ≡ Ok s
+        → result ≢ Status.Script }
+    ensures bad_script { (n : ℕ) → script_of readers_so_far text.now ≡ Err n
+        → (result ≡ Status.Script) ⊎ IsTrue (is_fault result) }
     ensures others { (result ≢ Status.Usage) × (result ≢ Status.SourceFault) × (result ≢ Status.TooLong) }
 {
     // For the proof: such a primary grants.
@@ -186,10 +185,10 @@ fn run_script<R, K: Sink, L: Link>(
 
 /// Writes the number of a bad line.
 fn write_bad_line<K: Sink>(alloc: Global, out: &mut K, number: u64) -> Status
-    ensures sink_fault { result ≡ Status.SinkFault → Rose (K.faults out.old) (K.faults out.new) }
-    ensures steady { result ≢ Status.SinkFault → K.faults out.new ≡ K.faults out.old }
+    ensures sink_faults { TellsSink (K.faults out.old) (K.faults out.new) result }
     ensures written { result ≡ Status.Script → K.taken out.new ≡ with_more (bad_line number) (K.taken out.old) }
-    ensures part { result ≡ Status.SinkFault → (n : ℕ) × (K.taken out.new ≡ with_more (take n (bad_line number)) (K.taken out.old)) }
+    ensures part { result ≡ Status.SinkFault
+        → (n : ℕ) × (K.taken out.new ≡ with_more (take n (bad_line number)) (K.taken out.old)) }
     ensures nothing { result ≡ Status.Memory → K.taken out.new ≡ K.taken out.old }
     ensures others { (result ≡ Status.Script) ⊎ ((result ≡ Status.SinkFault) ⊎ (result ≡ Status.Memory)) }
 {
@@ -207,18 +206,23 @@ fn run_transfer<R, K: Sink, L: Link>(
     out: &mut K,
     link: &mut L,
 ) -> Status
-    ensures sink_fault { result ≡ Status.SinkFault → Rose (K.faults out.old) (K.faults out.new) }
-    ensures link_fault { result ≡ Status.LinkFault → Rose (L.faults link.old) (L.faults link.new) }
-    ensures link_fails { L.faults link.old < L.faults link.new → (result ≡ Status.LinkFault) ⊎ ((result ≡ Status.SinkFault) ⊎ (result ≡ Status.Memory)) }
+    ensures sink_faults { TellsSink (K.faults out.old) (K.faults out.new) result }
+    ensures link_faults { TellsLink (L.faults link.old) (L.faults link.new) result }
     ensures written { IsTrue (is_reported result)
-        → Took (λ octets. Reports (λ m. ⟦<Primary as Service<()>>⟧.Sends ((refuser, provider_of script.primary.version script.key), script.key) (request_at m script.at_primary))
-        (asking_with script.key script.at_secondary script.secondary) script.at_primary (L.longest link.old) script.queries (L.lists link.old) (L.lists link.new) (L.faults link.old) (L.faults link.new) octets result) (K.taken out.old) (K.taken out.new) }
+        → Took (λ octets. ReportsOn
+        (λ p key at m. ⟦<Primary as Service<()>>⟧.Sends ((refuser, p), key) (request_at m at)) script
+        (crossed (L.longest link.old) (L.lists link.old) (L.lists link.new)
+        (L.faults link.old) (L.faults link.new)) octets result)
+        (K.taken out.old) (K.taken out.new) }
     ensures part { result ≡ Status.SinkFault
-        → TookFirst (Reports (λ m. ⟦<Primary as Service<()>>⟧.Sends ((refuser, provider_of script.primary.version script.key), script.key) (request_at m script.at_primary))
-        (asking_with script.key script.at_secondary script.secondary) script.at_primary (L.longest link.old) script.queries (L.lists link.old) (L.lists link.new) (L.faults link.old) (L.faults link.new)) (K.taken out.old) (K.taken out.new) }
+        → TookFirst (ReportsOn
+        (λ p key at m. ⟦<Primary as Service<()>>⟧.Sends ((refuser, p), key) (request_at m at)) script
+        (crossed (L.longest link.old) (L.lists link.old) (L.lists link.new)
+        (L.faults link.old) (L.faults link.new)))
+        (K.taken out.old) (K.taken out.new) }
     ensures nothing { result ≡ Status.Memory → K.taken out.new ≡ K.taken out.old }
-    ensures steady { result ≢ Status.SinkFault → K.faults out.new ≡ K.faults out.old }
-    ensures others { (result ≢ Status.Usage) × (result ≢ Status.SourceFault) × (result ≢ Status.TooLong) × (result ≢ Status.Script) }
+    ensures others { (result ≢ Status.Usage) × (result ≢ Status.SourceFault) × (result ≢ Status.TooLong)
+        × (result ≢ Status.Script) }
 {
     match transfer(rt, alloc, script, link) {
         Ok((report, status)) => write_last(out, report.as_slice(), status),
@@ -246,8 +250,10 @@ fn transfer<R, L: Link>(
     script: Script,
     link: &mut L,
 ) -> Result<(Vec<u8>, Status), AllocError>
-    ensures report { IfOk result (λ r. Reports (λ m. ⟦<Primary as Service<()>>⟧.Sends ((refuser, provider_of script.primary.version script.key), script.key) (request_at m script.at_primary))
-        (asking_with script.key script.at_secondary script.secondary) script.at_primary (L.longest link.old) script.queries (L.lists link.old) (L.lists link.new) (L.faults link.old) (L.faults link.new) r.0.items r.1) }
+    ensures report { IfOk result (λ r. ReportsOn
+        (λ p key at m. ⟦<Primary as Service<()>>⟧.Sends ((refuser, p), key) (request_at m at)) script
+        (crossed (L.longest link.old) (L.lists link.old) (L.lists link.new)
+        (L.faults link.old) (L.faults link.new)) r.0.items r.1) }
     ensures link_fault { IfOk result (λ r. r.1 ≡ Status.LinkFault → Rose (L.faults link.old) (L.faults link.new)) }
     ensures link_fails { IfOk result (λ r. L.faults link.old < L.faults link.new → r.1 ≡ Status.LinkFault) }
     ensures others { IfOk result (λ r. IsTrue (is_reported r.1)) }

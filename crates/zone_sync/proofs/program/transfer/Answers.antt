@@ -11,7 +11,7 @@ returns-clause-report g c =
     (c.len.ensures ∙ c.sync_zone-outcome.new.made.ok.0) c.in_ok-zone.ensures.current c.status_of.ensures c.as_slice-queries.ensures c.in_ok-report.ensures
 
 pub returns-clause-others : goal.returns-clause-others
-returns-clause-others g c = ends_reported _ _ _ _ _ _ _ _ _ _ _ (returns-clause-report g c)
+returns-clause-others g c = ends_reported _ _ _ _ _ _ _ (returns-clause-report g c)
 
 pub returns-clause-link_fault : goal.returns-clause-link_fault
 returns-clause-link_fault g c = λ h. c.sync_zone-outcome.ensures.failed (link_failed c.sync_zone-outcome.result c.status_of.result c.status_of.ensures h)
