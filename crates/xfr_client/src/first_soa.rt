@@ -1,9 +1,11 @@
 // The SOA record that a transfer begins with, kept without memory of its own.
 ghost use Rattle.std.specs.Prelude.{◌≡◌, IfSome, IfNone, true, false};
+ghost use Rattle.dns_name.specs.Records.{same_data};
+ghost use Rattle.dns_rdata.specs.DataFields.{soa_fields};
 ghost use Rattle.dns_rdata.specs.Soa.{serial_of};
 ghost use Rattle.zone_model.specs.TransferText.{is_soa, is_same_soa};
 
-use dns_name::{KeyName, Labelled, Serial};
+use dns_name::{KeyName, Labelled, Serial, ToName};
 use dns_rdata::{ReadRecord, Record, RecordData, Soa, ZoneRecordData};
 
 /// The first SOA record of a transfer, its names in place.
@@ -58,12 +60,19 @@ pub fn duplicate(first: &FirstSoa) -> FirstSoa
     )
 }
 
+// Whether SOA data are equal: the names ASCII case aside, and the five numbers (RFC 1035, 3.3.13).
+fn are_same_data<N: ToName + Drop, M: Labelled + Drop>(a: &Soa<N>, b: &Soa<M>) -> bool
+    ensures { result ≡ same_data (soa_fields N.labels a.now) (soa_fields M.labels b.now) }
+{
+    a.mname().name_eq(b.mname()) && a.rname().name_eq(b.rname()) && a.times() == b.times()
+}
+
 /// Whether the record is an SOA with the first one's data, letters' case in names aside (RFC 1035, 3.3.13).
 pub fn is_same_soa(first: &FirstSoa, found: &ReadRecord<'_>) -> bool
     ensures { result ≡ is_same_soa first.now found.now }
 {
     match found.data() {
-        ZoneRecordData::Soa(soa) => first.data().data_eq(soa),
+        ZoneRecordData::Soa(soa) => are_same_data(first.data(), soa),
         ZoneRecordData::Unknown(octets) => {
             // For the proof: octets of an unknown type aren't SOA data.
             let _ = octets.rdlen();
