@@ -1,72 +1,77 @@
 -- Calls that add records to a message.
-use Rattle.std.proofs.Common.{◌≡◌, ℕ, true, List, [], ◌∷◌, ◌++◌, Some, None, refl, sym, ap, ◌∙◌, subst}
+use Rattle.std.proofs.Common.{◌≡◌, ℕ, ◌≤◌, true, List, [], ◌∷◌, ◌++◌, length, Some, None, refl, sym, ap, ◌∙◌, subst, arith}
 use Rattle.std.specs.Prelude.{Result, Ok, Err, option_map, flat_map}
+use Rattle.std.specs.Result.{result_map_both}
+use Rattle.std.proofs.lemmas.List.{append_assoc, append-nil}
 use Rattle.dns_name.specs.Codes.{type_soa}
 use Rattle.dns_rdata.specs.Records.{Field, Record, record_wire}
-use Rattle.dns_wire.specs.Wire.{Building, fits, message_wire, with_answer}
-use Rattle.dns_wire.specs.Builds.{Adds, building}
+use Rattle.dns_wire.specs.Wire.{Building, Header, Question, header_in, in_answer, fits, message_wire}
+use Rattle.dns_wire.specs.Parse.{questions_in}
+use Rattle.dns_wire.specs.Builds.{Adds, Builds, building}
 use Rattle.dns_wire.specs.declared.builder.PushError.{PushError}
 use Rattle.dns_wire.specs.declared.builder.PushError.TheVariants.{ShortBuf, CountOverflow, Memory}
+use Rattle.dns_wire.proofs.Pushing.{message_wire-more_answers, answers-counted}
+use Rattle.dns_wire.proofs.Questions.{not_fitting}
 use Rattle.zone_model.specs.Version.{RecordSet, Version, set_at}
 use Rattle.zone_model.specs.Answer.{apex_soa_record, first_only, records_of, records_of_option}
 use Rattle.zone_model.specs.Offer.{whole_text}
 use Rattle.zone_model.specs.Walk.{Stop, walk}
-use Rattle.xfr_server.specs.TransferMessage.{transfer_message, with_answers, have_room, AddsAnswers, Writes, is_soa_stop, stop_records}
-use Rattle.xfr_server.proofs.Answers.{with_none, with_more, with_append, room_none, room_more, room_short, room_full, room_behind, room_refused, held_transfer, written_transfer}
+use Rattle.xfr_server.specs.TransferMessage.{transfer_header, transfer_message, AddsAnswers, is_soa_stop, stop_records}
+use Rattle.xfr_server.proofs.Answers.{longer, few}
 use Rattle.xfr_server.proofs.Middle.{middle_by_stops}
 
 -- ---- no record, one record, and records after records
 
 pub adds_none : (rs : List Record) (old : Building) (u : Unit {0}) → rs ≡ [] → AddsAnswers rs old (Ok u) old
-adds_none rs old u e =
-    (ap (have_room old.limit old.octets) e ∙ room_none old.limit old.octets, sym (ap (λ octets. building octets old.limit) (ap (with_answers old.octets) e ∙ with_none old.octets)))
+adds_none rs old u none h qs before limit built =
+    let P : List Record → Type 0 = λ xs. Builds (message_wire (in_answer h qs xs)) limit (Ok old) in
+    subst P (sym (ap (λ xs. before ++ xs) none ∙ append-nil before)) built
 
-pub adds_one : (r : Record) (old new : Building) (result : Result (Unit {0}) PushError) → Adds 6 (record_wire r) old result new → AddsAnswers (r ∷ []) old result new
-adds_one r old new (Ok u) added = (
-  room_more old.limit old.octets r [] added.0 added.1 ∙ room_none old.limit (with_answer old.octets r),
-  added.2 ∙ ap (λ octets. building octets old.limit) (sym (with_more old.octets r [] ∙ with_none (with_answer old.octets r))),
-)
-adds_one r old new (Err ShortBuf) added = room_short old.limit old.octets r [] added.0
-adds_one r old new (Err CountOverflow) added = room_full old.limit old.octets r [] added.1
-adds_one r old new (Err Memory) added = tt
+one_at : (h : Header) (qs : List Question) (before : List Record) (limit : ℕ) (r : Record) (new : Building) (result : Result (Unit {0}) PushError)
+    → fits limit (message_wire (in_answer h qs before)) ≡ true → Adds 6 (record_wire r) (building (message_wire (in_answer h qs before)) limit) result new
+    → Builds (message_wire (in_answer h qs (before ++ r ∷ []))) limit (result_map_both (λ a. new) (λ e. e) result)
+one_at h qs before limit r new (Ok u) fit added =
+    let is = message_wire-more_answers h qs before r (omega (arith, few limit h qs before fit)) in
+    (ap (fits limit) is ∙ added.0, added.2 ∙ ap (λ octets. building octets limit) (sym is))
+one_at h qs before limit r new (Err ShortBuf) fit added =
+    ap (fits limit) (message_wire-more_answers h qs before r (omega (arith, few limit h qs before fit))) ∙ added.0
+one_at h qs before limit r new (Err CountOverflow) fit added =
+    let small = few limit h qs before fit in
+    omega (arith, added.1, answers-counted h qs before (omega (arith, small)), small)
+one_at h qs before limit r new (Err Memory) fit added = tt
 
--- a refusal of the first of some records refuses all
-pub refused_first : (r : Record) (rs : List Record) (old new after : Building) (e : PushError) → Adds {A = Unit {0}} 6 (record_wire r) old (Err e) new → AddsAnswers {A = Unit {0}} (r ∷ rs) old (Err e) after
-refused_first r rs old new after ShortBuf added = room_short old.limit old.octets r rs added.0
-refused_first r rs old new after CountOverflow added = room_full old.limit old.octets r rs added.1
-refused_first r rs old new after Memory added = tt
-
--- so does a refusal of a front
-pub refused_front : (xs ys : List Record) (old new after : Building) (e : PushError) → AddsAnswers {A = Unit {0}} xs old (Err e) new → AddsAnswers {A = Unit {0}} (xs ++ ys) old (Err e) after
-refused_front xs ys old new after ShortBuf added = room_refused old.limit old.octets xs ys added
-refused_front xs ys old new after CountOverflow added = room_refused old.limit old.octets xs ys added
-refused_front xs ys old new after Memory added = tt
+pub adds_one : (r made : Record) (old new : Building) (result : Result (Unit {0}) PushError) → made ≡ r → Adds 6 (record_wire made) old result new
+    → AddsAnswers (r ∷ []) old result new
+adds_one r made old new result is added h qs before limit built =
+    let P : Record → Type 0 = λ m. Adds 6 (record_wire m) old result new in
+    let Q : Building → Type 0 = λ b. Adds 6 (record_wire r) b result new in
+    one_at h qs before limit r new result built.0 (subst Q built.1 (subst P is added))
 
 -- records after a front that was added
 pub adds_behind : (xs ys : List Record) (old mid new : Building) (u : Unit {0}) (result : Result (Unit {0}) PushError)
     → AddsAnswers xs old (Ok u) mid → AddsAnswers ys mid result new → AddsAnswers (xs ++ ys) old result new
-adds_behind xs ys old mid new u (Ok v) front back =
-    let then = rw front.1 at back in
-    (room_behind old.limit old.octets xs ys front.0 ∙ then.0, then.1 ∙ ap (λ octets. building octets old.limit) (sym (with_append old.octets xs ys)))
-adds_behind xs ys old mid new u (Err ShortBuf) front back =
-    let then = rw front.1 at back in
-    room_behind old.limit old.octets xs ys front.0 ∙ then
-adds_behind xs ys old mid new u (Err CountOverflow) front back =
-    let then = rw front.1 at back in
-    room_behind old.limit old.octets xs ys front.0 ∙ then
-adds_behind xs ys old mid new u (Err Memory) front back = tt
+adds_behind xs ys old mid new u result front back h qs before limit built =
+    let P : List Record → Type 0 = λ rs. Builds (message_wire (in_answer h qs rs)) limit (result_map_both (λ a. new) (λ e. e) result) in
+    subst P (append_assoc before xs ys) (back h qs (before ++ xs) limit (front h qs before limit built))
 
--- the same where an equation says what is left
-pub refused_as : (xs rs : List Record) (now old new after : Building) (e : PushError) → now.limit ≡ old.limit → have_room now.limit now.octets xs ≡ have_room old.limit old.octets rs
-    → AddsAnswers {A = Unit {0}} xs now (Err e) new → AddsAnswers {A = Unit {0}} rs old (Err e) after
-refused_as xs rs now old new after ShortBuf limit same refused = sym same ∙ refused
-refused_as xs rs now old new after CountOverflow limit same refused = sym same ∙ refused
-refused_as xs rs now old new after Memory limit same refused = tt
+-- what refuses octets refuses more of them
+refused_more : (octets more : List ℕ) (limit : ℕ) (e : PushError) → length octets ≤ length more → Builds octets limit (Err e) → Builds more limit (Err e)
+refused_more octets more limit ShortBuf longer refused = not_fitting limit octets more longer refused
+refused_more octets more limit CountOverflow longer refused = refused
+refused_more octets more limit Memory longer refused = tt
 
-pub added_all : (rs : List Record) (now old : Building) (u : Unit {0}) → now.limit ≡ old.limit → have_room now.limit now.octets [] ≡ have_room old.limit old.octets rs
-    → with_answers now.octets [] ≡ with_answers old.octets rs → AddsAnswers rs old (Ok u) now
-added_all rs now old u limit room octets =
-    (sym room ∙ room_none now.limit now.octets, ap (λ l. building now.octets l) limit ∙ ap (λ o. building o old.limit) (sym (with_none now.octets) ∙ octets))
+-- so a refusal of a front refuses all
+pub refused_front : (xs ys : List Record) (old new : Building) (e : PushError) → AddsAnswers {A = Unit {0}} xs old (Err e) new → AddsAnswers {A = Unit {0}} (xs ++ ys) old (Err e) new
+refused_front xs ys old new e refused h qs before limit built =
+    let P : List Record → Type 0 = λ rs. Builds (message_wire (in_answer h qs rs)) limit (Err e) in
+    subst P (append_assoc before xs ys)
+    (refused_more (message_wire (in_answer h qs (before ++ xs))) (message_wire (in_answer h qs ((before ++ xs) ++ ys))) limit e (longer h qs (before ++ xs) ys) (refused h qs before limit built))
+
+-- an answer that can't be begun can't have records
+pub not_begun : (request : List ℕ) (rs : List Record) (limit : ℕ) (e : PushError) → Builds (message_wire (transfer_message request [])) limit (Err e)
+    → Builds (message_wire (transfer_message request rs)) limit (Err e)
+not_begun request rs limit e refused =
+    refused_more (message_wire (transfer_message request [])) (message_wire (transfer_message request rs)) limit e (longer (transfer_header (header_in request)) (questions_in request) [] rs) refused
 
 -- ---- the apex SOA
 
@@ -84,21 +89,6 @@ soa_first v s d more e first =
     ap (λ o. records_of_option v.apex type_soa v.class (option_map first_only o)) e
     ∙ ap (λ items. records_of v.apex type_soa v.class (first_only (record { ttl = s.ttl; items = items }))) first
 
--- ---- whole messages
-
-pub writes_text : (request : List ℕ) (limit : ℕ) (rs : List Record) (old new : Building) (u : Unit {0}) → fits limit (message_wire (transfer_message request [])) ≡ true
-    → old ≡ building (message_wire (transfer_message request [])) limit → AddsAnswers rs old (Ok u) new → Writes (transfer_message request rs) limit (Ok new)
-writes_text request limit rs old new u fit begun added =
-    let all = rw begun at added in
-    let held = sym (held_transfer request limit rs fit) ∙ all.0 in
-    (held, all.1 ∙ ap (λ octets. building octets limit) (written_transfer request limit rs held))
-
-pub refuses_text : (request : List ℕ) (limit : ℕ) (rs : List Record) (old new : Building) (e : PushError) → fits limit (message_wire (transfer_message request [])) ≡ true
-    → old ≡ building (message_wire (transfer_message request [])) limit → AddsAnswers {A = Unit {0}} rs old (Err e) new → Writes (transfer_message request rs) limit (Err e)
-refuses_text request limit rs old new ShortBuf fit begun refused = let out = rw begun at refused in sym (held_transfer request limit rs fit) ∙ out
-refuses_text request limit rs old new CountOverflow fit begun refused = let out = rw begun at refused in sym (held_transfer request limit rs fit) ∙ out
-refuses_text request limit rs old new Memory fit begun refused = tt
-
 -- ---- stops, and the whole text
 
 pub soa_stop_none : (v : Version) (s : Stop) → is_soa_stop v s ≡ true → stop_records v s ≡ []
@@ -114,15 +104,15 @@ as_whole v old new result added =
     let P : List Record → Type 0 = λ rs. AddsAnswers rs old result new in
     subst P (whole_is v) added
 
-pub whole_without_first : (v : Version) (old new after : Building) (e : PushError) → AddsAnswers {A = Unit {0}} (apex_soa_record v) old (Err e) new → AddsAnswers {A = Unit {0}} (whole_text v) old (Err e) after
-whole_without_first v old new after e refused =
-    as_whole v old after (Err e) (refused_front (apex_soa_record v ++ flat_map (stop_records v) (walk v)) (apex_soa_record v) old new after e
-    (refused_front (apex_soa_record v) (flat_map (stop_records v) (walk v)) old new new e refused))
+pub whole_without_first : (v : Version) (old new : Building) (e : PushError) → AddsAnswers {A = Unit {0}} (apex_soa_record v) old (Err e) new → AddsAnswers {A = Unit {0}} (whole_text v) old (Err e) new
+whole_without_first v old new e refused =
+    as_whole v old new (Err e) (refused_front (apex_soa_record v ++ flat_map (stop_records v) (walk v)) (apex_soa_record v) old new e
+    (refused_front (apex_soa_record v) (flat_map (stop_records v) (walk v)) old new e refused))
 
-pub whole_without_middle : (v : Version) (old mid new after : Building) (u : Unit {0}) (e : PushError) → AddsAnswers (apex_soa_record v) old (Ok u) mid
-    → AddsAnswers {A = Unit {0}} (flat_map (stop_records v) (walk v)) mid (Err e) new → AddsAnswers {A = Unit {0}} (whole_text v) old (Err e) after
-whole_without_middle v old mid new after u e first refused =
-    as_whole v old after (Err e) (refused_front (apex_soa_record v ++ flat_map (stop_records v) (walk v)) (apex_soa_record v) old new after e
+pub whole_without_middle : (v : Version) (old mid new : Building) (u : Unit {0}) (e : PushError) → AddsAnswers (apex_soa_record v) old (Ok u) mid
+    → AddsAnswers {A = Unit {0}} (flat_map (stop_records v) (walk v)) mid (Err e) new → AddsAnswers {A = Unit {0}} (whole_text v) old (Err e) new
+whole_without_middle v old mid new u e first refused =
+    as_whole v old new (Err e) (refused_front (apex_soa_record v ++ flat_map (stop_records v) (walk v)) (apex_soa_record v) old new e
     (adds_behind (apex_soa_record v) (flat_map (stop_records v) (walk v)) old mid new u (Err e) first refused))
 
 pub whole_with_all : (v : Version) (old first_done middle_done new : Building) (u w : Unit {0}) (result : Result (Unit {0}) PushError) → AddsAnswers (apex_soa_record v) old (Ok u) first_done

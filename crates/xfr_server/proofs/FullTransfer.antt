@@ -11,7 +11,7 @@ use Rattle.tsig_port.specs.ServerCheck.{Keys, Verdict}
 use Rattle.zone_model.specs.Version.{has_one_apex_soa}
 use Rattle.zone_model.specs.Offer.{Offer, whole_text}
 use Rattle.xfr_server.specs.Items.{Sending, sent_by, all_given}
-use Rattle.xfr_server.specs.TransferMessage.{transfer_header, transfer_message, can_hold}
+use Rattle.xfr_server.specs.TransferMessage.{transfer_header, transfer_message}
 use Rattle.xfr_server.specs.Transfers.{chosen, transfer_replies, reply_limit, transaction, asked_serial, asks_for_apex}
 use Rattle.xfr_server.specs.Transfers.Choice.{Whole}
 use Rattle.xfr_server.specs.Signing.{Signer, can_be_signed, signed_reply, signed_items}
@@ -43,7 +43,7 @@ whole_chosen told message offer given apex one = rw (given, apex, one) refl
 
 -- and written
 whole_written : (told : Option ℕ → Result Offer XfrDataProviderError) (message : List ℕ) (offer : Offer) (reserved : ℕ)
-    → chosen told Axfr false message ≡ Whole offer.version → can_hold (reply_limit NonUdp reserved) (transfer_message message (whole_text offer.version)) ≡ true
+    → chosen told Axfr false message ≡ Whole offer.version → fits (reply_limit NonUdp reserved) (message_wire (transfer_message message (whole_text offer.version))) ≡ true
     → transfer_replies told Axfr NonUdp reserved message ≡ Some (transaction (record { octets = message_wire (transfer_message message (whole_text offer.version)); limit = reply_limit NonUdp reserved }))
 whole_written told message offer reserved chooses held = rw chooses (rw held refl)
 
@@ -55,9 +55,9 @@ none_additional : (request : List ℕ) (rs : List Record) → arcount_in (messag
 none_additional request rs = refl
 
 -- there is room for it, and for its signature
-has_room : (key : TsigKey) (m : Message) → length m.answers < 65536 → length (message_wire m) + compose_len key ≤ 65535
-    → can_hold (reply_limit NonUdp (min (0 + compose_len key) 65535)) m ≡ true
-has_room key m few room = grind (arith, nat_tests)
+has_room : (key : TsigKey) (m : Message) → length (message_wire m) + compose_len key ≤ 65535
+    → fits (reply_limit NonUdp (min (0 + compose_len key) 65535)) (message_wire m) ≡ true
+has_room key m room = grind (arith, nat_tests)
 
 fits_whole : (octets : List ℕ) → length octets ≤ 65535 → fits 65535 octets ≡ true
 fits_whole octets few = grind (arith, nat_tests)
@@ -111,7 +111,7 @@ whole_sent IsDefault the_key keys Next told r key offer sent g sends =
     let written : transfer_replies (told message (Some found.0)) Axfr NonUdp reserved message ≡ Some (transaction reply) =
     whole_written (told message (Some found.0)) message offer reserved
     (whole_chosen (told message (Some found.0)) message offer (g.granted found.0 found.1.1) g.apex g.one_soa)
-    (has_room key m g.few g.room) in
+    (has_room key m g.room) in
     let given : by_key.given ≡ Some (all_given (transaction reply)) =
     given_is (told message) message by_key.known found.0 r.transport r.reserved (compose_len key) by_key.given (transaction reply) own found.1.0 g.stream g.fresh written in
     let can : can_be_signed s None (message_wire m) ≡ true = has_room_signed s message (whole_text offer.version) g.macs g.room in

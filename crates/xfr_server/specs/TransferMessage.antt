@@ -1,13 +1,14 @@
 -- The messages of a transfer, and records that are added to one (RFC 5936, 2.2).
-use Rattle.std.specs.Prelude.{◌≡◌, ℕ, Bool, true, false, ◌&&◌, not, ◌==◌, nat_lt, List, [], ◌∷◌, length, Result, Ok, Err, if◌then◌else◌}
+use Rattle.std.specs.Prelude.{ℕ, Bool, true, ◌&&◌, ◌==◌, List, [], ◌++◌, Result, Ok, if◌then◌else◌}
+use Rattle.std.specs.Result.{result_map_both}
 use Rattle.dns_name.specs.Names.{same_name}
 use Rattle.dns_name.specs.Codes.{type_soa}
 use Rattle.dns_rdata.specs.Records.{Record}
-use Rattle.dns_wire.specs.Wire.{Building, Header, Message, header_in, in_answer, message_wire, with_answer, ancount_in, fits}
+use Rattle.dns_wire.specs.Wire.{Building, Header, Message, Question, header_in, in_answer, message_wire}
 use Rattle.dns_wire.specs.Parse.{questions_in}
 use Rattle.dns_wire.specs.Reply.{answer_header}
+use Rattle.dns_wire.specs.Builds.{Builds}
 use Rattle.dns_wire.specs.declared.builder.PushError.{PushError}
-use Rattle.dns_wire.specs.declared.builder.PushError.TheVariants.{ShortBuf, CountOverflow, Memory}
 use Rattle.zone_model.specs.Version.{Version}
 use Rattle.zone_model.specs.Answer.{records_of}
 use Rattle.zone_model.specs.Walk.{Stop}
@@ -20,35 +21,14 @@ transfer_header request = record (answer_header request 0) { aa = true }
 abbrev pub transfer_message : List ℕ → List Record → Message
 transfer_message request records = in_answer (transfer_header (header_in request)) (questions_in request) records
 
--- whether a message is within a limit, and its answers can be counted (RFC 1035, 4.1.1)
-abbrev pub can_hold : ℕ → Message → Bool
-can_hold limit m = fits limit (message_wire m) && nat_lt (length m.answers) 65536
+-- ---- records after records
 
--- One case for each answer of a call that writes a message: this one, where it can be held; else a PushError.
-abbrev pub Writes : Message → ℕ → Result Building PushError → Type 0
-Writes m limit (Ok b) = (can_hold limit m ≡ true) × (b ≡ record { octets = message_wire m; limit = limit })
-Writes m limit (Err ShortBuf) = can_hold limit m ≡ false
-Writes m limit (Err CountOverflow) = can_hold limit m ≡ false
-Writes m limit (Err Memory) = Unit {0}
-
--- ---- records one after another
-
--- the message with these answers at its end
-unfoldable pub with_answers : List ℕ → List Record → List ℕ
-with_answers message [] = message
-with_answers message (r ∷ rs) = with_answers (with_answer message r) rs
-
--- whether each of them fits and can be counted when its turn comes
-unfoldable pub have_room : ℕ → List ℕ → List Record → Bool
-have_room limit message [] = true
-have_room limit message (r ∷ rs) = fits limit (with_answer message r) && not (ancount_in message == 65535) && have_room limit (with_answer message r) rs
-
--- One case for each answer of a call that adds several answers: all added where all have room; else a PushError.
+-- What a call answers that adds answers to a message: the message with these after those that it has is built, within the same limit.
+-- So it is ShortBuf where that doesn't fit, and never CountOverflow: no message of up to 65,535 octets has so many records.
 abbrev pub AddsAnswers : {A : Type 0} → List Record → Building → Result A PushError → Building → Type 0
-AddsAnswers rs old (Ok a) new = (have_room old.limit old.octets rs ≡ true) × (new ≡ record old { octets = with_answers old.octets rs })
-AddsAnswers rs old (Err ShortBuf) new = have_room old.limit old.octets rs ≡ false
-AddsAnswers rs old (Err CountOverflow) new = have_room old.limit old.octets rs ≡ false
-AddsAnswers rs old (Err Memory) new = Unit {0}
+AddsAnswers rs old result new = (h : Header) (qs : List Question) (before : List Record) (limit : ℕ)
+    → Builds (message_wire (in_answer h qs before)) limit (Ok old)
+    → Builds (message_wire (in_answer h qs (before ++ rs))) limit (result_map_both (λ a. new) (λ e. e) result)
 
 -- ---- stops of a walk
 

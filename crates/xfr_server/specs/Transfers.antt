@@ -5,7 +5,7 @@ use Rattle.dns_name.specs.Serial.{serial_upto}
 use Rattle.dns_name.specs.Codes.{formerr, servfail, notauth, type_soa, type_axfr, type_ixfr}
 use Rattle.dns_rdata.specs.Heads.{RawRecord, readable}
 use Rattle.dns_rdata.specs.Soa.{serial_of}
-use Rattle.dns_wire.specs.Wire.{Building, Question, header_in, message_wire}
+use Rattle.dns_wire.specs.Wire.{Building, Question, header_in, message_wire, fits}
 use Rattle.dns_wire.specs.Parse.{sole_question_in, authority_readings}
 use Rattle.zone_model.specs.Version.{Version, has_one_apex_soa}
 use Rattle.zone_model.specs.Answer.{apex_soa_record}
@@ -14,7 +14,7 @@ use Rattle.zone_model.specs.Offer.{Offer, whole_text}
 use Rattle.xfr_server.specs.Items.{one_reply, reply_item, feedback_item}
 pub use Rattle.xfr_server.specs.Requests.{is_udp}
 use Rattle.xfr_server.specs.Replying.{notimp, refused, error_reply, error_replies}
-use Rattle.xfr_server.specs.TransferMessage.{transfer_message, can_hold}
+use Rattle.xfr_server.specs.TransferMessage.{transfer_message}
 use Rattle.xfr_services.specs.declared.requests.TransportSpecificContext.{TransportSpecificContext}
 use Rattle.xfr_services.specs.declared.requests.TransportSpecificContext.TheVariants.{Udp, NonUdp}
 use Rattle.xfr_server.specs.declared.providers.XfrDataProviderError.{XfrDataProviderError}
@@ -110,22 +110,22 @@ chosen told mode udp message =
 
 -- ---- the replies
 
--- the message with the apex SOA alone (RFC 1995, 2); SERVFAIL where it can't be held
+-- the message with the apex SOA alone (RFC 1995, 2); SERVFAIL where it doesn't fit
 abbrev pub soa_reply : List ℕ → ℕ → Version → Option Building
 soa_reply request limit v =
     let m = transfer_message request (apex_soa_record v) in
-    if can_hold limit m then Some (record { octets = message_wire m; limit = limit }) else error_reply request servfail
+    if fits limit (message_wire m) then Some (record { octets = message_wire m; limit = limit }) else error_reply request servfail
 
 -- a reply that is a whole transfer, with feedback before and after it
 abbrev pub transaction : Building → List CallResult
 transaction reply = feedback_item BeginTransaction ∷ reply_item reply ∷ feedback_item EndTransaction ∷ []
 
--- the message with the whole text (RFC 5936, 2.2). Where it can't be held: SERVFAIL, by UDP the SOA alone (RFC 1995, 2)
+-- the message with the whole text (RFC 5936, 2.2). Where it doesn't fit: SERVFAIL, by UDP the SOA alone (RFC 1995, 2)
 abbrev pub whole_replies : List ℕ → ℕ → Bool → Version → Option (List CallResult)
 whole_replies request limit udp v =
     let m = transfer_message request (whole_text v) in
     let reply : Building = record { octets = message_wire m; limit = limit } in
-    if can_hold limit m then Some (if udp then one_reply reply else transaction reply)
+    if fits limit (message_wire m) then Some (if udp then one_reply reply else transaction reply)
     else option_map one_reply (if udp then soa_reply request limit v else error_reply request servfail)
 
 abbrev pub replies_of : List ℕ → ℕ → Bool → Choice → Option (List CallResult)

@@ -2,12 +2,14 @@
 ghost use Rattle.std.specs.Prelude.{◌≡◌, ◌++◌, ◌↔◌, All, map, flat_map, not, filter, IfSome, IsSome, IsTrue};
 ghost use Rattle.dns_rdata.specs.Soa.{serial_of};
 ghost use Rattle.dns_rdata.specs.ZoneData.{rtype_of, data_fields};
+ghost use Rattle.dns_wire.specs.Wire.{message_wire};
+ghost use Rattle.dns_wire.specs.Builds.{Builds};
 ghost use Rattle.zone_model.specs.Version.{has_one_apex_soa};
 ghost use Rattle.zone_model.specs.Answer.{apex_soa_record, records_of};
 ghost use Rattle.zone_model.specs.Difference.{zone_serial as serial_of_version};
 ghost use Rattle.zone_model.specs.Offer.{whole_text};
 ghost use Rattle.zone_model.specs.Walk.{walk};
-ghost use Rattle.xfr_server.specs.TransferMessage.{transfer_message, Writes, AddsAnswers, is_soa_stop, stop_records};
+ghost use Rattle.xfr_server.specs.TransferMessage.{transfer_message, AddsAnswers, is_soa_stop, stop_records};
 
 use crate::replies::start_transfer;
 use dns_name::{Class, KeyName, Labelled, Rtype, Serial, ToName, Ttl};
@@ -38,28 +40,30 @@ fn serial_in(rdata: &StoredRecordData) -> Serial
     }
 }
 
-/// An answer with the apex SOA alone (RFC 1995, 2), of up to so many octets. `ShortBuf` or `CountOverflow` where it can't be held.
+/// An answer with the apex SOA alone (RFC 1995, 2), of up to so many octets. `ShortBuf` where that doesn't fit.
 pub fn soa_message(
     alloc: Global,
     request: &MessageBuf,
     limit: usize,
     zone: &ReadZone,
 ) -> Result<AdditionalBuilder, PushError>
-    ensures { Writes (transfer_message request.now (apex_soa_record zone.now.version)) limit result }
+    ensures { Builds (message_wire (transfer_message request.now (apex_soa_record zone.now.version)))
+        limit result }
 {
     let mut answer = start_transfer(alloc, request, limit)?;
     push_soa(&mut answer, zone)?;
     Ok(answer.additional())
 }
 
-/// An answer with the whole zone (RFC 5936, 2.2), of up to so many octets. `ShortBuf` or `CountOverflow` where it can't be held.
+/// An answer with the whole zone (RFC 5936, 2.2), of up to so many octets. `ShortBuf` where that doesn't fit.
 pub fn whole_message(
     alloc: Global,
     request: &MessageBuf,
     limit: usize,
     zone: &ReadZone,
 ) -> Result<AdditionalBuilder, PushError>
-    ensures { Writes (transfer_message request.now (whole_text zone.now.version)) limit result }
+    ensures { Builds (message_wire (transfer_message request.now (whole_text zone.now.version)))
+        limit result }
 {
     let mut answer = start_transfer(alloc, request, limit)?;
     push_text(&mut answer, zone)?;
