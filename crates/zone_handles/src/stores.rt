@@ -12,8 +12,8 @@ use crate::querying::query;
 use crate::walking::walk;
 use dns_name::{Labelled, Rtype, ToName};
 use std::alloc::Global;
-use zone_lookup::{AnswerRef, OutOfZone, look_up};
 use zone_answer::Answer;
+use zone_lookup::{AnswerRef, OutOfZone, look_up};
 use zone_sessions::{ReadZone, WalkItem};
 
 /// A read handle: one version of a zone, whatever keeps it.
