@@ -68,7 +68,7 @@ returns-clause-begun c handles =
     let is = built_is a (c.from.result % 65536) c.question_of-question.result c.in_ok-items.items id question c.in_ok-items.ensures.ok in
     let stands = begins a (record { sequence = c.in_ok-sequence.sequence; id = c.from.result % 65536; question = c.question_of-question.result; interpreter = c.new.result; updater = c.new-2.result }) c.handle.new.self handles
     (c.in_ok-sequence.ensures.begun.0 ∙ key) (subst (λ m. ClientStands (λ k. k) c.in_ok-sequence.sequence m []) (same_mac a c.duplicate.result c.in_ok-items.items c.self.inside.at key is at) c.in_ok-sequence.ensures.begun.1) id question c.new.ensures c.new-2.ensures
-    (ap (λ s. s.current) c.handle.ensures.same ∙ ap (λ s. s.current) c.rollback.ensures) (ap (λ s. s.pending) c.handle.ensures.same ∙ ap (λ s. s.pending) c.rollback.ensures) (subst (λ (z : Commit). z.number < 2 ^ 64) zone (omega (arith, c.version-number.ensures, c.version-number.type_inv))) in
+    (ap (λ s. s.current) c.handle.ensures.same ∙ ap (λ s. s.current) c.rollback.ensures) (ap (λ s. s.pending) c.handle.ensures.same ∙ ap (λ s. s.pending) c.rollback.ensures) (subst (λ (z : Commit). z.number < 2 ^ 64) zone (omega (arith, c.version_number-number.ensures, c.version_number-number.type_inv))) in
     record {
       asks = ap (λ s. asking_of s a.base) v;
       exchange = record { sequence = c.in_ok-sequence.sequence; id = c.from.result % 65536; question = c.question_of-question.result; interpreter = c.new.result; updater = c.new-2.result };
