@@ -8,7 +8,7 @@ use Rattle.zone_model.specs.Version.{RecordSet, Version, below_apex}
 use Rattle.zone_model.specs.Edits.{Refusal, add, delete, with_sets, remove_set, replace_set, clear, make_plain, make_alias, make_cut}
 use Rattle.zone_values.specs.TypedSets.{TypedSet}
 use Rattle.zone_values.specs.declared.zone_cut.ZoneCut.{ZoneCut}
-use Rattle.zone_sessions.specs.Puts.{with_soa}
+use Rattle.zone_versions.specs.Puts.{with_soa}
 use Rattle.zone_handles.specs.declared.zone_edits.NodeEdit.{NodeEdit}
 use Rattle.zone_handles.specs.declared.zone_edits.NodeEdit.TheVariants.{PutSet, RemoveSet, MakeRegular, MakeCname, MakeZoneCut, RemoveAll}
 use Rattle.zone_handles.specs.declared.zone_edits.ZoneEdit.{ZoneEdit}

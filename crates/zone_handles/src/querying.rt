@@ -4,8 +4,8 @@ ghost use Rattle.zone_handles.specs.Queries.{Queried};
 use crate::errors::QueryError;
 use dns_name::{Rtype, ToName};
 use std::alloc::Global;
-use zone_lookup::look_up;
 use zone_answer::Answer;
+use zone_lookup::look_up;
 use zone_sessions::ReadZone;
 
 /// What the handle's version has for a name and a type, with records of the answer's own (RFC 1034, 4.3.2; RFC 4592). `OutOfZone` exactly where the

@@ -52,7 +52,7 @@ pub fn make_step<'z, R>(
     let mut session = session;
     match step {
         Step::Edit(edit) => {
-            let told = edit_pending(alloc, &mut session, edit);
+            let told = make_edit(alloc, &mut session, edit);
             (session, told)
         }
         Step::Open(create_diff) => {
@@ -133,22 +133,15 @@ pub fn begin_again<'z>(session: WriteZone<'z>, alloc: Global) -> WriteZone<'z>
     session.into_zone().write(alloc)
 }
 
-/// Edits what is pending.
-fn edit_pending(
-    alloc: Global,
-    session: &mut WriteZone<'_>,
-    edit: &ZoneEdit,
-) -> Result<(), CommitError>
-    ensures made { OnOk result ((handles : CommitList) → Leads (events_of (Step.Edit edit.now)) session.old handles session.new handles) }
-    ensures err { OnErr result (session.new ≡ session.old) }
-    ensures wish { session.new.compares ≡ session.old.compares }
-    ensures cause { IfErr result (λ e. (handles : CommitList) → Refuses (Step.Edit edit.now) session.old handles e) }
+/// Opens what is pending.
+fn open(session: &mut WriteZone<'_>, create_diff: bool)
+    ensures { session.new ≡ opened_session session.old create_diff }
 {
-    make_edit(alloc, session, edit)
+    open_and_lend(session, create_diff);
 }
 
 /// Opens what is pending, and lends the session back.
-fn open<'s, 'z>(session: &'s mut WriteZone<'z>, create_diff: bool) -> &'s mut WriteZone<'z>
+fn open_and_lend<'s, 'z>(session: &'s mut WriteZone<'z>, create_diff: bool) -> &'s mut WriteZone<'z>
     ensures same_borrow { result.ghost_name ≡ session.entry.ghost_name }
     ensures opened { result.now ≡ opened_session session.old create_diff }
 {
@@ -192,7 +185,8 @@ fn read(session: &mut WriteZone<'_>, handles: &mut Vec<ReadZone>) -> Result<(), 
 fn copy(handles: &mut Vec<ReadZone>, handle: usize) -> Result<(), CommitError>
     ensures made { OnOk result ((s : Session) → Leads (events_of (Step.Copy handle)) s handles.old.items s handles.new.items) }
     ensures handles_stay { OnErr result (handles.new.items ≡ handles.old.items) }
-    ensures cause { IfErr result (λ e. (s : Session) → Refuses (Step.Copy handle) s handles.old.items e) }
+    ensures there { OnErr result (handle < length handles.old.items) }
+    ensures memory { IfErr result (λ e. e ≡ CommitError.Memory) }
 {
     let Some(found) = handles.get(handle) else {
         return Ok(());

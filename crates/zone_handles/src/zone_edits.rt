@@ -4,7 +4,7 @@ ghost use Rattle.zone_model.specs.Edits as edits;
 ghost use Rattle.zone_model.specs.Commits.{kept_or};
 ghost use Rattle.zone_model.specs.Session.{with_pending};
 ghost use Rattle.zone_sessions.specs.Nodes.{with_edit};
-ghost use Rattle.zone_sessions.specs.Puts.{with_soa};
+ghost use Rattle.zone_versions.specs.Puts.{with_soa};
 ghost use Rattle.dns_rdata.specs.DataFields.{soa_fields};
 ghost use Rattle.zone_handles.specs.ZoneEdits.{edited, edited_at, edited_node, reached, can_change, is_cut};
 ghost use Rattle.zone_handles.specs.declared.zone_edits.NodeEdit.{NodeEdit};
