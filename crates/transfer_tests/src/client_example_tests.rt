@@ -7,8 +7,7 @@ use std::alloc::Global;
 use tsig_port::{Key, Time48};
 use xfr_server::{ReplyStream, Request, Service, TransportSpecificContext};
 use zone_store::WriteZone;
-use zone_sync::client::{XfrClient, XfrMode};
-use zone_sync::outcome::{SyncError, SyncOk};
+use zone_sync::{SyncError, SyncOk, XfrClient, XfrMode};
 
 /// Brings a session's zone to what the primary at the other end has, whose replies the key signs.
 fn fetch_zone<R>(
