@@ -26,9 +26,6 @@ pub on_err_always : {T E P : Type 0} (r : Result T E) → P → OnErr r P
 on_err_always (Ok x) p = tt
 on_err_always (Err e) p = p
 
-pub never : {A : Type 0} → ⊥ → A
-never x = cc
-
 -- why an edit is refused
 pub edit_cause : (edit : ZoneEdit) (s : Session) (handles : CommitList) (r : Told) → IfErr r (λ e. e ≡ NoMemory) → OnErr r (can_change edit s.pending ≡ true)
     → IfErr r (λ e. Refuses (EditStep edit) s handles e)
@@ -39,7 +36,7 @@ edit_cause edit s handles (Err e) m k = subst (λ f. Refuses (EditStep edit) s h
 pub commit_cause : (bumps : Bool) (s : Session) (handles : CommitList) (r : Told) → ((r ≡ Err NoNumber) ↔ (s.current.number ≡ 2 ^ 64 - 1))
     → IfErr r (λ e. Refuses (CommitStep bumps) s handles e)
 commit_cause bumps s handles (Ok x) h = tt
-commit_cause bumps s handles (Err NoMemory) h = λ last. let e : Err {T = Unit {0}} NoMemory ≡ Err NoNumber = h.1 last in cc
+commit_cause bumps s handles (Err NoMemory) h = λ last. let e : ◌≡◌ {A = Told} (Err NoMemory) (Err NoNumber) = h.1 last in cc
 commit_cause bumps s handles (Err NoNumber) h = h.0 refl
 
 -- why a copy is

@@ -5,7 +5,7 @@ use Rattle.zone_errors.specs.declared.edits.CommitError.TheVariants.{VersionsExh
 use Rattle.zone_model.specs.Session.{Session}
 use Rattle.zone_handles.specs.Steps.{Leads, Refuses, Exhausts, events_of, wish_after}
 use Rattle.zone_handles.proofs.Moves.{edit_leads, open_leads, rollback_leads, end_leads, still_stands}
-use Rattle.zone_handles.proofs.Told.{but_handle, never, edit_cause, commit_cause, copy_cause}
+use Rattle.zone_handles.proofs.Told.{but_handle, edit_cause, commit_cause, copy_cause}
 use Rattle.zone_handles.proofs.steps.make_step.Goals as goal
 
 pub returns-in-Edit-clause-made : goal.returns-in-Edit-clause-made
