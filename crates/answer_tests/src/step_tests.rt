@@ -2,10 +2,10 @@
 
 use crate::common::{address, is, name};
 use crate::handle_tests::zone;
-use dns_name::{Rcode, Rtype};
+use dns_name::{OwnedLabel, Rcode, Rtype};
 use std::alloc::Global;
 use std::process::Abort;
-use zone_store::{AskError, ReadZone, Step, WriteZone, ask, begin_again, make_steps};
+use zone_store::{AskError, NodeEdit, ReadZone, Step, WriteZone, ZoneEdit, ask, make_steps};
 
 fn then<R: Abort>(rt: &R, steps: &mut Vec<Step>, step: Step) {
     steps.push(step).ok().expect(rt, "memory");
@@ -13,21 +13,24 @@ fn then<R: Abort>(rt: &R, steps: &mut Vec<Step>, step: Step) {
 
 /// Two steps: an address is added, and what is pending is committed or dropped.
 fn write<R: Abort>(rt: &R, alloc: Global, steps: &mut Vec<Step>, owner: &[u8], last: Step) {
-    then(rt, steps, Step::Add(address(rt, alloc, owner, 1)));
+    let added = address(rt, alloc, owner, 1);
+    then(rt, steps, Step::Edit(ZoneEdit::Add(added)));
     then(rt, steps, last);
 }
 
 /// Makes all steps.
-fn make<R: Abort>(
+fn make<'z, R: Abort>(
     rt: &R,
-    session: &mut WriteZone<'_>,
+    alloc: Global,
+    session: WriteZone<'z>,
     handles: &mut Vec<ReadZone>,
     steps: Vec<Step>,
-) {
-    let (made, outcome) = make_steps(rt, session, handles, steps.as_slice());
+) -> WriteZone<'z> {
+    let (session, made, outcome) = make_steps(rt, alloc, session, handles, steps.as_slice());
     outcome.expect(rt, "memory");
     is(rt, made, steps.len());
     drop(steps);
+    session
 }
 
 /// Asserts that a handle's answer to A of a name has this rcode, or that there is none for this reason.
@@ -52,7 +55,7 @@ fn answers<R: Abort>(
 fn handles_answer_from_their_positions(rt: HostRuntime) {
     let alloc = rt.alloc();
     let mut zone = zone(&rt, alloc);
-    let mut session = zone.write(alloc);
+    let session = zone.write(alloc);
     let mut handles = Vec::new(alloc);
     let mut steps = Vec::new(alloc);
     write(&rt, alloc, &mut steps, b"\x01a\x01c\0", Step::Commit(false));
@@ -61,7 +64,7 @@ fn handles_answer_from_their_positions(rt: HostRuntime) {
     then(&rt, &mut steps, Step::Read);
     write(&rt, alloc, &mut steps, b"\x01a\x01c\0", Step::Commit(true));
     then(&rt, &mut steps, Step::Read);
-    make(&rt, &mut session, &mut handles, steps);
+    let session = make(&rt, alloc, session, &mut handles, steps);
     let b = b"\x01B\x01c\0";
     let absent = Rcode::NXDOMAIN;
     answers(&rt, alloc, handles.as_slice(), 2, b, Ok(absent));
@@ -70,7 +73,7 @@ fn handles_answer_from_their_positions(rt: HostRuntime) {
     then(&rt, &mut steps, Step::Read);
     then(&rt, &mut steps, Step::Copy(0));
     then(&rt, &mut steps, Step::Copy(9));
-    make(&rt, &mut session, &mut handles, steps);
+    let session = make(&rt, alloc, session, &mut handles, steps);
     answers(&rt, alloc, handles.as_slice(), 0, b, Ok(absent));
     answers(&rt, alloc, handles.as_slice(), 3, b, Ok(Rcode::NOERROR));
     answers(&rt, alloc, handles.as_slice(), 4, b, Ok(absent));
@@ -78,11 +81,49 @@ fn handles_answer_from_their_positions(rt: HostRuntime) {
     answers(&rt, alloc, handles.as_slice(), 5, b, lacking);
     let outside = Err(AskError::OutOfZone);
     answers(&rt, alloc, handles.as_slice(), 0, b"\x01d\0", outside);
-    let mut session = begin_again(session, alloc);
     let mut steps = Vec::new(alloc);
+    write(&rt, alloc, &mut steps, b"\x01e\x01c\0", Step::EndSession);
+    then(&rt, &mut steps, Step::Open(true));
+    then(&rt, &mut steps, Step::Commit(false));
     then(&rt, &mut steps, Step::Read);
-    make(&rt, &mut session, &mut handles, steps);
+    let session = make(&rt, alloc, session, &mut handles, steps);
     answers(&rt, alloc, handles.as_slice(), 5, b, Ok(Rcode::NOERROR));
+    let e = b"\x01e\x01c\0";
+    answers(&rt, alloc, handles.as_slice(), 5, e, Ok(absent));
+    drop(handles);
+    drop(session);
+    drop(zone);
+}
+
+/// A step that removes the node of a label below the apex, with what is below it.
+fn removed<R: Abort>(rt: &R, alloc: Global, label: &[u8]) -> Step {
+    let mut labels = Vec::new(alloc);
+    let label = OwnedLabel::from_slice(label).expect(rt, "a label");
+    labels.push(label).expect(rt, "memory");
+    Step::Edit(ZoneEdit::Node(labels, NodeEdit::RemoveAll))
+}
+
+#[test]
+fn nodes_are_edited(rt: HostRuntime) {
+    let alloc = rt.alloc();
+    let mut zone = zone(&rt, alloc);
+    let session = zone.write(alloc);
+    let mut handles = Vec::new(alloc);
+    let mut steps = Vec::new(alloc);
+    write(&rt, alloc, &mut steps, b"\x01a\x01c\0", Step::Commit(false));
+    then(&rt, &mut steps, Step::Read);
+    then(&rt, &mut steps, removed(&rt, alloc, b"A"));
+    then(&rt, &mut steps, removed(&rt, alloc, b""));
+    then(&rt, &mut steps, Step::Commit(false));
+    then(&rt, &mut steps, Step::Read);
+    then(&rt, &mut steps, Step::Edit(ZoneEdit::ClearAll));
+    then(&rt, &mut steps, Step::Commit(false));
+    then(&rt, &mut steps, Step::Read);
+    let session = make(&rt, alloc, session, &mut handles, steps);
+    let a = b"\x01a\x01c\0";
+    answers(&rt, alloc, handles.as_slice(), 0, a, Ok(Rcode::NOERROR));
+    answers(&rt, alloc, handles.as_slice(), 1, a, Ok(Rcode::NXDOMAIN));
+    answers(&rt, alloc, handles.as_slice(), 2, a, Ok(Rcode::NXDOMAIN));
     drop(handles);
     drop(session);
     drop(zone);

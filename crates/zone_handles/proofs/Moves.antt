@@ -7,11 +7,13 @@ use Rattle.std.proofs.lemmas.Option.{slice_get_within, get_or_from_slice_get, sl
 use Rattle.std.proofs.Math.ListN.{get_or-append}
 use Rattle.zone_model.specs.Version.{Version}
 use Rattle.zone_model.specs.Edits.{bump, close}
-use Rattle.zone_model.specs.Session.{Session, committed}
-use Rattle.zone_model.specs.Commits.{Commit, CommitList, Zone, latest, Event, Edit, Publish, next_commit, appended, reset, kept_or, after, after_all, AllMayHappen, version_of}
+use Rattle.zone_model.specs.Session.{Session, opened_session, with_pending, committed}
+use Rattle.zone_model.specs.Commits.{Commit, CommitList, Zone, latest, Event, Open, Edit, Publish, Abandon, next_commit, appended, reset, kept_or, after, after_all, AllMayHappen, version_of}
 use Rattle.zone_model.proofs.Handles.{handles_keep}
 use Rattle.zone_handles.specs.declared.steps.Step.{Step}
-use Rattle.zone_handles.specs.declared.steps.Step.TheVariants.{Commit as CommitStep, Read as ReadStep, Copy}
+use Rattle.zone_handles.specs.declared.steps.Step.TheVariants.{Edit as EditStep, Open as OpenStep, Commit as CommitStep, Rollback, EndSession, Read as ReadStep, Copy}
+use Rattle.zone_handles.specs.declared.zone_edits.ZoneEdit.{ZoneEdit}
+use Rattle.zone_handles.specs.ZoneEdits.{edited}
 use Rattle.zone_handles.specs.Steps.{HandlesStand, StandFor, counted_on, read_at, events_of, events_of_all, wish_after, wish_after_all, Leads, Stays, new_session, OpensSo, DropAbandons, LeaveNoTrace, HandlesStay}
 
 -- lists
@@ -119,6 +121,31 @@ commits true s handles z h = (
 pub commit_leads : (bumps : Bool) (s t : Session) (handles : CommitList) → t ≡ committed s bumps → Leads (events_of (CommitStep bumps)) s handles t handles
 commit_leads bumps s t handles e = subst (λ u. Leads (events_of (CommitStep bumps)) s handles u handles) (sym e) (commits bumps s handles)
 
+-- edits, opening and what drops them
+pub edit_leads : (edit : ZoneEdit) (s t : Session) (handles : CommitList) → t ≡ with_pending s (kept_or s.pending (edited edit s.pending)) → Leads (events_of (EditStep edit)) s handles t handles
+edit_leads edit s t handles e = subst (λ u. Leads (events_of (EditStep edit)) s handles u handles) (sym e) moved
+  where
+    moved : Leads (events_of (EditStep edit)) s handles (with_pending s (kept_or s.pending (edited edit s.pending))) handles
+    moved z h = ((tt, tt), record { current = h.current; pending = λ i. kept_or (h.pending i) (edited edit (h.pending i)); readers = h.readers })
+
+pub open_leads : (create_diff : Bool) (s t : Session) (handles : CommitList) → t ≡ opened_session s create_diff → Leads (events_of (OpenStep create_diff)) s handles t handles
+open_leads create_diff s t handles e z h =
+    ((tt, tt), record { current = h.current ∙ ap (λ (u : Session). Some u.current) (sym e); pending = ap (λ (u : Session). u.pending) e ∙ h.pending; readers = h.readers })
+
+abandons : (s t : Session) (handles : CommitList) (z : Zone) → t.current ≡ s.current → t.pending ≡ s.current.version → StandFor s handles z → StandFor t handles (after Abandon z)
+abandons s t handles z same back h = subst (λ o. StandFor t handles (reset o z)) (sym h.current) (record { current = h.current ∙ ap Some (sym same); pending = back; readers = h.readers })
+
+pub rollback_leads : (s t : Session) (handles : CommitList) → t.current ≡ s.current → t.pending ≡ s.current.version → Leads (events_of Rollback) s handles t handles
+rollback_leads s t handles same back z h = ((tt, tt), abandons s t handles z same back h)
+
+pub end_leads : (s t : Session) (handles : CommitList) → t ≡ new_session s.current → Leads (events_of EndSession) s handles t handles
+end_leads s t handles e z h = ((tt, tt), abandons s t handles z (ap (λ (u : Session). u.current) e) (ap (λ (u : Session). u.pending) e) h)
+
+-- what is refused
+pub still_stands : (s t : Session) (handles later : CommitList) (b : Bool) → t ≡ record s { has_handle = b } → later ≡ handles → Stays s handles t later
+still_stands s t handles later b e same z h =
+    subst (λ all. StandFor t all z) (sym same) (record { current = h.current ∙ ap (λ (u : Session). Some u.current) (sym e); pending = ap (λ (u : Session). u.pending) e ∙ h.pending; readers = h.readers })
+
 -- reads
 reads_at : (s t : Session) (handles : CommitList) (z : Zone) (c : Commit) (p : ℕ) → StandFor s handles z → t.current ≡ s.current → t.pending ≡ s.pending → slice_get z.commits p ≡ Some c
     → AllMayHappen (read_at (Some p)) z × StandFor t (handles ++ c ∷ []) (after_all (read_at (Some p)) z)
@@ -193,7 +220,7 @@ pub opens_so : OpensSo
 opens_so c = record { current = refl; pending = refl; readers = refl }
 
 pub drop_abandons : DropAbandons
-drop_abandons s handles z h = subst (λ o. StandFor (new_session s.current) handles (reset o z)) (sym h.current) (record { current = h.current; pending = refl; readers = h.readers })
+drop_abandons s handles z h = abandons s (new_session s.current) handles z refl refl h
 
 pub leave_no_trace : LeaveNoTrace
 leave_no_trace z [] last e = λ i. reset (e i) z

@@ -1,3 +1,4 @@
 pub mod Stops
 pub mod Queries
+pub mod ZoneEdits
 pub mod Steps

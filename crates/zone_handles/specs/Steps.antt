@@ -1,18 +1,19 @@
 -- Steps of readers and one writer, and what stands for a zone with its history (RFC 1034, 4.3.5).
-use Rattle.std.specs.Prelude.{◌≡◌, ℕ, ◌-◌, ◌^◌, Bool, true, false, List, [], ◌∷◌, ◌++◌, length, map, Option, Some, None, Result, Ok, Err, slice_get, option_map}
+use Rattle.std.specs.Prelude.{◌≡◌, ℕ, ◌-◌, ◌^◌, ◌<◌, Bool, true, false, ◌||◌, List, [], ◌∷◌, ◌++◌, length, map, Option, Some, None, Result, Ok, Err, slice_get, option_map}
 use Rattle.dns_name.specs.Names.{Name}
 use Rattle.zone_model.specs.Version.{Version, in_zone}
-use Rattle.zone_model.specs.Edits.{Refusal, add, delete, bump}
+use Rattle.zone_model.specs.Edits.{Refusal, bump}
 use Rattle.zone_model.specs.Answer.{answer}
 use Rattle.zone_model.specs.Session.{Session}
-use Rattle.zone_model.specs.Commits.{Commit, CommitList, Zone, latest, Event, Edit, Publish, Abandon, Read, after, after_all, AllMayHappen, version_of}
+use Rattle.zone_model.specs.Commits.{Commit, CommitList, Zone, latest, Event, Open, Edit, Publish, Abandon, Read, after, after_all, AllMayHappen, version_of}
 use Rattle.zone_lookup.specs.Answers.{AnsweredBy, answered_by}
 use Rattle.zone_errors.specs.declared.edits.CommitError.{CommitError}
 use Rattle.zone_errors.specs.declared.edits.CommitError.TheVariants.{VersionsExhausted as NoNumber, Memory as NoMemory}
 use Rattle.zone_handles.specs.declared.errors.AskError.{AskError}
 use Rattle.zone_handles.specs.declared.errors.AskError.TheVariants.{OutOfZone, NoHandle}
 use Rattle.zone_handles.specs.declared.steps.Step.{Step}
-use Rattle.zone_handles.specs.declared.steps.Step.TheVariants.{Add, Delete, Commit as CommitStep, Rollback, Read as ReadStep, Copy}
+use Rattle.zone_handles.specs.declared.steps.Step.TheVariants.{Edit as EditStep, Open as OpenStep, Commit as CommitStep, Rollback, EndSession, Read as ReadStep, Copy}
+use Rattle.zone_handles.specs.ZoneEdits.{edited, can_change}
 
 -- each handle, in order, is the commit at its position
 abbrev pub HandlesStand : CommitList → Zone → Type 0
@@ -36,11 +37,12 @@ read_at (Some position) = Read position position ∷ []
 
 -- what happens at a step: a read is of the latest commit, and a copy reads where its handle stands
 abbrev pub events_of : Step → Zone → List Event
-events_of (Add r) z = Edit (λ v. add v r) ∷ []
-events_of (Delete r) z = Edit (λ v. delete v r) ∷ []
+events_of (EditStep edit) z = Edit (edited edit) ∷ []
+events_of (OpenStep create_diff) z = Open ∷ []
 events_of (CommitStep false) z = Publish ∷ []
 events_of (CommitStep true) z = Edit (counted_on (latest z.commits)) ∷ Publish ∷ []
 events_of Rollback z = Abandon ∷ []
+events_of EndSession z = Abandon ∷ []
 events_of ReadStep z = read_at (Some (length z.commits - 1))
 events_of (Copy handle) z = read_at (slice_get z.positions handle)
 
@@ -59,24 +61,36 @@ Stays s handles t later = (z : Zone) → StandFor s handles z → StandFor t lat
 
 -- a step that can't be made for want of version numbers: a commit after the greatest
 abbrev pub Exhausts : Step → Session → Type 0
-Exhausts (Add r) s = ⊥
-Exhausts (Delete r) s = ⊥
+Exhausts (EditStep edit) s = ⊥
+Exhausts (OpenStep create_diff) s = ⊥
 Exhausts (CommitStep bumps) s = s.current.number ≡ 2 ^ 64 - 1
 Exhausts Rollback s = ⊥
+Exhausts EndSession s = ⊥
 Exhausts ReadStep s = ⊥
 Exhausts (Copy handle) s = ⊥
 
--- why a step is refused: want of memory, at any step, or of version numbers
-abbrev pub Refuses : Step → Session → CommitError → Type 0
-Refuses step s NoMemory = Unit {0}
-Refuses step s NoNumber = Exhausts step s
+-- a step that takes memory: an edit that may change something, a commit that has a number, a read, the copy of a handle that is there
+abbrev pub TakesMemory : Step → Session → CommitList → Type 0
+TakesMemory (EditStep edit) s handles = can_change edit s.pending ≡ true
+TakesMemory (OpenStep create_diff) s handles = ⊥
+TakesMemory (CommitStep bumps) s handles = s.current.number ≡ 2 ^ 64 - 1 → ⊥
+TakesMemory Rollback s handles = ⊥
+TakesMemory EndSession s handles = ⊥
+TakesMemory ReadStep s handles = Unit {0}
+TakesMemory (Copy handle) s handles = handle < length handles
 
--- whether the next commit is to tell a difference, after a step: a commit and a rollback end that wish
+-- why a step is refused
+abbrev pub Refuses : Step → Session → CommitList → CommitError → Type 0
+Refuses step s handles NoMemory = TakesMemory step s handles
+Refuses step s handles NoNumber = Exhausts step s
+
+-- whether the next commit is to tell a difference, after a step: opening may ask for one, and a commit, a rollback and a session's end end that wish
 abbrev pub wish_after : Step → Bool → Bool
-wish_after (Add r) wish = wish
-wish_after (Delete r) wish = wish
+wish_after (EditStep edit) wish = wish
+wish_after (OpenStep create_diff) wish = wish || create_diff
 wish_after (CommitStep bumps) wish = false
 wish_after Rollback wish = false
+wish_after EndSession wish = false
 wish_after ReadStep wish = wish
 wish_after (Copy handle) wish = wish
 

@@ -10,6 +10,7 @@ mod querying;
 mod steps;
 mod stores;
 mod walking;
+mod zone_edits;
 mod zones;
 
 pub use comparing::is_same;
@@ -17,4 +18,5 @@ pub use errors::{AskError, QueryError};
 pub use steps::{Step, ask, begin_again, make_step, make_steps};
 pub use stores::ReadableZone;
 pub use walking::walk;
+pub use zone_edits::{NodeEdit, ZoneEdit};
 pub use zones::{Zone, ZoneStore};

@@ -10,25 +10,25 @@ use zone_sessions::{ReadZone, WriteZone, ZoneApex};
 /// What keeps a zone: it knows its class and apex, and gives read handles.
 pub trait ZoneStore {
     ghost use Rattle.std.specs.Prelude.{◌≡◌, IfOk};
-    ghost use Rattle.zone_model.specs.Version.{Version};
+    ghost use Rattle.zone_model.specs.Commits.{Commit};
 
     /// The handles that it gives.
     type Read: ReadableZone;
 
-    /// The versions that a handle may be of.
-    ghost MayGive: { Self → Version → Type 0 };
+    /// The versions that a handle may be of, with their numbers.
+    ghost MayGive: { Self → Commit → Type 0 };
 
     /// The class.
     fn class(&self) -> Class
-        ensures { (v : Version) → MayGive self.now v → v.class ≡ result };
+        ensures { (c : Commit) → MayGive self.now c → c.version.class ≡ result };
 
     /// The name of the apex, as it was given.
     fn apex_name(&self) -> &StoredName
-        ensures { (v : Version) → MayGive self.now v → v.apex ≡ result.now };
+        ensures { (c : Commit) → MayGive self.now c → c.version.apex ≡ result.now };
 
     /// A read handle. It doesn't wait, so nothing is asked of `rt`.
     fn read<R>(&self, rt: &R) -> Result<Self::Read, AllocError>
-        ensures { IfOk result (λ z. MayGive self.now (Self.Read.version_of z)) };
+        ensures { IfOk result (λ z. MayGive self.now (Self.Read.commit_of z)) };
 }
 
 /// A zone in memory gives its current version.
@@ -37,7 +37,7 @@ impl ZoneStore for ZoneApex {
 
     type Read = ReadZone;
 
-    ghost MayGive = { λ z v. v ≡ z.version };
+    ghost MayGive = { λ z c. c ≡ z };
 
     fn class(&self) -> Class {
         ZoneApex::class(self)

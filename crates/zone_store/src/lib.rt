@@ -38,8 +38,8 @@
 #![tactic(auto)]
 
 pub use zone_handles::{
-    AskError, QueryError, ReadableZone, Step, Zone, ZoneStore, ask, begin_again, is_same,
-    make_step, make_steps, walk,
+    AskError, NodeEdit, QueryError, ReadableZone, Step, Zone, ZoneEdit, ZoneStore, ask,
+    begin_again, is_same, make_step, make_steps, walk,
 };
 pub use zone_lookup::look_up;
 pub use zone_sessions::{
