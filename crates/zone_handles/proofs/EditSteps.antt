@@ -31,19 +31,19 @@ lent_same s t n m g e f h = f ∙ h ∙ ap (λ (k : Node). k.session) e ∙ asks
 -- where the labels lead nowhere nothing changes
 pub stayed : (n m : Node) (labels : List (List ℕ)) (edit : NodeEdit) (b : Bool) → reached n.name labels ≡ (if b then Some m.name else None) → b ≡ false → m ≡ record n { name = m.name }
     → m.session ≡ edited_below n.session (reached n.name labels) edit
-stayed n m labels edit b r no same =
-    ap (λ (k : Node). k.session) same ∙ sym (λ i. edited_below n.session ((r ∙ (λ j. if no j then Some m.name else None)) i) edit)
+stayed n m labels edit b r nowhere same =
+    ap (λ (k : Node). k.session) same ∙ sym (λ i. edited_below n.session ((r ∙ (λ j. if nowhere j then Some m.name else None)) i) edit)
 
 -- .. and else the node there is edited
 pub moved : (n m k : Node) (labels : List (List ℕ)) (edit : NodeEdit) (b : Bool) → reached n.name labels ≡ (if b then Some m.name else None) → b ≡ true → m ≡ record n { name = m.name }
     → k ≡ with_edit m (kept_or m.session.pending (edited_node edit m.name m.session.pending)) → k.session ≡ edited_below n.session (reached n.name labels) edit
-moved n m k labels edit b r yes same e =
+moved n m k labels edit b r there same e =
     ap (λ (x : Node). x.session) e
     ∙ (λ i. edited_below (same i).session (Some m.name) edit)
-    ∙ sym (λ i. edited_below n.session ((r ∙ (λ j. if yes j then Some m.name else None)) i) edit)
+    ∙ sym (λ i. edited_below n.session ((r ∙ (λ j. if there j then Some m.name else None)) i) edit)
 
 pub is_reached : (n m : Node) (labels : List (List ℕ)) (b : Bool) → reached n.name labels ≡ (if b then Some m.name else None) → b ≡ true → is_some (reached n.name labels) ≡ true
-is_reached n m labels b r yes = ap is_some (r ∙ (λ j. if yes j then Some m.name else None))
+is_reached n m labels b r there = ap is_some (r ∙ (λ j. if there j then Some m.name else None))
 
 -- what may be made of a version, and what may not
 pub permitted : (v w : Version) (a b : Bool) → a ≡ true → b ≡ true → kept_or v (allowed (a && b) v w) ≡ w
