@@ -250,7 +250,7 @@ fn key_that_is_not_granted_is_refused(rt: HostRuntime) {
 fn granted_key_gets_the_zone_in_one_signed_message(rt: HostRuntime) {
     let alloc = rt.alloc();
     let (items, mut client) = signed_items(&rt, alloc, true, Class::IN, KEY);
-    is(&rt, items.len(), 3);
+    assert!(rt; items.len() == 3);
     let first = items[0].feedback();
     let last = items[2].feedback();
     let reply = reply_octets(&rt, alloc, &items[1]);
