@@ -1,19 +1,24 @@
 // How a zone opens.
-ghost use Rattle.std.specs.Prelude.{◌≡◌, ◌↔◌, [], true, false, Err, OnOk, OnErr, IfOk, is_some};
+ghost use Rattle.std.specs.Prelude.{◌≡◌, ◌↔◌, ◌==◌, [], true, false, length, Ok, Err, OnOk, OnErr, IfOk, IfSome, IsOk, is_some, option_map};
 ghost use Rattle.zone_model.specs.Version.{set_at, below_apex};
-ghost use Rattle.dns_name.specs.Names.{under};
+ghost use Rattle.dns_name.specs.Names.{under, same_name};
+ghost use Rattle.dns_name.specs.Codes.{type_cname, type_ns, type_ds};
 ghost use Rattle.zone_model.specs.Classify.{opened_with};
 ghost use Rattle.zone_model.specs.Edits as edits;
+ghost use Rattle.zone_values.specs.TypedSets.{TypedSet};
 ghost use Rattle.zone_versions.specs.Puts.{adds_alias};
 
 use crate::apex::ZoneApex;
+use crate::building::{make_alias, make_cut, replace_set};
+use crate::errors::{InsertCnameError, InsertCutError};
 use crate::read::ReadZone;
-use dns_name::{Class, Labelled, Rtype, StoredName, ToName};
+use dns_name::{Class, KeyName, Labelled, Rtype, StoredName, ToName};
 use dns_rdata::StoredRecord;
 use std::alloc::{AllocError, Global};
 use std::marker::Model;
 use std::sync::Arc;
 use zone_errors::InsertError;
+use zone_values::{Rrset, SharedRr, SharedRrset};
 use zone_versions::ZoneVersion;
 
 /// The records that a zone opens with, put one by one. It is seen as the version that they make.
@@ -97,15 +102,138 @@ impl ZoneBuilder {
         Ok(())
     }
 
+    /// Puts an RRset in place of the one of its owner and type, the first of equal data kept. An empty one changes nothing, wherever its owner is.
+    /// Refused are, tested in this order, an owner outside the zone, and, as `InvalidData`, a CNAME RRset below the apex whose data aren't one value
+    /// (RFC 2181, 10.1).
+    pub fn insert_rrset<N: Labelled>(
+        &mut self,
+        owner: &N,
+        set: SharedRrset,
+    ) -> Result<(), InsertError>
+        ensures empty { (length set.contents.items == 0) ≡ true → IsOk result × (self.new ≡ self.old) }
+        ensures ok { (length set.contents.items == 0) ≡ false → OnOk result (edits.replace_set self.old (N.labels owner.now) set.rtype set.contents ≡ Ok self.new) }
+        ensures outside { (result ≡ Err InsertError.OutOfZone) ↔ (((length set.contents.items == 0) ≡ false) × (under (N.labels owner.now) self.old.apex ≡ false)) }
+        ensures alias { (result ≡ Err InsertError.InvalidData) ↔ (((length set.contents.items == 0) ≡ false) × (under (N.labels owner.now) self.old.apex ≡ true) × (edits.is_bad_alias self.old (N.labels owner.now) set.rtype set.contents ≡ true)) }
+        ensures err { OnErr result (self.new ≡ self.old) }
+    {
+        let put = self.put_rrset(&owner.to_key_name(), set.as_rrset());
+        drop(set);
+        put
+    }
+
+    /// The same of an owner and an RRset that are lent.
+    fn put_rrset(&mut self, owner: &KeyName, set: &Rrset) -> Result<(), InsertError>
+        ensures empty { (length set.now.contents.items == 0) ≡ true → IsOk result × (self.new ≡ self.old) }
+        ensures ok { (length set.now.contents.items == 0) ≡ false → OnOk result (edits.replace_set self.old owner.now set.now.rtype set.now.contents ≡ Ok self.new) }
+        ensures outside { (result ≡ Err InsertError.OutOfZone) ↔ (((length set.now.contents.items == 0) ≡ false) × (under owner.now self.old.apex ≡ false)) }
+        ensures alias { (result ≡ Err InsertError.InvalidData) ↔ (((length set.now.contents.items == 0) ≡ false) × (under owner.now self.old.apex ≡ true) × (edits.is_bad_alias self.old owner.now set.now.rtype set.now.contents ≡ true)) }
+        ensures err { OnErr result (self.new ≡ self.old) }
+    {
+        if set.is_empty() {
+            return Ok(());
+        }
+        if !owner.ends_with(self.version.apex()) {
+            return Err(InsertError::OutOfZone);
+        }
+        if self.version.is_bad_alias(owner, set) {
+            return Err(InsertError::InvalidData);
+        }
+        replace_set(&mut self.version, self.alloc, owner, set)?;
+        Ok(())
+    }
+
+    /// Makes a name below the apex a zone cut (RFC 1034, 4.2.1): its NS and DS RRsets are these, the first of equal data kept, without DS records none,
+    /// and the addresses in the zone are put as glue. Other RRsets stay.
+    pub fn insert_zone_cut<N: Labelled>(
+        &mut self,
+        name: &N,
+        ns: SharedRrset,
+        ds: Option<SharedRrset>,
+        glue: Vec<StoredRecord>,
+    ) -> Result<(), InsertCutError>
+        requires ns { ns.rtype ≡ type_ns }
+        requires ds { IfSome ds (λ s. s.rtype ≡ type_ds) }
+        ensures ok { OnOk result (self.new ≡ edits.make_cut self.old (N.labels name.now) ns.contents (option_map (λ (s : TypedSet). s.contents) ds) glue.items) }
+        ensures outside { (result ≡ Err InsertCutError.OutOfZone) ↔ (under (N.labels name.now) self.old.apex ≡ false) }
+        ensures apex { (result ≡ Err InsertCutError.ZoneCutAtApex) ↔ (same_name (N.labels name.now) self.old.apex ≡ true) }
+        ensures err { OnErr result (self.new ≡ self.old) }
+    {
+        let put = self.put_cut(&name.to_key_name(), &ns, &ds, &glue);
+        drop(glue);
+        drop(ds);
+        drop(ns);
+        put
+    }
+
+    /// The same of a zone cut that is lent.
+    fn put_cut(
+        &mut self,
+        name: &KeyName,
+        ns: &SharedRrset,
+        ds: &Option<SharedRrset>,
+        glue: &[StoredRecord],
+    ) -> Result<(), InsertCutError>
+        requires ns { ns.now.rtype ≡ type_ns }
+        requires ds { IfSome ds.now (λ s. s.rtype ≡ type_ds) }
+        ensures ok { OnOk result (self.new ≡ edits.make_cut self.old name.now ns.now.contents (option_map (λ (s : TypedSet). s.contents) ds.now) glue.now) }
+        ensures outside { (result ≡ Err InsertCutError.OutOfZone) ↔ (under name.now self.old.apex ≡ false) }
+        ensures apex { (result ≡ Err InsertCutError.ZoneCutAtApex) ↔ (same_name name.now self.old.apex ≡ true) }
+        ensures err { OnErr result (self.new ≡ self.old) }
+    {
+        if name.name_eq(self.version.apex()) {
+            return Err(InsertCutError::ZoneCutAtApex);
+        }
+        if !name.ends_with(self.version.apex()) {
+            return Err(InsertCutError::OutOfZone);
+        }
+        make_cut(&mut self.version, self.alloc, name, ns, ds, glue)?;
+        Ok(())
+    }
+
+    /// Makes a name below the apex an alias (RFC 1034, 3.6.2): its CNAME RRset is this one record. Other RRsets stay.
+    pub fn insert_cname<N: Labelled>(
+        &mut self,
+        name: &N,
+        alias: SharedRr,
+    ) -> Result<(), InsertCnameError>
+        requires { alias.rtype ≡ type_cname }
+        ensures ok { OnOk result (self.new ≡ edits.make_alias self.old (N.labels name.now) alias.ttl alias.fields) }
+        ensures outside { (result ≡ Err InsertCnameError.OutOfZone) ↔ (under (N.labels name.now) self.old.apex ≡ false) }
+        ensures apex { (result ≡ Err InsertCnameError.CnameAtApex) ↔ (same_name (N.labels name.now) self.old.apex ≡ true) }
+        ensures err { OnErr result (self.new ≡ self.old) }
+    {
+        let put = self.put_cname(&name.to_key_name(), &alias);
+        drop(alias);
+        put
+    }
+
+    /// The same of an alias that is lent.
+    fn put_cname(&mut self, name: &KeyName, alias: &SharedRr) -> Result<(), InsertCnameError>
+        requires { alias.now.rtype ≡ type_cname }
+        ensures ok { OnOk result (self.new ≡ edits.make_alias self.old name.now alias.now.ttl alias.now.fields) }
+        ensures outside { (result ≡ Err InsertCnameError.OutOfZone) ↔ (under name.now self.old.apex ≡ false) }
+        ensures apex { (result ≡ Err InsertCnameError.CnameAtApex) ↔ (same_name name.now self.old.apex ≡ true) }
+        ensures err { OnErr result (self.new ≡ self.old) }
+    {
+        if name.name_eq(self.version.apex()) {
+            return Err(InsertCnameError::CnameAtApex);
+        }
+        if !name.ends_with(self.version.apex()) {
+            return Err(InsertCnameError::OutOfZone);
+        }
+        make_alias(&mut self.version, self.alloc, name, alias)?;
+        Ok(())
+    }
+
     /// Opens the zone, its version numbered 0: the records without DS sets below the apex that lack NS.
     pub fn build(self) -> Result<ZoneApex, AllocError>
         ensures { IfOk result (λ z. z ≡ record { number = 0; version = edits.close self }) }
     {
-        self.open_at(0)
+        self.build_at(0)
     }
 
     /// Opens the zone, as `build` does, with another number for its version.
-    pub fn open_at(self, number: u64) -> Result<ZoneApex, AllocError>
+    pub fn build_at(self, number: u64) -> Result<ZoneApex, AllocError>
         ensures { IfOk result (λ z. z ≡ record { number = number; version = edits.close self }) }
     {
         let version = Arc::new(self.alloc, self.version.into_closed()?)?;

@@ -3,14 +3,17 @@
 
 mod apex;
 mod builder;
+mod building;
 mod child;
 mod edits;
+mod errors;
 mod node;
 mod read;
 mod write;
 
 pub use apex::ZoneApex;
 pub use builder::ZoneBuilder;
+pub use errors::{InsertCnameError, InsertCutError};
 pub use node::WriteNode;
 pub use read::ReadZone;
 pub use write::WriteZone;

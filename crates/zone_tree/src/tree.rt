@@ -1,7 +1,7 @@
 // The zones of a server by class and apex.
-ghost use Rattle.std.specs.Prelude.{◌≡◌, ◌↔◌, [], Some, None, Ok, Err, IsSome, IfErr, OnOk, OnErr, MatchOption, option_copied};
+ghost use Rattle.std.specs.Prelude.{◌≡◌, ◌↔◌, [], Some, None, Ok, Err, IsSome, IfErr, OnOk, OnErr, MatchOption, is_some, option_copied};
 ghost use Rattle.std.specs.BTreeMap.{insert_entry, is_at};
-ghost use Rattle.std.specs.Map.{remove_entry, values_of};
+ghost use Rattle.std.specs.Map.{lookup, remove_entry, values_of};
 ghost use Rattle.dns_name.specs.Names.{fold};
 ghost use Rattle.zone_model.specs.Zones.{zone_key_cmp, zone_of, find_zone};
 ghost use Rattle.zone_tree.specs.Trees.{key_of, IsZoneTree, FindsNearest, SameElsewhere};
@@ -13,7 +13,7 @@ use crate::at_apex::AtApex;
 use crate::errors::InsertZoneError;
 use crate::iter::ZoneSetIter;
 use crate::zone_key::ZoneKey;
-use dns_name::{Class, Labelled};
+use dns_name::{Class, KeyName, Labelled};
 use std::alloc::Global;
 use std::collections::BTreeMap;
 use std::marker::Model;
@@ -48,7 +48,8 @@ impl<Z: AtApex> ZoneTree<Z> {
 
     /// The zone of a class and apex, the case of letters aside.
     pub fn get_zone<N: Labelled>(&self, apex_name: &N, class: Class) -> Option<&Z>
-        ensures { option_copied result ≡ zone_of self.now class (N.labels apex_name.now) }
+        ensures is { option_copied result ≡ zone_of self.now class (N.labels apex_name.now) }
+        ensures tree { IsZoneTree Z.class_of Z.apex_of self.now }
     {
         self.entries.get(&ZoneKey::new(class, apex_name))
     }
@@ -59,7 +60,14 @@ impl<Z: AtApex> ZoneTree<Z> {
         ensures is { option_copied result ≡ find_zone self.now class (N.labels qname.now) }
         ensures nearest { FindsNearest Z.class_of Z.apex_of self.now class (N.labels qname.now) (option_copied result) }
     {
-        let name = qname.to_key_name();
+        self.nearest(&qname.to_key_name(), class)
+    }
+
+    /// The same of a name in place.
+    fn nearest(&self, name: &KeyName, class: Class) -> Option<&Z>
+        ensures is { option_copied result ≡ find_zone self.now class name.now }
+        ensures tree { IsZoneTree Z.class_of Z.apex_of self.now }
+    {
         let mut rest = name.borrowed();
         while let Some((_, parent)) = rest.split_first() {
             let found = self.get_zone(&rest, class);
@@ -92,18 +100,12 @@ impl<Z: AtApex + Drop> ZoneTree<Z> {
         ensures returned { IfErr result (λ e. handed_back e ≡ zone) }
     {
         let key = ZoneKey::new(zone.class(), zone.apex_name());
-        if self.entries.contains_key(&key) {
+        if self.has(&key) {
             return Err(InsertZoneError::ZoneExists(zone));
         }
-        match self.entries.insert(key, zone) {
-            Ok(before) => {
-                drop(before);
-                Ok(())
-            }
-            Err(failed) => {
-                let (_, zone) = failed.value;
-                Err(InsertZoneError::Memory(zone))
-            }
+        match self.put(key, zone) {
+            Ok(()) => Ok(()),
+            Err(zone) => Err(InsertZoneError::Memory(zone)),
         }
     }
 
@@ -119,9 +121,47 @@ impl<Z: AtApex + Drop> ZoneTree<Z> {
         ensures others { SameElsewhere class (N.labels apex_name.now) self.old self.new }
         ensures refused { OnErr result (self.new ≡ self.old) }
     {
-        match self.entries.remove(&ZoneKey::new(class, apex_name)) {
+        match self.take(&ZoneKey::new(class, apex_name)) {
             Some(zone) => Ok(zone),
             None => Err(ZoneTreeModificationError::ZoneDoesNotExist),
         }
+    }
+}
+
+// One map at its keys.
+impl<Z: AtApex + Drop> ZoneTree<Z> {
+    /// Whether there is a zone at a key.
+    fn has(&self, key: &ZoneKey) -> bool
+        ensures { result ≡ is_some (lookup (is_at (zone_key_cmp key.now)) self.now) }
+    {
+        self.entries.contains_key(key)
+    }
+
+    /// Puts a zone at its key. Without memory the zone is handed back.
+    fn put(&mut self, key: ZoneKey, zone: Z) -> Result<(), Z>
+        requires { key ≡ key_of Z.class_of Z.apex_of zone }
+        ensures ok { OnOk result (self.new ≡ insert_entry zone_key_cmp self.old key zone) }
+        ensures err { OnErr result (self.new ≡ self.old) }
+        ensures returned { IfErr result (λ z. z ≡ zone) }
+    {
+        match self.entries.insert(key, zone) {
+            Ok(before) => {
+                drop(before);
+                Ok(())
+            }
+            Err(failed) => {
+                let (_, zone) = failed.value;
+                Err(zone)
+            }
+        }
+    }
+
+    /// Takes the zone at a key out.
+    fn take(&mut self, key: &ZoneKey) -> Option<Z>
+        ensures value { result ≡ lookup (is_at (zone_key_cmp key.now)) self.old }
+        ensures is { self.new ≡ remove_entry (is_at (zone_key_cmp key.now)) self.old }
+        ensures tree { IsZoneTree Z.class_of Z.apex_of self.old }
+    {
+        self.entries.remove(key)
     }
 }
