@@ -21,26 +21,26 @@ module _ {Z : Type 0} where
   -- what is put at a key is found there
   pub inserted_there : (zones : Zones Z) (k : ZoneKey) (zone : Z) → lookup (is_at (zone_key_cmp k)) (insert_entry zone_key_cmp zones k zone) ≡ Some zone
   inserted_there [] k zone = ap (λ o. cond (is_eq o) (Some zone) None) (tied_itself zone_key_total k)
-  inserted_there (e ∷ zones) k zone = by (zone_key_cmp k e.0) refl
+  inserted_there (e ∷ zones) k zone = by (zone_key_cmp k e.0) refl (inserted_there zones k zone)
     where
-      by : (o : Ordering) → zone_key_cmp k e.0 ≡ o
+      by : (o : Ordering) → zone_key_cmp k e.0 ≡ o → lookup (is_at (zone_key_cmp k)) (insert_entry zone_key_cmp zones k zone) ≡ Some zone
           → lookup (is_at (zone_key_cmp k)) (match_ordering o ((k, zone) ∷ e ∷ zones) ((e.0, zone) ∷ zones) (e ∷ insert_entry zone_key_cmp zones k zone)) ≡ Some zone
-      by Less q = ap (λ o. cond (is_eq o) (Some zone) (lookup (is_at (zone_key_cmp k)) (e ∷ zones))) (tied_itself zone_key_total k)
-      by Equal q = ap (λ o. cond (is_eq o) (Some zone) (lookup (is_at (zone_key_cmp k)) zones)) q
-      by Greater q = ap (λ o. cond (is_eq o) (Some e.1) (lookup (is_at (zone_key_cmp k)) (insert_entry zone_key_cmp zones k zone))) q ∙ inserted_there zones k zone
+      by Less q rest = ap (λ o. cond (is_eq o) (Some zone) (lookup (is_at (zone_key_cmp k)) (e ∷ zones))) (tied_itself zone_key_total k)
+      by Equal q rest = ap (λ o. cond (is_eq o) (Some zone) (lookup (is_at (zone_key_cmp k)) zones)) q
+      by Greater q rest = ap (λ o. cond (is_eq o) (Some e.1) (lookup (is_at (zone_key_cmp k)) (insert_entry zone_key_cmp zones k zone))) q ∙ rest
 
   -- .. and every other key has what it had
   inserted_elsewhere : (zones : Zones Z) (k q : ZoneKey) (zone : Z) → is_eq (zone_key_cmp q k) ≡ false → lookup (is_at (zone_key_cmp q)) (insert_entry zone_key_cmp zones k zone) ≡ lookup (is_at (zone_key_cmp q)) zones
   inserted_elsewhere [] k q zone apart = ap (λ b. cond b (Some zone) None) apart
-  inserted_elsewhere (e ∷ zones) k q zone apart = by (zone_key_cmp k e.0) refl
+  inserted_elsewhere (e ∷ zones) k q zone apart = by (zone_key_cmp k e.0) refl (inserted_elsewhere zones k q zone apart)
     where
-      by : (o : Ordering) → zone_key_cmp k e.0 ≡ o
+      by : (o : Ordering) → zone_key_cmp k e.0 ≡ o → lookup (is_at (zone_key_cmp q)) (insert_entry zone_key_cmp zones k zone) ≡ lookup (is_at (zone_key_cmp q)) zones
           → lookup (is_at (zone_key_cmp q)) (match_ordering o ((k, zone) ∷ e ∷ zones) ((e.0, zone) ∷ zones) (e ∷ insert_entry zone_key_cmp zones k zone)) ≡ lookup (is_at (zone_key_cmp q)) (e ∷ zones)
-      by Less p = ap (λ b. cond b (Some zone) (lookup (is_at (zone_key_cmp q)) (e ∷ zones))) apart
-      by Equal p =
+      by Less p rest = ap (λ b. cond b (Some zone) (lookup (is_at (zone_key_cmp q)) (e ∷ zones))) apart
+      by Equal p rest =
           let other : is_eq (zone_key_cmp q e.0) ≡ false = sym (ap is_eq (alike_right zone_key_total k e.0 q p)) ∙ apart in
           ap (λ b. cond b (Some zone) (lookup (is_at (zone_key_cmp q)) zones)) other ∙ sym (ap (λ b. cond b (Some e.1) (lookup (is_at (zone_key_cmp q)) zones)) other)
-      by Greater p = ap (λ o. cond (is_eq (zone_key_cmp q e.0)) (Some e.1) o) (inserted_elsewhere zones k q zone apart)
+      by Greater p rest = ap (λ o. cond (is_eq (zone_key_cmp q e.0)) (Some e.1) o) rest
 
   pub inserted_others : (zones : Zones Z) (class : ℕ) (apex : Name) (zone : Z) → SameElsewhere class apex zones (insert_entry zone_key_cmp zones (class, fold apex) zone)
   inserted_others zones class apex zone = λ c n apart. inserted_elsewhere zones (class, fold apex) (c, fold n) zone (apart_back class apex c n apart)
@@ -75,7 +75,7 @@ module _ {Z : Type 0} (class_of : Z → ℕ) (apex_of : Z → Name) where
 
   pub placed_inserted : (zones : Zones Z) (k : ZoneKey) (zone : Z) → IsPlaced class_of apex_of (k, zone) → All (IsPlaced class_of apex_of) zones → All (IsPlaced class_of apex_of) (insert_entry zone_key_cmp zones k zone)
   placed_inserted [] k zone at placed = All-cons (IsPlaced class_of apex_of) (k, zone) [] at (All-nil (IsPlaced class_of apex_of))
-  placed_inserted (e ∷ zones) k zone at placed = by (zone_key_cmp k e.0) refl
+  placed_inserted (e ∷ zones) k zone at placed = by (zone_key_cmp k e.0) refl (placed_inserted zones k zone at (All-tail (IsPlaced class_of apex_of) e zones placed))
     where
       first : IsPlaced class_of apex_of e
       first = All-head (IsPlaced class_of apex_of) e zones placed
@@ -86,19 +86,16 @@ module _ {Z : Type 0} (class_of : Z → ℕ) (apex_of : Z → Name) where
       same : zone_key_cmp k e.0 ≡ Equal → e.0 ≡ k
       same q = let t = keys_tie k e.0 q in let name : e.0.1 ≡ k.1 = sym (folded e first) ∙ sym t.1 ∙ folded (k, zone) at in λ i. (sym t.0 i, name i)
 
-      by : (o : Ordering) → zone_key_cmp k e.0 ≡ o
+      by : (o : Ordering) → zone_key_cmp k e.0 ≡ o → All (IsPlaced class_of apex_of) (insert_entry zone_key_cmp zones k zone)
           → All (IsPlaced class_of apex_of) (match_ordering o ((k, zone) ∷ e ∷ zones) ((e.0, zone) ∷ zones) (e ∷ insert_entry zone_key_cmp zones k zone))
-      by Less q = All-cons (IsPlaced class_of apex_of) (k, zone) (e ∷ zones) at placed
-      by Equal q = All-cons (IsPlaced class_of apex_of) (e.0, zone) zones (same q ∙ at) others
-      by Greater q = All-cons (IsPlaced class_of apex_of) e (insert_entry zone_key_cmp zones k zone) first (placed_inserted zones k zone at others)
+      by Less q rest = All-cons (IsPlaced class_of apex_of) (k, zone) (e ∷ zones) at placed
+      by Equal q rest = All-cons (IsPlaced class_of apex_of) (e.0, zone) zones (same q ∙ at) others
+      by Greater q rest = All-cons (IsPlaced class_of apex_of) e (insert_entry zone_key_cmp zones k zone) first rest
 
   pub placed_removed : (zones : Zones Z) (test : ZoneKey → Bool) → All (IsPlaced class_of apex_of) zones → All (IsPlaced class_of apex_of) (remove_entry test zones)
   placed_removed [] test placed = placed
-  placed_removed (e ∷ zones) test placed = by (test e.0)
+  placed_removed (e ∷ zones) test placed = by (test e.0) (placed_removed zones test (All-tail (IsPlaced class_of apex_of) e zones placed))
     where
-      others : All (IsPlaced class_of apex_of) zones
-      others = All-tail (IsPlaced class_of apex_of) e zones placed
-
-      by : (b : Bool) → All (IsPlaced class_of apex_of) (cond b zones (e ∷ remove_entry test zones))
-      by true = others
-      by false = All-cons (IsPlaced class_of apex_of) e (remove_entry test zones) (All-head (IsPlaced class_of apex_of) e zones placed) (placed_removed zones test others)
+      by : (b : Bool) → All (IsPlaced class_of apex_of) (remove_entry test zones) → All (IsPlaced class_of apex_of) (cond b zones (e ∷ remove_entry test zones))
+      by true rest = All-tail (IsPlaced class_of apex_of) e zones placed
+      by false rest = All-cons (IsPlaced class_of apex_of) e (remove_entry test zones) (All-head (IsPlaced class_of apex_of) e zones placed) rest

@@ -50,32 +50,34 @@ module _ {Z : Type 0} (class_of : Z → ℕ) (apex_of : Z → Name) where
   -- a look-up finds the zone of a class and apex
   pub found_is : (zones : Zones Z) (class : ℕ) (apex : Name) (zone : Z) → All IsPlaced zones → zone_of zones class apex ≡ Some zone → Contains (values_of zones) zone × IsZoneOf class apex zone
   found_is [] class apex zone placed found = absurd (true≢false (sym (ap is_some found)))
-  found_is (e ∷ zones) class apex zone placed found = by (zone_key_cmp (class, fold apex) e.0) refl found
+  found_is (e ∷ zones) class apex zone placed found = by (zone_key_cmp (class, fold apex) e.0) refl found (λ g. found_is zones class apex zone (All-tail IsPlaced e zones placed) g)
     where
-      later : zone_of zones class apex ≡ Some zone → Contains (values_of (e ∷ zones)) zone × IsZoneOf class apex zone
-      later g = let r = found_is zones class apex zone (All-tail IsPlaced e zones placed) g in (Contains-append_right (e.1 ∷ []) (values_of zones) zone r.0, r.1)
+      later : Contains (values_of zones) zone × IsZoneOf class apex zone → Contains (values_of (e ∷ zones)) zone × IsZoneOf class apex zone
+      later r = (Contains-append_right (e.1 ∷ []) (values_of zones) zone r.0, r.1)
 
-      by : (o : Ordering) → zone_key_cmp (class, fold apex) e.0 ≡ o → cond (is_eq o) (Some e.1) (zone_of zones class apex) ≡ Some zone → Contains (values_of (e ∷ zones)) zone × IsZoneOf class apex zone
-      by Less q g = later g
-      by Equal q g =
+      by : (o : Ordering) → zone_key_cmp (class, fold apex) e.0 ≡ o → cond (is_eq o) (Some e.1) (zone_of zones class apex) ≡ Some zone
+          → (zone_of zones class apex ≡ Some zone → Contains (values_of zones) zone × IsZoneOf class apex zone) → Contains (values_of (e ∷ zones)) zone × IsZoneOf class apex zone
+      by Less q g rest = later (rest g)
+      by Equal q g rest =
           subst (λ z. Contains (values_of (e ∷ zones)) z × IsZoneOf class apex z) (ap (λ o. unwrap_or o e.1) g)
               (Contains-append_left (e.1 ∷ []) (values_of zones) e.1 (Contains-push [] e.1), tie_is class apex e (All-head IsPlaced e zones placed) q)
-      by Greater q g = later g
+      by Greater q g rest = later (rest g)
 
   -- and finds none where there is none
   pub none_is : (zones : Zones Z) (class : ℕ) (apex : Name) → All IsPlaced zones → zone_of zones class apex ≡ None → All (λ zone. IsZoneOf class apex zone → ⊥) (values_of zones)
   none_is [] class apex placed none = All-nil (λ zone. IsZoneOf class apex zone → ⊥)
-  none_is (e ∷ zones) class apex placed none = by (zone_key_cmp (class, fold apex) e.0) refl none
+  none_is (e ∷ zones) class apex placed none = by (zone_key_cmp (class, fold apex) e.0) refl none (λ g. none_is zones class apex (All-tail IsPlaced e zones placed) g)
     where
-      apart : (o : Ordering) → is_eq o ≡ false → zone_key_cmp (class, fold apex) e.0 ≡ o → zone_of zones class apex ≡ None → All (λ zone. IsZoneOf class apex zone → ⊥) (values_of (e ∷ zones))
-      apart o not q g =
-          All-cons (λ zone. IsZoneOf class apex zone → ⊥) e.1 (values_of zones) (λ z. true≢false (sym (ap is_eq (is_tie class apex e (All-head IsPlaced e zones placed) z)) ∙ ap is_eq q ∙ not))
-              (none_is zones class apex (All-tail IsPlaced e zones placed) g)
+      apart : (o : Ordering) → is_eq o ≡ false → zone_key_cmp (class, fold apex) e.0 ≡ o → All (λ zone. IsZoneOf class apex zone → ⊥) (values_of zones) → All (λ zone. IsZoneOf class apex zone → ⊥) (values_of (e ∷ zones))
+      apart o differs q rest =
+          All-cons (λ zone. IsZoneOf class apex zone → ⊥) e.1 (values_of zones)
+              (λ z. true≢false (sym (ap is_eq (is_tie class apex e (All-head IsPlaced e zones placed) z)) ∙ ap is_eq q ∙ differs)) rest
 
-      by : (o : Ordering) → zone_key_cmp (class, fold apex) e.0 ≡ o → cond (is_eq o) (Some e.1) (zone_of zones class apex) ≡ None → All (λ zone. IsZoneOf class apex zone → ⊥) (values_of (e ∷ zones))
-      by Less q g = apart Less refl q g
-      by Equal q g = absurd (true≢false (ap is_some g))
-      by Greater q g = apart Greater refl q g
+      by : (o : Ordering) → zone_key_cmp (class, fold apex) e.0 ≡ o → cond (is_eq o) (Some e.1) (zone_of zones class apex) ≡ None
+          → (zone_of zones class apex ≡ None → All (λ zone. IsZoneOf class apex zone → ⊥) (values_of zones)) → All (λ zone. IsZoneOf class apex zone → ⊥) (values_of (e ∷ zones))
+      by Less q g rest = apart Less refl q (rest g)
+      by Equal q g rest = absurd (true≢false (ap is_some g))
+      by Greater q g rest = apart Greater refl q (rest g)
 
 -- keys of another class or name don't tie
 pub apart_is : (class : ℕ) (apex : Name) (c : ℕ) (n : Name) → ((class == c) && same_name apex n) ≡ false → is_eq (zone_key_cmp (class, fold apex) (c, fold n)) ≡ false
