@@ -10,24 +10,29 @@ use Rattle.zone_script.specs.ScriptReaders.{readers_so_far}
 use Rattle.zone_script.specs.Keeping.{Gives}
 use Rattle.zone_script.specs.declared.script.Script.{Script}
 use Rattle.zone_sync.specs.Notices.{bad_line, is_reported}
+use Rattle.zone_devices.specs.Links.{LinkLists}
 use Rattle.zone_devices.specs.Streams.{with_more}
 use Rattle.xfr_server.specs.Items.{Sending}
 use Rattle.zone_model.specs.Commits.{Commit}
 use Rattle.zone_model.specs.Offer.{Provider}
-use Rattle.zone_sync.specs.Reported.{Crossed, Reports, ReportsOn, Ran, IsDue, Took, TookFirst, Wrote, asking_with, asking_in, provider_of, primary_version}
+use Rattle.zone_sync.specs.Reported.{Crossed, crossed, Untouched, Transferred, TransfersOn, Reports, ReportsOn, Tried, Ran, NamesLine, IsDue, Took, TookFirst, Wrote, asking_with, asking_in, provider_of, primary_version}
 use Rattle.zone_sync.specs.declared.program.Status.{Status}
 use Rattle.zone_sync.specs.declared.program.Status.TheVariants as ends
 use Rattle.zone_sync.proofs.ReportLaw.{ends_reported}
+
+-- a link that is as it was
+pub untouched : {longest f : ℕ} {lists : Option LinkLists} → Untouched (crossed longest lists lists f f)
+untouched = record { lists = refl; faults = refl }
 
 -- a report that was written whole
 not_sink : (s : Status) → IsTrue (is_reported s) → s ≢ ends.SinkFault
 not_sink s h e = let clash : false ≡ true = ap is_reported (sym e) ∙ h in absurd cc
 
-pub report_taken : (Sends : List ℕ → Option (List Sending) → Type 0) (a : Asking) (at : ℕ) (queries : List (Name × ℕ)) (link : Crossed) (octets shown : List ℕ) (status s : Status) (taken_old taken_new : Option (List ℕ)) → Reports Sends a at queries link octets status → shown ≡ octets
-    → (s ≢ ends.SinkFault → s ≡ status) → (s ≢ ends.SinkFault → taken_new ≡ with_more shown taken_old) → IsTrue (is_reported s) → Took (λ o. Reports Sends a at queries link o s) taken_old taken_new
-report_taken Sends a at queries link octets shown status s taken_old taken_new r same done written h = record {
+pub report_taken : (SendsOf : Provider → TsigKey → ℕ → List ℕ → Option (List Sending) → Type 0) (script : Script) (link : Crossed) (octets shown : List ℕ) (status s : Status) (taken_old taken_new : Option (List ℕ)) → ReportsOn SendsOf script link octets status → shown ≡ octets
+    → (s ≢ ends.SinkFault → s ≡ status) → (s ≢ ends.SinkFault → taken_new ≡ with_more shown taken_old) → IsTrue (is_reported s) → Took (λ o. ReportsOn SendsOf script link o s) taken_old taken_new
+report_taken SendsOf script link octets shown status s taken_old taken_new r same done written h = record {
   octets = octets;
-  due = subst (λ t. Reports Sends a at queries link octets t) (sym (done (not_sink s h))) r;
+  due = subst (λ t. ReportsOn SendsOf script link octets t) (sym (done (not_sink s h))) r;
   taken = written (not_sink s h) ∙ ap (λ o. with_more o taken_old) same;
 }
 
@@ -39,20 +44,42 @@ with_nothing : (had : Option (List ℕ)) → had ≡ with_more [] had
 with_nothing None = refl
 with_nothing (Some xs) = ap Some (sym (append-nil xs))
 
--- the report of a transfer that was asked as the script says
+-- what holds of a transfer that was asked as the script was read holds of one that is asked as it says
+asked_so : (SendsOf : Provider → TsigKey → ℕ → List ℕ → Option (List Sending) → Type 0) (Holds : (List ℕ → Option (List Sending) → Type 0) → Asking → ℕ → List (Name × ℕ) → Type 0) (text : List ℕ) (k : Script) (spelt : Spelt text k)
+    → Holds (SendsOf (provider_of k.primary.version k.key) k.key k.at_primary) (asking_with k.key k.at_secondary k.secondary) k.at_primary k.queries
+    → Holds (SendsOf (provider_of (primary_version spelt.0) k.key) k.key spelt.0.at_primary) (asking_in spelt.0 k.key) spelt.0.at_primary spelt.0.queries
+asked_so SendsOf Holds text k (t, spells, gives) r =
+    let at = subst (λ (n : ℕ). Holds (SendsOf (provider_of k.primary.version k.key) k.key n) (asking_with k.key k.at_secondary k.secondary) n k.queries) gives.at_primary r in
+    let zone = subst (λ (z : Commit). Holds (SendsOf (provider_of z.version k.key) k.key t.at_primary) (asking_with k.key k.at_secondary k.secondary) t.at_primary k.queries) gives.primary at in
+    let later = subst (λ (n : ℕ). Holds (SendsOf (provider_of (primary_version t) k.key) k.key t.at_primary) (asking_with k.key n k.secondary) t.at_primary k.queries) gives.at_secondary zone in
+    let own = subst (λ (z : Commit). Holds (SendsOf (provider_of (primary_version t) k.key) k.key t.at_primary) (asking_with k.key t.at_secondary z) t.at_primary k.queries) gives.secondary later in
+    subst (λ (q : List (Name × ℕ)). Holds (SendsOf (provider_of (primary_version t) k.key) k.key t.at_primary) (asking_in t k.key) t.at_primary q) gives.queries own
+
+-- a transfer of the script that a text spells
+tried_so : (SendsOf : Provider → TsigKey → ℕ → List ℕ → Option (List Sending) → Type 0) (text : List ℕ) (link : Crossed) (k : Script) → Spelt text k → TransfersOn SendsOf k link → Tried SendsOf (Some text) link
+tried_so SendsOf text link k spelt t = record {
+  text = text;
+  whole = refl;
+  script = spelt.0;
+  spells = spelt.1;
+  key = k.key;
+  keyed = spelt.2.key;
+  transfer = asked_so SendsOf (λ Sends a at queries. Transferred Sends a at link) text k spelt t;
+}
+
+-- .. and its report
 ran_so : (SendsOf : Provider → TsigKey → ℕ → List ℕ → Option (List Sending) → Type 0) (text : List ℕ) (link : Crossed) (octets : List ℕ) (s : Status) (k : Script) → Spelt text k
     → ReportsOn SendsOf k link octets s → Ran SendsOf (Some text) link octets s
-ran_so SendsOf text link octets s k (t, spells, gives) r =
-    let at = subst (λ (n : ℕ). Reports (SendsOf (provider_of k.primary.version k.key) k.key n) (asking_with k.key k.at_secondary k.secondary) n k.queries link octets s) gives.at_primary r in
-    let zone = subst (λ (z : Commit). Reports (SendsOf (provider_of z.version k.key) k.key t.at_primary) (asking_with k.key k.at_secondary k.secondary) t.at_primary k.queries link octets s) gives.primary at in
-    let later = subst (λ (n : ℕ). Reports (SendsOf (provider_of (primary_version t) k.key) k.key t.at_primary) (asking_with k.key n k.secondary) t.at_primary k.queries link octets s) gives.at_secondary zone in
-    let own = subst (λ (z : Commit). Reports (SendsOf (provider_of (primary_version t) k.key) k.key t.at_primary) (asking_with k.key t.at_secondary z) t.at_primary k.queries link octets s) gives.secondary later in
-    let asked = subst (λ (q : List (Name × ℕ)). Reports (SendsOf (provider_of (primary_version t) k.key) k.key t.at_primary) (asking_in t k.key) t.at_primary q link octets s) gives.queries own in
-    record { text = text; whole = refl; script = t; spells = spells; key = k.key; keyed = gives.key; reports = asked }
+ran_so SendsOf text link octets s k spelt r =
+    let asked = asked_so SendsOf (λ Sends a at queries. (t : Transferred Sends a at link) × Reports t.answer t.handles t.session queries octets s) text k spelt (r.transfer, r.reports) in
+    record {
+      tried = record { text = text; whole = refl; script = spelt.0; spells = spelt.1; key = k.key; keyed = spelt.2.key; transfer = asked.0 };
+      reports = asked.1;
+    }
 
 pub due_of_report : (SendsOf : Provider → TsigKey → ℕ → List ℕ → Option (List Sending) → Type 0) (text : List ℕ) (link : Crossed) (octets : List ℕ) (s : Status) (k : Script) → Spelt text k
     → ReportsOn SendsOf k link octets s → IsDue SendsOf (Some text) link octets s
-due_of_report SendsOf text link octets s k spelt r = by s (ends_reported _ _ _ _ link octets s r) (ran_so SendsOf text link octets s k spelt r)
+due_of_report SendsOf text link octets s k spelt r = by s (ends_reported _ _ _ _ octets s r.reports) (ran_so SendsOf text link octets s k spelt r)
   where
     by : (s : Status) → IsTrue (is_reported s) → Ran SendsOf (Some text) link octets s → IsDue SendsOf (Some text) link octets s
     by ends.Done h r = r
@@ -72,10 +99,14 @@ first_due_of_report SendsOf text link taken_old taken_new k spelt t =
 
 pub written_of_transfer : (SendsOf : Provider → TsigKey → ℕ → List ℕ → Option (List Sending) → Type 0) (text : List ℕ) (link : Crossed) (taken_old taken_new : Option (List ℕ)) (s : Status) (k : Script) → Spelt text k
     → (IsTrue (is_reported s) → Took (λ octets. ReportsOn SendsOf k link octets s) taken_old taken_new)
-    → (s ≡ ends.Memory → taken_new ≡ taken_old) → (s ≢ ends.Usage) × (s ≢ ends.SourceFault) × (s ≢ ends.TooLong) × (s ≢ ends.Script) → s ≢ ends.SinkFault
+    → (s ≡ ends.Memory → taken_new ≡ taken_old) → Untouched link ⊎ TransfersOn SendsOf k link → (s ≢ ends.Usage) × (s ≢ ends.SourceFault) × (s ≢ ends.TooLong) × (s ≢ ends.Script) → s ≢ ends.SinkFault
     → Took (λ octets. IsDue SendsOf (Some text) link octets s) taken_old taken_new
-written_of_transfer SendsOf text link taken_old taken_new s k spelt reported nothing others no_sink = by s reported nothing others no_sink
+written_of_transfer SendsOf text link taken_old taken_new s k spelt reported nothing over_link others no_sink = by s reported nothing others no_sink
   where
+    passed : Untouched link ⊎ TransfersOn SendsOf k link → Untouched link ⊎ Tried SendsOf (Some text) link
+    passed (inl u) = inl u
+    passed (inr t) = inr (tried_so SendsOf text link k spelt t)
+
     as_due : (s : Status) → Took (λ octets. ReportsOn SendsOf k link octets s) taken_old taken_new
         → Took (λ octets. IsDue SendsOf (Some text) link octets s) taken_old taken_new
     as_due s t = record { octets = t.octets; due = due_of_report SendsOf text link t.octets s k spelt t.due; taken = t.taken }
@@ -86,21 +117,25 @@ written_of_transfer SendsOf text link taken_old taken_new s k spelt reported not
     by ends.Done reported nothing others no_sink = as_due ends.Done (reported refl)
     by ends.Refused reported nothing others no_sink = as_due ends.Refused (reported refl)
     by ends.LinkFault reported nothing others no_sink = as_due ends.LinkFault (reported refl)
-    by ends.Memory reported nothing others no_sink = record { octets = []; due = refl; taken = nothing refl ∙ with_nothing taken_old }
+    by ends.Memory reported nothing others no_sink = record { octets = []; due = (refl, passed over_link); taken = nothing refl ∙ with_nothing taken_old }
     by ends.SinkFault reported nothing others no_sink = absurd (no_sink refl)
     by ends.Usage reported nothing others no_sink = absurd (others.0 refl)
     by ends.SourceFault reported nothing others no_sink = absurd (others.1 refl)
     by ends.TooLong reported nothing others no_sink = absurd (others.2 refl)
     by ends.Script reported nothing others no_sink = absurd (others.3 refl)
 
--- a first part of the number of a bad line
-pub first_line : (SendsOf : Provider → TsigKey → ℕ → List ℕ → Option (List Sending) → Type 0) (text : List ℕ) (link : Crossed) (number : ℕ) (taken_old taken_new : Option (List ℕ)) → script_of readers_so_far text ≡ Err number
+-- the number of a bad line is due
+line_due : (text : List ℕ) (link : Crossed) (number : ℕ) → Untouched link → script_of readers_so_far text ≡ Err number → NamesLine (Some text) (bad_line number) × Untouched link
+line_due text link number idle bad = (record { text = text; whole = refl; number = number; bad = bad; is = refl }, idle)
+
+-- a first part of it
+pub first_line : (SendsOf : Provider → TsigKey → ℕ → List ℕ → Option (List Sending) → Type 0) (text : List ℕ) (link : Crossed) (number : ℕ) (taken_old taken_new : Option (List ℕ)) → Untouched link → script_of readers_so_far text ≡ Err number
     → ((n : ℕ) × (taken_new ≡ with_more (take n (bad_line number)) taken_old)) → TookFirst (IsDue SendsOf (Some text) link) taken_old taken_new
-first_line SendsOf text link number taken_old taken_new bad (n, taken) = record {
+first_line SendsOf text link number taken_old taken_new idle bad (n, taken) = record {
   octets = bad_line number;
   status = ends.Script;
   count = n;
-  due = record { text = text; whole = refl; number = number; bad = bad; is = refl };
+  due = line_due text link number idle bad;
   taken = taken;
 }
 
@@ -113,18 +148,28 @@ pub due_of_source : (SendsOf : Provider → TsigKey → ℕ → List ℕ → Opt
     → IsDue SendsOf (Some text) link octets s → IsDue SendsOf left link octets s
 due_of_source SendsOf left text link octets s e = by s
   where
+    as_tried : Tried SendsOf (Some text) link → Tried SendsOf left link
+    as_tried r = record { text = r.text; whole = along left text r.text e r.whole; script = r.script; spells = r.spells; key = r.key; keyed = r.keyed; transfer = r.transfer }
+
     as_ran : (s : Status) → Ran SendsOf (Some text) link octets s → Ran SendsOf left link octets s
-    as_ran s r = record { text = r.text; whole = along left text r.text e r.whole; script = r.script; spells = r.spells; key = r.key; keyed = r.keyed; reports = r.reports }
+    as_ran s r =
+        let k = r.tried in
+        let tried : Tried SendsOf left link = record { text = k.text; whole = along left text k.text e k.whole; script = k.script; spells = k.spells; key = k.key; keyed = k.keyed; transfer = k.transfer } in
+        record { tried = tried; reports = r.reports }
+
+    passed : Untouched link ⊎ Tried SendsOf (Some text) link → Untouched link ⊎ Tried SendsOf left link
+    passed (inl u) = inl u
+    passed (inr t) = inr (as_tried t)
 
     by : (s : Status) → IsDue SendsOf (Some text) link octets s → IsDue SendsOf left link octets s
     by ends.Done r = as_ran ends.Done r
     by ends.Refused r = as_ran ends.Refused r
     by ends.LinkFault r = as_ran ends.LinkFault r
-    by ends.Script r = record { text = r.text; whole = along left text r.text e r.whole; number = r.number; bad = r.bad; is = r.is }
+    by ends.Script r = (record { text = r.0.text; whole = along left text r.0.text e r.0.whole; number = r.0.number; bad = r.0.bad; is = r.0.is }, r.1)
     by ends.Usage r = r
     by ends.SourceFault r = r
     by ends.SinkFault r = r
-    by ends.Memory r = r
+    by ends.Memory r = (r.0, passed r.1)
     by ends.TooLong r = r
 
 pub written_of_source : (SendsOf : Provider → TsigKey → ℕ → List ℕ → Option (List Sending) → Type 0) (left : Option (List ℕ)) (text : List ℕ) (link : Crossed) (taken_old taken_new : Option (List ℕ)) (s : Status) → IfSome left (λ had. text ≡ had)
@@ -157,18 +202,18 @@ wrote_nothing Holds old new due same = record {
 }
 
 -- the number of a bad line was written, or a first part of it, or nothing
-pub wrote_line : (SendsOf : Provider → TsigKey → ℕ → List ℕ → Option (List Sending) → Type 0) (text : List ℕ) (link : Crossed) (number : ℕ) (old new : Option (List ℕ)) (s : Status) → script_of readers_so_far text ≡ Err number
+pub wrote_line : (SendsOf : Provider → TsigKey → ℕ → List ℕ → Option (List Sending) → Type 0) (text : List ℕ) (link : Crossed) (number : ℕ) (old new : Option (List ℕ)) (s : Status) → Untouched link → script_of readers_so_far text ≡ Err number
     → (s ≡ ends.Script → new ≡ with_more (bad_line number) old) → (s ≡ ends.SinkFault → (n : ℕ) × (new ≡ with_more (take n (bad_line number)) old)) → (s ≡ ends.Memory → new ≡ old)
     → (s ≡ ends.Script) ⊎ ((s ≡ ends.SinkFault) ⊎ (s ≡ ends.Memory)) → Wrote (IsDue SendsOf (Some text) link) old new s
-wrote_line SendsOf text link number old new s bad written part nothing others = by others
+wrote_line SendsOf text link number old new s idle bad written part nothing others = by others
   where
     by : (s ≡ ends.Script) ⊎ ((s ≡ ends.SinkFault) ⊎ (s ≡ ends.Memory)) → Wrote (IsDue SendsOf (Some text) link) old new s
     by (inl e) = subst (λ (t : Status). Wrote (IsDue SendsOf (Some text) link) old new t) (sym e) (record {
-      whole = λ well. record { octets = bad_line number; due = record { text = text; whole = refl; number = number; bad = bad; is = refl }; taken = written e };
+      whole = λ well. record { octets = bad_line number; due = line_due text link number idle bad; taken = written e };
       part = λ failed. cc;
     })
     by (inr (inl e)) = record {
       whole = λ well. absurd (well e);
-      part = λ failed. first_line SendsOf text link number old new bad (part failed);
+      part = λ failed. first_line SendsOf text link number old new idle bad (part failed);
     }
-    by (inr (inr e)) = subst (λ (t : Status). Wrote (IsDue SendsOf (Some text) link) old new t) (sym e) (wrote_nothing (IsDue SendsOf (Some text) link) old new refl (nothing e))
+    by (inr (inr e)) = subst (λ (t : Status). Wrote (IsDue SendsOf (Some text) link) old new t) (sym e) (wrote_nothing (IsDue SendsOf (Some text) link) old new (refl, inl idle) (nothing e))

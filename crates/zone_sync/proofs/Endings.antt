@@ -66,13 +66,13 @@ module _ (SendsOf : Provider → TsigKey → ℕ → List ℕ → Option (List S
   -- a run that was reported ends so
   reported_well : (octets : List ℕ) (s : Status) → Ran SendsOf (Some text) link octets s → (s ≡ Done) ⊎ (s ≡ Memory)
   reported_well octets s r =
-      let fit = fits_too r.script r.key (subst (λ (x : List ℕ). script_of readers_so_far x ≡ Ok r.script) r.whole r.spells) r.keyed in
-      let v = primary_version r.script in
-      let k = r.reports in
-      let grant = grants (provider_of v r.key) r.key (asking_in r.script r.key) r.script.at_primary link.longest refl (granted_to_one r.key.name (key_id r.key).1) fit.fits fit.request_fits in
-      ends_by (good_status v k.session k.answer (k.transfer.delivers v grant honest))
+      let k = r.tried in
+      let fit = fits_too k.script k.key (subst (λ (x : List ℕ). script_of readers_so_far x ≡ Ok k.script) k.whole k.spells) k.keyed in
+      let v = primary_version k.script in
+      let grant = grants (provider_of v k.key) k.key (asking_in k.script k.key) k.script.at_primary link.longest refl (granted_to_one k.key.name (key_id k.key).1) fit.fits fit.request_fits in
+      ends_by (good_status v k.transfer.session k.transfer.answer (k.transfer.says.delivers v grant honest))
     where
-      ends_by : (status_by r.reports.answer ≡ Done) ⊎ (status_by r.reports.answer ≡ Memory) → (s ≡ Done) ⊎ (s ≡ Memory)
+      ends_by : (status_by r.tried.transfer.answer ≡ Done) ⊎ (status_by r.tried.transfer.answer ≡ Memory) → (s ≡ Done) ⊎ (s ≡ Memory)
       ends_by (inl e) = inl (r.reports.ended ∙ e)
       ends_by (inr e) = inr (r.reports.ended ∙ e)
 

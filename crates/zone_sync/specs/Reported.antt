@@ -1,5 +1,5 @@
--- What a run of the program writes: the report of the transfer that a script asks for, the number of a bad line, or a notice.
-use Rattle.std.specs.Prelude.{◌≡◌, ◌≢◌, ℕ, List, [], length, take, Option, Some, IfSome, Result, Ok, Err, ◌≤◌, ◌∷◌, min, false}
+-- What a run of the program writes, and what passes over its link: the report of the transfer that a script asks for, the number of a bad line, or a notice.
+use Rattle.std.specs.Prelude.{◌≡◌, ◌≢◌, ◌⊎◌, ℕ, List, [], length, take, Option, Some, IfSome, Result, Ok, Err, ◌≤◌, ◌∷◌, min, false}
 use Rattle.dns_name.specs.Names.{Name}
 use Rattle.dns_rdata.specs.Records.{record_wire}
 use Rattle.tsig_port.specs.Tsig.{TsigKey}
@@ -7,6 +7,7 @@ use Rattle.zone_model.specs.Commits.{Commit}
 use Rattle.zone_model.specs.Session.{Session}
 use Rattle.zone_model.specs.TransferText.{Axfr}
 use Rattle.xfr_course.specs.Outcome.{Outcome}
+use Rattle.zone_devices.specs.Calls.{Rose}
 use Rattle.zone_devices.specs.Links.{LinkLists}
 use Rattle.zone_sync.specs.SoFar.{Asking, asked_octets}
 use Rattle.zone_sync.specs.Ending.{outcome_of}
@@ -52,16 +53,27 @@ status_by (Err _) = ends.Refused
 abbrev pub asking_with : TsigKey → ℕ → Commit → Asking
 asking_with key at base = record { key = key; mode = Axfr; at = at; base = base }
 
--- a transfer was answered so that it ends with that status, and octets are its report: outcome, count of versions made, the records of the last one, and what it answers to the questions
-pub record Reports (Sends : List ℕ → Option (List Sending) → Type 0) (a : Asking) (at : ℕ) (queries : List (Name × ℕ)) (link : Crossed) (octets : List ℕ) (status : Status) : Type 0 where
+-- nothing passed over the link, and its count of faults is as before
+pub record Untouched (link : Crossed) : Type 0 where
+  pub lists : link.lists_new ≡ link.lists_old
+  pub faults : link.faults_new ≡ link.faults_old
+
+-- one transfer was made over the link: its answer, the versions that it made, and the session that it left
+pub record Transferred (Sends : List ℕ → Option (List Sending) → Type 0) (a : Asking) (at : ℕ) (link : Crossed) : Type 0 where
   pub answer : Result SyncOk SyncError
   pub handles : List Commit
   pub session : Session
-  pub transfer : Synchronizes Sends a at link.longest link.lists_old link.lists_new link.faults_old link.faults_new [] handles session answer
+  pub says : Synchronizes Sends a at link.longest link.lists_old link.lists_new link.faults_old link.faults_new [] handles session answer
+  -- the answer is the link's fault only where its count of faults rose, and with any other none came
+  pub failed : answer ≡ Err why.LinkFault → Rose link.faults_old link.faults_new
+  pub steady : answer ≢ Err why.LinkFault → link.faults_new ≡ link.faults_old
+
+-- a transfer that was answered so ends with that status, and octets are its report: outcome, count of versions made, the records of the last one, and what it answers to the questions
+pub record Reports (answer : Result SyncOk SyncError) (handles : List Commit) (s : Session) (queries : List (Name × ℕ)) (octets : List ℕ) (status : Status) : Type 0 where
   pub ended : status ≡ status_by answer
   pub how : Outcome
   pub names : outcome_of answer ≡ Some how
-  pub is : octets ≡ report record_wire how (length handles) session.current.version queries []
+  pub is : octets ≡ report record_wire how (length handles) s.current.version queries []
 
 -- the primary of a script: it keeps this version, without differences, and grants it to the key
 abbrev pub provider_of : Version → TsigKey → Provider
@@ -74,20 +86,30 @@ primary_version script = close (opened script.primary)
 abbrev pub asking_in : Script TsigKey → TsigKey → Asking
 asking_in script key = asking_with key script.at_secondary (record { number = 0; version = secondary_version script })
 
--- the same of a script that was read: octets are the report of its transfer from a primary of its zone and key
-abbrev pub ReportsOn : (Provider → TsigKey → ℕ → List ℕ → Option (List Sending) → Type 0) → read_scripts.Script → Crossed → List ℕ → Status → Type 0
-ReportsOn SendsOf script link octets status =
-    Reports (SendsOf (provider_of script.primary.version script.key) script.key script.at_primary) (asking_with script.key script.at_secondary script.secondary) script.at_primary script.queries link octets status
+-- the transfer of a script that was read, from a primary of its zone and key that sends so
+abbrev pub TransfersOn : (Provider → TsigKey → ℕ → List ℕ → Option (List Sending) → Type 0) → read_scripts.Script → Crossed → Type 0
+TransfersOn SendsOf script link =
+    Transferred (SendsOf (provider_of script.primary.version script.key) script.key script.at_primary) (asking_with script.key script.at_secondary script.secondary) script.at_primary link
 
--- what the source had, where it tells it, spells a script, and octets are the report of its transfer from a primary of the script's zone and key that sends so
-pub record Ran (SendsOf : Provider → TsigKey → ℕ → List ℕ → Option (List Sending) → Type 0) (left : Option (List ℕ)) (link : Crossed) (octets : List ℕ) (status : Status) : Type 0 where
+-- .. and octets are its report
+pub record ReportsOn (SendsOf : Provider → TsigKey → ℕ → List ℕ → Option (List Sending) → Type 0) (script : read_scripts.Script) (link : Crossed) (octets : List ℕ) (status : Status) : Type 0 where
+  pub transfer : TransfersOn SendsOf script link
+  pub reports : Reports transfer.answer transfer.handles transfer.session script.queries octets status
+
+-- what the source had, where it tells it, spells a script, and the script's transfer was made, from a primary of its zone and key that sends so
+pub record Tried (SendsOf : Provider → TsigKey → ℕ → List ℕ → Option (List Sending) → Type 0) (left : Option (List ℕ)) (link : Crossed) : Type 0 where
   pub text : List ℕ
   pub whole : IfSome left (λ had. text ≡ had)
   pub script : Script TsigKey
   pub spells : script_of readers_so_far text ≡ Ok script
   pub key : TsigKey
   pub keyed : script.key ≡ Some key
-  pub reports : Reports (SendsOf (provider_of (primary_version script) key) key script.at_primary) (asking_in script key) script.at_primary script.queries link octets status
+  pub transfer : Transferred (SendsOf (provider_of (primary_version script) key) key script.at_primary) (asking_in script key) script.at_primary link
+
+-- .. and octets are its report
+pub record Ran (SendsOf : Provider → TsigKey → ℕ → List ℕ → Option (List Sending) → Type 0) (left : Option (List ℕ)) (link : Crossed) (octets : List ℕ) (status : Status) : Type 0 where
+  pub tried : Tried SendsOf left link
+  pub reports : Reports tried.transfer.answer tried.transfer.handles tried.transfer.session tried.script.queries octets status
 
 -- a script whose zones, key and moments fit each other, and whose request fits the link
 pub record FitsLink (script : Script TsigKey) (key : TsigKey) (longest : ℕ) : Type 0 where
@@ -95,7 +117,7 @@ pub record FitsLink (script : Script TsigKey) (key : TsigKey) (longest : ℕ) : 
   pub fits : Fits (asking_in script key) script.at_primary (primary_version script)
   pub request_fits : length (asked_octets (asking_in script key)) ≤ min longest 65535
 
--- .. is no script, and octets name its first bad line
+-- what the source had is no script, and octets name its first bad line
 pub record NamesLine (left : Option (List ℕ)) (octets : List ℕ) : Type 0 where
   pub text : List ℕ
   pub whole : IfSome left (λ had. text ≡ had)
@@ -103,13 +125,14 @@ pub record NamesLine (left : Option (List ℕ)) (octets : List ℕ) : Type 0 whe
   pub bad : script_of readers_so_far text ≡ Err number
   pub is : octets ≡ bad_line number
 
--- what there is to write with a status; with that of a failed sink nothing is, and a first part of what another status would have written was taken
+-- What there is to write with a status, and what passed over the link: the script's transfer with a report and nothing without one; where memory ran out,
+-- nothing or that transfer. With the status of a failed sink nothing is due, and a first part of what another status would have written was taken.
 abbrev pub IsDue : (Provider → TsigKey → ℕ → List ℕ → Option (List Sending) → Type 0) → Option (List ℕ) → Crossed → List ℕ → Status → Type 0
-IsDue SendsOf left link octets ends.Usage = octets ≡ usage_line
-IsDue SendsOf left link octets ends.Script = NamesLine left octets
-IsDue SendsOf left link octets ends.SourceFault = octets ≡ fault_line
-IsDue SendsOf left link octets ends.TooLong = octets ≡ long_line
-IsDue SendsOf left link octets ends.Memory = octets ≡ []
+IsDue SendsOf left link octets ends.Usage = (octets ≡ usage_line) × Untouched link
+IsDue SendsOf left link octets ends.Script = NamesLine left octets × Untouched link
+IsDue SendsOf left link octets ends.SourceFault = (octets ≡ fault_line) × Untouched link
+IsDue SendsOf left link octets ends.TooLong = (octets ≡ long_line) × Untouched link
+IsDue SendsOf left link octets ends.Memory = (octets ≡ []) × (Untouched link ⊎ Tried SendsOf left link)
 IsDue SendsOf left link octets ends.SinkFault = ⊥
 IsDue SendsOf left link octets status = Ran SendsOf left link octets status
 

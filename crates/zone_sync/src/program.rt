@@ -3,7 +3,7 @@ ghost use Rattle.std.specs.Prelude.{◌≡◌, ◌≢◌, ◌⊎◌, ◌<◌, �
 ghost use Rattle.zone_model.specs.TransferText.{Axfr};
 ghost use Rattle.zone_devices.specs.Calls.{Rose};
 ghost use Rattle.zone_devices.specs.Streams.{with_more, emptied};
-ghost use Rattle.zone_sync.specs.Reported.{ReportsOn, FitsLink, provider_of, IsDue, Took, TookFirst, Wrote, crossed, status_by};
+ghost use Rattle.zone_sync.specs.Reported.{ReportsOn, TransfersOn, Untouched, FitsLink, provider_of, IsDue, Took, TookFirst, Wrote, crossed, status_by};
 ghost use Rattle.zone_sync.specs.Statuses.{TellsLink, TellsScript, TellsSink, TellsSource, TellsWords};
 ghost use Rattle.zone_sync.specs.Primaries.{refuser};
 ghost use Rattle.zone_sync.specs.Serving.{request_at};
@@ -101,7 +101,8 @@ pub fn run<R, S: Source, K: Sink, L: Link>(
     out: &mut K,
     link: &mut L,
 ) -> Status
-    // What is written with each status; with status 5 a first part of it.
+    // What is written with each status, with status 5 a first part of it; and what went over the link: one transfer
+    // of the script with a report, nothing with any other line, and where memory ran out nothing or that transfer.
     ensures wrote { Wrote
         (IsDue (λ p key at m. ⟦<Primary as Service<()>>⟧.Sends ((refuser, p), key) (request_at m at))
         (S.remaining src.old) (crossed (L.longest link.old) (L.lists link.old) (L.lists link.new)
@@ -221,6 +222,12 @@ fn run_transfer<R, K: Sink, L: Link>(
         (L.faults link.old) (L.faults link.new)))
         (K.taken out.old) (K.taken out.new) }
     ensures nothing { result ≡ Status.Memory → K.taken out.new ≡ K.taken out.old }
+    ensures over_link { Untouched (crossed (L.longest link.old) (L.lists link.old) (L.lists link.new)
+        (L.faults link.old) (L.faults link.new))
+        ⊎ TransfersOn
+        (λ p key at m. ⟦<Primary as Service<()>>⟧.Sends ((refuser, p), key) (request_at m at)) script
+        (crossed (L.longest link.old) (L.lists link.old) (L.lists link.new)
+        (L.faults link.old) (L.faults link.new)) }
     ensures others { (result ≢ Status.Usage) × (result ≢ Status.SourceFault) × (result ≢ Status.TooLong)
         × (result ≢ Status.Script) }
 {
@@ -254,6 +261,12 @@ fn transfer<R, L: Link>(
         (λ p key at m. ⟦<Primary as Service<()>>⟧.Sends ((refuser, p), key) (request_at m at)) script
         (crossed (L.longest link.old) (L.lists link.old) (L.lists link.new)
         (L.faults link.old) (L.faults link.new)) r.0.items r.1) }
+    ensures over_link { Untouched (crossed (L.longest link.old) (L.lists link.old) (L.lists link.new)
+        (L.faults link.old) (L.faults link.new))
+        ⊎ TransfersOn
+        (λ p key at m. ⟦<Primary as Service<()>>⟧.Sends ((refuser, p), key) (request_at m at)) script
+        (crossed (L.longest link.old) (L.lists link.old) (L.lists link.new)
+        (L.faults link.old) (L.faults link.new)) }
     ensures link_fault { IfOk result (λ r. r.1 ≡ Status.LinkFault → Rose (L.faults link.old) (L.faults link.new)) }
     ensures link_fails { IfOk result (λ r. L.faults link.old < L.faults link.new → r.1 ≡ Status.LinkFault) }
     ensures others { IfOk result (λ r. IsTrue (is_reported r.1)) }

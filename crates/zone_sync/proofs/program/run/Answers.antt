@@ -1,10 +1,10 @@
-use Rattle.std.proofs.Common.{refl}
+use Rattle.std.proofs.Common.{refl, inl}
 use Rattle.zone_sync.specs.declared.program.Status.TheVariants.{Usage, SourceFault, TooLong}
-use Rattle.zone_sync.proofs.Dues.{along, written_of_source, first_of_source, wrote_last, wrote_nothing}
+use Rattle.zone_sync.proofs.Dues.{untouched, along, written_of_source, first_of_source, wrote_last, wrote_nothing}
 use Rattle.zone_sync.proofs.program.run.Goals as goal
 
 pub returns-then-not-is_axfr-clause-wrote : goal.returns-then-not-is_axfr-clause-wrote
-returns-then-not-is_axfr-clause-wrote g c = wrote_last _ _ Usage _ _ _ refl c.write_last.ensures.done c.write_last.ensures.written c.write_last.ensures.part
+returns-then-not-is_axfr-clause-wrote g c = wrote_last _ _ Usage _ _ _ (refl, untouched) c.write_last.ensures.done c.write_last.ensures.written c.write_last.ensures.part
 
 pub returns-in-Ok-clause-wrote : goal.returns-in-Ok-clause-wrote
 returns-in-Ok-clause-wrote g c =
@@ -15,7 +15,10 @@ returns-in-Ok-clause-wrote g c =
     }
 
 pub returns-in-Err-Failed-clause-wrote : goal.returns-in-Err-Failed-clause-wrote
-returns-in-Err-Failed-clause-wrote g c = wrote_last _ _ SourceFault _ _ _ refl c.write_last-in-Err-Failed.ensures.done c.write_last-in-Err-Failed.ensures.written c.write_last-in-Err-Failed.ensures.part
+returns-in-Err-Failed-clause-wrote g c = wrote_last _ _ SourceFault _ _ _ (refl, untouched) c.write_last-in-Err-Failed.ensures.done c.write_last-in-Err-Failed.ensures.written c.write_last-in-Err-Failed.ensures.part
 
 pub returns-in-Err-TooLong-clause-wrote : goal.returns-in-Err-TooLong-clause-wrote
-returns-in-Err-TooLong-clause-wrote g c = wrote_last _ _ TooLong _ _ _ refl c.write_last-in-Err-TooLong.ensures.done c.write_last-in-Err-TooLong.ensures.written c.write_last-in-Err-TooLong.ensures.part
+returns-in-Err-TooLong-clause-wrote g c = wrote_last _ _ TooLong _ _ _ (refl, untouched) c.write_last-in-Err-TooLong.ensures.done c.write_last-in-Err-TooLong.ensures.written c.write_last-in-Err-TooLong.ensures.part
+
+pub returns-in-Err-Memory-clause-wrote : goal.returns-in-Err-Memory-clause-wrote
+returns-in-Err-Memory-clause-wrote g c = wrote_nothing _ _ _ (refl, inl untouched) refl
