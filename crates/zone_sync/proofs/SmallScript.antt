@@ -1,10 +1,9 @@
 -- The worked script: its zones, key and moments fit each other.
-use Rattle.std.proofs.Common.{◌≡◌, ℕ, ◌+◌, ◌≤◌, List, [], ◌∷◌, ◌++◌, length, min, refl, ap, arith, lit<, lit≤, IsTrue}
+use Rattle.std.proofs.Common.{◌≡◌, ◌+◌, ◌≤◌, length, min, refl, ap, arith, lit<, lit≤}
 use Rattle.std.specs.Prelude.{flat_map}
 use Rattle.dns_rdata.specs.Records.{record_wire}
 use Rattle.dns_wire.specs.Wire.{header_in, question_wire, message_wire}
 use Rattle.dns_wire.specs.Parse.{questions_in}
-use Rattle.dns_wire.specs.Written.{IsRecord}
 use Rattle.tsig_port.specs.Tsig.{compose_len}
 use Rattle.tsig_port.specs.Checked.{taken_message}
 use Rattle.tsig_port.specs.Signing.{IsKey}
@@ -21,33 +20,33 @@ use Rattle.zone_sync.specs.ProgramRows.{small_key, small_read}
 use Rattle.zone_sync.proofs.HonestRequests as requests
 use Rattle.zone_sync.proofs.Lengths.{asked_length}
 
-abbrev a : Asking
-a = asking_in small_read small_key
+abbrev asks : Asking
+asks = asking_in small_read small_key
 
-abbrev v : Version
-v = primary_version small_read
+abbrev kept : Version
+kept = primary_version small_read
 
 is_key : IsKey small_key
 is_key = record { name = refl; signing = refl; taken = lit≤ tt }
 
 -- the message that answers has room
-room : length (message_wire (whole_message a v)) + compose_len small_key ≤ 65535
+room : length (message_wire (whole_message asks kept)) + compose_len small_key ≤ 65535
 room =
-    let message = taken_message (asked_octets a) in
-    let wire = wire_length (transfer_header (header_in message)) (questions_in message) (whole_text v) in
-    let asked : length (flat_map question_wire (questions_in message)) ≡ 13 = ap (λ qs. length (flat_map question_wire qs)) (requests.taken_questions a is_key (lit< tt) refl (lit< tt)) in
-    let text : length (flat_map record_wire (whole_text v)) ≡ 108 = refl in
+    let message = taken_message (asked_octets asks) in
+    let wire = wire_length (transfer_header (header_in message)) (questions_in message) (whole_text kept) in
+    let asked : length (flat_map question_wire (questions_in message)) ≡ 13 = ap (λ qs. length (flat_map question_wire qs)) (requests.taken_questions asks is_key (lit< tt) refl (lit< tt)) in
+    let text : length (flat_map record_wire (whole_text kept)) ≡ 108 = refl in
     let signature : compose_len small_key ≡ 76 = refl in
     omega (arith, wire, asked, text, signature)
 
-fits : Fits a 1000 v
+fits : Fits asks 1000 kept
 fits = record {
   mode = refl;
   is_key = is_key;
   asked_early = lit< tt;
   early = lit< tt;
   near = lit≤ tt;
-  published = published_by_test rows.e v refl;
+  published = published_by_test rows.e kept refl;
   same_class = refl;
   records = (
     record { owner = refl; rtype = lit< tt; class = lit< tt; ttl = lit< tt; len = lit< tt },
@@ -58,10 +57,10 @@ fits = record {
   numbers_left = lit< tt;
 }
 
-request_fits : length (asked_octets a) ≤ min 65535 65535
+request_fits : length (asked_octets asks) ≤ min 65535 65535
 request_fits =
-    let whole = asked_length a refl in
-    let message : length (message_wire (request_message a)) ≡ 25 = refl in
+    let whole = asked_length asks refl in
+    let message : length (message_wire (request_message asks)) ≡ 25 = refl in
     let signature : compose_len small_key ≡ 76 = refl in
     omega (arith, whole, message, signature)
 

@@ -64,7 +64,8 @@ SentOf items sent (Err why.LinkFault) = IsFront items sent
 SentOf items sent (Err why.Memory) = IsFront items sent
 SentOf items sent (Err _) = ⊥
 
--- the primary was asked, and a transfer came of it: a link that fails and want of memory may come while it replies, all else once it has
+-- the primary was asked, and a transfer came of it: a link that fails and want of memory may come while it replies, all
+-- else once it has
 abbrev pub RepliedTo : (Option (List Sending) → Type 0) → List (List ℕ) → Result SyncOk SyncError → Type 0
 RepliedTo Sends sent (Err (why.Primary e)) = FailsAfter Sends sent
 RepliedTo Sends sent (Err why.LinkFault) = HasBegun Sends sent
@@ -82,7 +83,8 @@ NoRequest sent replies (Err (why.Short e)) = (sent ≡ []) × (replies ≡ [])
 NoRequest sent replies answer = ⊥
 
 -- it was handed octets that have a header, or not
-abbrev pub HandedTo : Bool → (Option (List Sending) → Type 0) → List (List ℕ) → List (List ℕ) → Result SyncOk SyncError → Type 0
+abbrev pub HandedTo : Bool → (Option (List Sending) → Type 0) → List (List ℕ) → List (List ℕ)
+    → Result SyncOk SyncError → Type 0
 HandedTo true Sends sent replies answer = RepliedTo Sends sent answer
 HandedTo false Sends sent replies answer = NoRequest sent replies answer
 

@@ -61,3 +61,9 @@ returns-clause-takes g c a taken before at whole x =
     (record c.read.new.self { updater = c.apply_all.new.updater }) c.in_ok-updates.updates
     x (subst (λ q. ChecksReply a taken c.args.octets.items c.in_ok-message.message q) (sym (ap (λ e. e.sequence) r)) ck) rd d
     (sym (ap is_over rd.stands) ∙ sym c.is_finished.ensures ∙ c.if-is_finished.false) (ap (λ e. e.id) r ∙ ap (λ e. e.id) o) (ap (λ e. e.question) r ∙ ap (λ e. e.question) o)
+
+pub returns-then-is_finished-clause-keeps : goal.returns-then-is_finished-clause-keeps
+returns-then-is_finished-clause-keeps g c = c.in_ok-apply_all.ensures.keeps
+
+pub returns-clause-keeps : goal.returns-clause-keeps
+returns-clause-keeps g c = c.in_ok-apply_all.ensures.keeps

@@ -36,3 +36,6 @@ returns-in-Err-clause-takes g c base taken before st =
     let whole : a.mode ≡ Axfr = sym (ap (λ s. s.mode) v) ∙ mode_whole c.self.inside.mode in
     let k = c.in-Err.ensures.takes a taken before (sym (ap (λ s. s.at) v)) whole x in
     takes_refusal a c.rollback-in-Err.new.self c.take-2.new.session before c.take-2.new.made.items taken c.args.octets.items c.in-Err.error c.rollback-in-Err.ensures k
+
+pub returns-in-Ok-None-clause-keeps : goal.returns-in-Ok-None-clause-keeps
+returns-in-Ok-None-clause-keeps g c h = c.in-Ok-None.ensures.keeps
