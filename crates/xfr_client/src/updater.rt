@@ -85,6 +85,8 @@ impl ZoneUpdater {
         ensures told { IfOk result (λ told. told ≡ commits (update_of update.entry)) }
         ensures current { IfOk result (λ told. session.new.current ≡ next_commit told session.old.current session.new.current.version) }
         ensures ready { IfOk result (λ told. told ≡ true → session.new.has_handle ≡ true) }
+        // A commit leaves no wish for a difference.
+        ensures wish { IfOk result (λ told. told ≡ true → session.new.compares ≡ false) }
         ensures kept { IfOk result (λ told. told ≡ false → session.new ≡ with_pending session.old session.new.pending) }
         ensures err { OnErr result (session.new ≡ with_pending session.old session.new.pending) }
         ensures left { OnErr result (Leaves (update_of update.entry) session.old session.new) }

@@ -19,7 +19,7 @@ unfolding fault_so_far
 same_fault a taken m message key at f k t e h =
     ap (λ x. answer_fault 0 a.key (asked_mac a) a.at taken x) (sym e) ∙ ap (λ x. answer_fault 0 x (asked_mac a) a.at taken message) (sym k) ∙ ap (λ x. answer_fault 0 key (asked_mac a) x taken message) t ∙ h
 
-headed : (m : List ℕ) → 12 ≤ length m → has_header m ≡ true
+pub headed : (m : List ℕ) → 12 ≤ length m → has_header m ≡ true
 headed m h = le-leb 12 (length m) h
 
 pub answer_refused : (a : Asking) (taken : List (List ℕ)) (m message left : List ℕ) (key : TsigKey) (at : ℕ) (e : ValidationError) → key ≡ a.key → a.at ≡ at → message ≡ m → 12 ≤ length m

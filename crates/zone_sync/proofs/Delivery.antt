@@ -29,6 +29,7 @@ use Rattle.zone_sync.specs.declared.outcome.SyncOk.TheVariants as done
 use Rattle.zone_sync.specs.declared.outcome.SyncError.{SyncError}
 use Rattle.zone_sync.specs.declared.outcome.SyncError.TheVariants as why
 use Rattle.zone_sync.proofs.Exchanges.{none_done}
+use Rattle.zone_sync.proofs.Serving.{headed_served}
 use Rattle.zone_sync.proofs.HonestRequests.{request_has_header}
 use Rattle.zone_sync.proofs.HonestReplies.{reply, sent_is}
 use Rattle.zone_sync.proofs.HonestCourses.{whole_succeeds}
@@ -209,7 +210,7 @@ module _ (Sends : List ℕ → Option (List Sending) → Type 0) (a : Asking) (a
   was_sent sent (Err (why.Request x)) k = inr (sends_all sent k)
   was_sent sent (Err why.LinkFault) k = has_begun sent k
   was_sent sent (Err why.Ended) k = inr (sends_all sent k)
-  was_sent sent (Err (why.Short x)) k = has_begun sent k
+  was_sent sent (Err (why.Short x)) k = inr (sends_all sent k)
   was_sent sent (Err (why.Primary x)) k = absurd (never_fails sent k)
   was_sent sent (Err why.TooManyMessages) k = inr (sends_all sent k)
   was_sent sent (Err (why.Tsig x)) k = inr (sends_all sent k)
@@ -238,9 +239,9 @@ module _ (Sends : List ℕ → Option (List Sending) → Type 0) (a : Asking) (a
   not_asked sent replies (Err why.Memory) k = k.1
 
   -- the replies that came: none, or the whole text
-  came : (heard sent replies : List (List ℕ)) (answer : Result SyncOk SyncError) → (heard ≡ []) ⊎ (heard ≡ asked_octets a ∷ []) → IsServed Sends heard sent replies answer → (rest : List (List ℕ)) → sent ≡ replies ++ rest → (replies ≡ []) ⊎ (replies ≡ w ∷ [])
-  came heard sent replies answer (inl h) s rest p = inl (not_asked sent replies answer (subst (λ (l : List (List ℕ)). IsServed Sends l sent replies answer) h s))
-  came heard sent replies answer (inr h) s rest p = of_sent (was_sent sent answer (subst (λ (l : List (List ℕ)). IsServed Sends l sent replies answer) h s))
+  came : (heard sent replies : List (List ℕ)) (answer : Result SyncOk SyncError) → has_header (asked_octets a) ≡ true → (heard ≡ []) ⊎ (heard ≡ asked_octets a ∷ []) → IsServed Sends heard sent replies answer → (rest : List (List ℕ)) → sent ≡ replies ++ rest → (replies ≡ []) ⊎ (replies ≡ w ∷ [])
+  came heard sent replies answer headed (inl h) s rest p = inl (not_asked sent replies answer (subst (λ (l : List (List ℕ)). IsServed Sends l sent replies answer) h s))
+  came heard sent replies answer headed (inr h) s rest p = of_sent (was_sent sent answer (headed_served Sends (asked_octets a) sent replies answer headed (subst (λ (l : List (List ℕ)). IsServed Sends l sent replies answer) h s)))
     where
       of_sent : (sent ≡ []) ⊎ (sent ≡ w ∷ []) → (replies ≡ []) ⊎ (replies ≡ w ∷ [])
       of_sent (inl e) = inl (no_prefix replies rest (sym e ∙ p))
@@ -289,7 +290,7 @@ module _ (Sends : List ℕ → Option (List Sending) → Type 0) (a : Asking) (a
     replies_are : (answer : Result SyncOk SyncError) (k : Says answer) → k.asked ≡ asked_octets a ∷ [] → (k.replies ≡ []) ⊎ (k.replies ≡ w ∷ [])
     replies_are answer k q =
         let r = hands_on o.replies n.replies k.sent k.replies h.replies k.link.replies in
-        came Sends a at longest v w one grant k.heard k.sent k.replies answer (heard_is answer k q) k.served r.rest r.part
+        came Sends a at longest v w one grant k.heard k.sent k.replies answer headed (heard_is answer k q) k.served r.rest r.part
 
     transfers_of : (answer : Result SyncOk SyncError) (k : Says answer) (replies : List (List ℕ)) → k.replies ≡ replies → Transfers a replies before handles s answer
     transfers_of answer k replies e = subst (λ (l : List (List ℕ)). Transfers a l before handles s answer) e k.transfers
@@ -313,8 +314,8 @@ module _ (Sends : List ℕ → Option (List Sending) → Type 0) (a : Asking) (a
     not_short x k q (inr r) = not_refused (why.Short x) refl (transfers_of (Err (why.Short x)) k (w ∷ []) r)
     not_short x k q (inl r) = by_short (k.short x refl)
       where
-        by_short : HasShort k.heard ⊎ HasShort k.replies → ⊥
-        by_short (inl y) = long k.heard (heard_is (Err (why.Short x)) k q) y
+        by_short : (HasShort k.heard × (k.sent ≡ [])) ⊎ HasShort k.replies → ⊥
+        by_short (inl y) = long k.heard (heard_is (Err (why.Short x)) k q) y.0
         by_short (inr y) = cc (ap (λ l. list_all has_header l) (sym r) ∙ y)
 
     -- the link doesn't end before the reply
@@ -328,12 +329,12 @@ module _ (Sends : List ℕ → Option (List Sending) → Type 0) (a : Asking) (a
             cc (sym e ∙ (hands_on o.requests n.requests k.asked k.heard h.requests k.link.requests).whole ended ∙ q)
         by_heard (inr e) =
             let ended = subst (λ (l : List (List ℕ)). IsEnded l (Some n)) e (k.ended refl) in
-            let all = subst (λ (l : List (List ℕ)). IsServed Sends l k.sent k.replies (Err why.Ended)) e k.served in
+            let all = headed_served Sends (asked_octets a) k.sent k.replies (Err why.Ended) headed (subst (λ (l : List (List ℕ)). IsServed Sends l k.sent k.replies (Err why.Ended)) e k.served) in
             cc (sym r ∙ (hands_on o.replies n.replies k.sent k.replies h.replies k.link.replies).whole ended ∙ sends_all Sends a at longest v w one grant k.sent all)
 
     not_primary : (x : ServiceError) (k : Says (Err (why.Primary x))) → (k.heard ≡ []) ⊎ (k.heard ≡ asked_octets a ∷ []) → ⊥
     not_primary x k (inl e) = subst (λ (l : List (List ℕ)). IsServed Sends l k.sent k.replies (Err (why.Primary x))) e k.served
-    not_primary x k (inr e) = never_fails Sends a at longest v w one grant k.sent (subst (λ (l : List (List ℕ)). IsServed Sends l k.sent k.replies (Err (why.Primary x))) e k.served)
+    not_primary x k (inr e) = never_fails Sends a at longest v w one grant k.sent (headed_served Sends (asked_octets a) k.sent k.replies (Err (why.Primary x)) headed (subst (λ (l : List (List ℕ)). IsServed Sends l k.sent k.replies (Err (why.Primary x))) e k.served))
 
     was_asked : (answer : Result SyncOk SyncError) → (ComesBefore answer → ⊥) → (k : Says answer) → k.asked ≡ asked_octets a ∷ []
     was_asked answer later k = either k.request

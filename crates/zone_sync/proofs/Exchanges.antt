@@ -15,7 +15,7 @@ use Rattle.zone_sync.specs.Standing.{ClientState, Stands}
 use Rattle.zone_sync.specs.Refusals.{of_link}
 use Rattle.zone_devices.specs.Links.{LinkLists, LinkWentOn}
 use Rattle.xfr_server.specs.Items.{Sending}
-use Rattle.zone_sync.specs.Serving.{SendsAll, ServedBy, IsServed}
+use Rattle.zone_sync.specs.Serving.{SendsAll, ServedBy, RepliedTo, IsServed}
 use Rattle.zone_sync.specs.Transfers.{RequestsEnded, IsEnded, HasShort, Transfers, Serves, ComesLater, EndsSo, ComesBefore, SyncSays}
 use Rattle.zone_devices.specs.declared.links.LinkError.{LinkError}
 use Rattle.zone_devices.specs.declared.links.LinkError.TheVariants as links
@@ -28,7 +28,7 @@ use Rattle.zone_sync.proofs.Clients.{made_rolled}
 use Rattle.zone_sync.proofs.Passing.{nothing_yet, link_on}
 use Rattle.zone_sync.proofs.Replying.{Amounts, amounts}
 use Rattle.zone_sync.proofs.Replies.{err_same}
-use Rattle.zone_sync.proofs.Serving.{replied_to}
+use Rattle.zone_sync.proofs.Serving.{replied_to, served_headed, served_headless}
 
 -- ---- no reply was taken
 
@@ -72,7 +72,7 @@ at_rest : (a : Asking) (s : Session) (before : List Commit) → s.current ≡ a.
 at_rest a s before h = record { current = h; behind = sym (append-nil before) }
 
 says : (Sends : List ℕ → Option (List Sending) → Type 0) (a : Asking) (longest : ℕ) (old new : Option LinkLists) (before : List Commit) (s : Session) (e : SyncError) (asked heard sent : List (List ℕ)) → LinkWentOn old new asked heard sent [] → IsAsked a asked heard e
-    → IsServed Sends heard sent [] (Err e) → EndsBefore e → s.current ≡ a.base → TooLong a longest e → ((x : ShortMessage) → e ≡ why.Short x → HasShort heard) → (e ≡ why.Ended → IsEnded heard new) → SyncSays Sends a longest old new before before s (Err e)
+    → IsServed Sends heard sent [] (Err e) → EndsBefore e → s.current ≡ a.base → TooLong a longest e → ((x : ShortMessage) → e ≡ why.Short x → HasShort heard × (sent ≡ [])) → (e ≡ why.Ended → IsEnded heard new) → SyncSays Sends a longest old new before before s (Err e)
 says Sends a longest old new before s e asked heard sent link request served ends current too_long short ended = record {
   asked = asked;
   heard = heard;
@@ -125,17 +125,18 @@ pub not_handed : (Sends : List ℕ → Option (List Sending) → Type 0) (a : As
 not_handed Sends a longest old new before s asked l r c e = says Sends a longest old new before s why.Ended asked [] [] l (inl r) (refl, refl) tt c (λ x k. absurd (cc k)) (λ x k. absurd (cc k)) (λ k. e)
 
 -- it hands on what is no message
-pub headless : (m : List ℕ) → length m < 12 → HasShort (m ∷ [])
-headless m h = ap (λ b. b && true) (lt-leb 12 (length m) h)
+pub headless : (m : List ℕ) → length m < 12 → has_header m ≡ false
+headless m h = lt-leb 12 (length m) h
 
 pub no_message : (Sends : List ℕ → Option (List Sending) → Type 0) (a : Asking) (longest : ℕ) (old new : Option LinkLists) (before : List Commit) (s : Session) (x : ShortMessage) (asked : List (List ℕ)) (heard : List ℕ) → LinkWentOn old new asked (heard ∷ []) [] [] → asked ≡ asked_octets a ∷ [] → s.current ≡ a.base
-    → HasShort (heard ∷ []) → SyncSays Sends a longest old new before before s (Err (why.Short x))
-no_message Sends a longest old new before s x asked heard l r c short = says Sends a longest old new before s (why.Short x) asked (heard ∷ []) [] l (inl r) (inl refl) tt c (λ y k. absurd (cc k)) (λ y k. short) (λ k. absurd (cc k))
+    → has_header heard ≡ false → SyncSays Sends a longest old new before before s (Err (why.Short x))
+no_message Sends a longest old new before s x asked heard l r c none =
+    says Sends a longest old new before s (why.Short x) asked (heard ∷ []) [] l (inl r) (served_headless Sends heard [] [] (Err (why.Short x)) none (refl, refl)) tt c (λ y k. absurd (cc k)) (λ y k. (ap (λ b. b && true) none, refl)) (λ k. absurd (cc k))
 
 -- the primary fails, or the link as it replies
 pub not_served : (Sends : List ℕ → Option (List Sending) → Type 0) (a : Asking) (longest : ℕ) (old told new : Option LinkLists) (before : List Commit) (s : Session) (e : SyncError) (asked : List (List ℕ)) (heard : List ℕ) → LinkWentOn old told asked (heard ∷ []) [] [] → asked ≡ asked_octets a ∷ [] → s.current ≡ a.base
-    → Serves (Sends heard) told new (Err e) → SyncSays Sends a longest old new before before s (Err e)
-not_served Sends a longest old told new before s e asked heard l r c k = ends_so e k.by
+    → has_header heard ≡ true → Serves (Sends heard) told new (Err e) → SyncSays Sends a longest old new before before s (Err e)
+not_served Sends a longest old told new before s e asked heard l r c whole k = ends_so e k.by
   where
     on : LinkWentOn old new (asked ++ []) (heard ∷ []) k.sent []
     on = link_on old told new asked (heard ∷ []) [] [] [] [] k.sent [] l k.link
@@ -143,10 +144,13 @@ not_served Sends a longest old told new before s e asked heard l r c k = ends_so
     is : asked ++ [] ≡ asked_octets a ∷ []
     is = append-nil asked ∙ r
 
+    so : (e : SyncError) → RepliedTo (Sends heard) k.sent (Err e) → IsServed Sends (heard ∷ []) k.sent [] (Err e)
+    so e by = served_headed Sends heard k.sent [] (Err e) whole by
+
     ends_so : (e : SyncError) → ServedBy (Sends heard) k.sent (Err e) → SyncSays Sends a longest old new before before s (Err e)
-    ends_so why.LinkFault by = says Sends a longest old new before s why.LinkFault (asked ++ []) (heard ∷ []) k.sent on (inl is) by tt c (λ x k. absurd (cc k)) (λ x k. absurd (cc k)) (λ k. absurd (cc k))
-    ends_so why.Memory by = says Sends a longest old new before s why.Memory (asked ++ []) (heard ∷ []) k.sent on (inl is) by tt c (λ x k. absurd (cc k)) (λ x k. absurd (cc k)) (λ k. absurd (cc k))
-    ends_so (why.Primary x) by = says Sends a longest old new before s (why.Primary x) (asked ++ []) (heard ∷ []) k.sent on (inl is) by tt c (λ x k. absurd (cc k)) (λ x k. absurd (cc k)) (λ k. absurd (cc k))
+    ends_so why.LinkFault by = says Sends a longest old new before s why.LinkFault (asked ++ []) (heard ∷ []) k.sent on (inl is) (so why.LinkFault by) tt c (λ x k. absurd (cc k)) (λ x k. absurd (cc k)) (λ k. absurd (cc k))
+    ends_so why.Memory by = says Sends a longest old new before s why.Memory (asked ++ []) (heard ∷ []) k.sent on (inl is) (so why.Memory by) tt c (λ x k. absurd (cc k)) (λ x k. absurd (cc k)) (λ k. absurd (cc k))
+    ends_so (why.Primary x) by = says Sends a longest old new before s (why.Primary x) (asked ++ []) (heard ∷ []) k.sent on (inl is) (so (why.Primary x) by) tt c (λ x k. absurd (cc k)) (λ x k. absurd (cc k)) (λ k. absurd (cc k))
     ends_so (why.Request x) by = absurd by
     ends_so why.NoSoa by = absurd by
     ends_so why.Ended by = absurd by
@@ -161,15 +165,15 @@ not_served Sends a longest old told new before s e asked heard l r c k = ends_so
 
 -- the replies come
 pub replied : (Sends : List ℕ → Option (List Sending) → Type 0) (a : Asking) (longest : ℕ) (old told mid new : Option LinkLists) (before later : List Commit) (s : Session) (answer : Result SyncOk SyncError) (asked : List (List ℕ)) (heard : List ℕ)
-    → LinkWentOn old told asked (heard ∷ []) [] [] → asked ≡ asked_octets a ∷ [] → Serves (Sends heard) told mid (Ok tt) → EndsSo a mid new before later s answer → SyncSays Sends a longest old new before later s answer
-replied Sends a longest old told mid new before later s answer asked heard l r v k = record {
+    → LinkWentOn old told asked (heard ∷ []) [] [] → asked ≡ asked_octets a ∷ [] → has_header heard ≡ true → Serves (Sends heard) told mid (Ok tt) → EndsSo a mid new before later s answer → SyncSays Sends a longest old new before later s answer
+replied Sends a longest old told mid new before later s answer asked heard l r whole v k = record {
   asked = (asked ++ []) ++ [];
   heard = heard ∷ [];
   sent = v.sent ++ [];
   replies = k.taken;
   link = link_on old mid new (asked ++ []) (heard ∷ []) v.sent [] [] [] [] k.taken (link_on old told mid asked (heard ∷ []) [] [] [] [] v.sent [] l v.link) k.link;
   request = inl (append-nil (asked ++ []) ∙ append-nil asked ∙ r);
-  served = replied_to (Sends heard) (v.sent ++ []) answer k.later (subst (SendsAll (Sends heard)) (sym (append-nil v.sent)) v.by);
+  served = served_headed Sends heard (v.sent ++ []) k.taken answer whole (replied_to (Sends heard) (v.sent ++ []) answer k.later (subst (SendsAll (Sends heard)) (sym (append-nil v.sent)) v.by));
   transfers = k.transfers;
   too_long = λ x h. absurd (subst ComesLater h k.later);
   short = λ x h. inr (k.short x h);

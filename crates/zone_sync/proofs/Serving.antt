@@ -11,7 +11,8 @@ use Rattle.xfr_services.specs.declared.services.ServiceError.TheVariants as serv
 use Rattle.dns_wire.specs.Wire.{Building}
 use Rattle.zone_sync.specs.Refusals.{of_link, of_service}
 use Rattle.zone_devices.specs.Links.{LinkLists, with_taken, on_replies, LinkWentOn}
-use Rattle.zone_sync.specs.Serving.{request_at, SendsAll, HasBegun, IsFront, ServedBy, SentOf, RepliedTo}
+use Rattle.xfr_course.specs.Courses.{has_header}
+use Rattle.zone_sync.specs.Serving.{request_at, SendsAll, HasBegun, IsFront, ServedBy, SentOf, RepliedTo, NoRequest, HandedTo, IsServed}
 use Rattle.zone_sync.specs.Transfers.{Serves, SendsItems, SentSoFar, ComesLater}
 use Rattle.zone_devices.specs.declared.links.LinkError.{LinkError}
 use Rattle.zone_devices.specs.declared.links.LinkError.TheVariants as links
@@ -113,7 +114,7 @@ pub replied_to : (Sends : Option (List Sending) → Type 0) (sent : List (List �
 replied_to Sends sent (Ok x) l k = k
 replied_to Sends sent (Err why.LinkFault) l k = all_begun Sends sent k
 replied_to Sends sent (Err why.Memory) l k = all_begun Sends sent k
-replied_to Sends sent (Err (why.Short e)) l k = all_begun Sends sent k
+replied_to Sends sent (Err (why.Short e)) l k = k
 replied_to Sends sent (Err (why.Primary e)) l k = absurd l
 replied_to Sends sent (Err (why.Request e)) l k = absurd l
 replied_to Sends sent (Err why.NoSoa) l k = k
@@ -125,6 +126,16 @@ replied_to Sends sent (Err (why.Xfr e)) l k = k
 replied_to Sends sent (Err (why.Iteration e)) l k = k
 replied_to Sends sent (Err (why.Update e)) l k = k
 replied_to Sends sent (Err why.VersionsExhausted) l k = k
+
+-- what was handed for the request has a header, or none
+pub served_headed : (Sends : List ℕ → Option (List Sending) → Type 0) (heard : List ℕ) (sent replies : List (List ℕ)) (answer : Result SyncOk SyncError) → has_header heard ≡ true → RepliedTo (Sends heard) sent answer → IsServed Sends (heard ∷ []) sent replies answer
+served_headed Sends heard sent replies answer headed k = subst (λ b. HandedTo b (Sends heard) sent replies answer) (sym headed) k
+
+pub served_headless : (Sends : List ℕ → Option (List Sending) → Type 0) (heard : List ℕ) (sent replies : List (List ℕ)) (answer : Result SyncOk SyncError) → has_header heard ≡ false → NoRequest sent replies answer → IsServed Sends (heard ∷ []) sent replies answer
+served_headless Sends heard sent replies answer headless k = subst (λ b. HandedTo b (Sends heard) sent replies answer) (sym headless) k
+
+pub headed_served : (Sends : List ℕ → Option (List Sending) → Type 0) (heard : List ℕ) (sent replies : List (List ℕ)) (answer : Result SyncOk SyncError) → has_header heard ≡ true → IsServed Sends (heard ∷ []) sent replies answer → RepliedTo (Sends heard) sent answer
+headed_served Sends heard sent replies answer headed k = subst (λ b. HandedTo b (Sends heard) sent replies answer) headed k
 
 -- a request that is made as `request_at` says
 pub is_request : (r : Request (Unit {0})) (message : List ℕ) (at : ℕ) → r.message ≡ message → r.transport ≡ NonUdp → r.at ≡ at → r.reserved ≡ 0 → r ≡ request_at message at

@@ -4,7 +4,7 @@ use Rattle.std.specs.Prelude.{nat_lt, ◌⊎◌, ◌==◌, ◌&&◌, IsOk, IfSom
 use Rattle.std.proofs.lemmas.Bool.{le-ltb, eq-eqb}
 use Rattle.zone_model.specs.Version.{Version}
 use Rattle.zone_model.specs.Commits.{Commit}
-use Rattle.zone_model.specs.Session.{Session, commits_after}
+use Rattle.zone_model.specs.Session.{Session, with_pending, commits_after}
 use Rattle.zone_model.specs.Edits as edits
 use Rattle.zone_model.specs.Updates.{Update, Progress, UpdateFault, Edit, NotSoaRecord, AfterFinish, apply_update, after_refusal}
 use Rattle.xfr_client.specs.declared.update.Error.{Error}
@@ -15,7 +15,7 @@ use Rattle.xfr_model.proofs.Limits.{within-append, then_held}
 use Rattle.xfr_model.specs.Applying.{commits}
 use Rattle.xfr_model.proofs.FinerSteps.{last_number}
 use Rattle.xfr_client.specs.Updating.{Updating, progress_of, new_version, next_commit, lacks_number}
-use Rattle.zone_sync.specs.Steps.{commit_after, numbers_left, HasMade, Ahead, DoesOne, HaltsOne, TakesOne, Led}
+use Rattle.zone_sync.specs.Steps.{commit_after, numbers_left, HasMade, KeepsWish, Ahead, DoesOne, HaltsOne, TakesOne, Led}
 
 -- one version more after those committed on a base
 pub number_after : (base : Commit) (vs : List Version) → (commit_after base vs).number ≡ base.number + length vs
@@ -169,3 +169,23 @@ pub one_untold : (base : Commit) (before : List Commit) (u v : Updating) (s t : 
 one_untold base before u v s t handles now g update told a is next h ok =
     one_edited base before u v s t handles now g update a (next ∙ ap (λ b. next_commit b s.current t.current.version) is) h
     (ok ∙ ap (λ b. Ok (progress_of v t (g.committed ++ new_version b t))) is)
+
+-- ---- the wish for a difference
+
+pub wish_stays : (s : Session) → KeepsWish s s
+wish_stays s = inl (refl, refl)
+
+pub wish_on : (s t u : Session) → KeepsWish s t → KeepsWish t u → KeepsWish s u
+wish_on s t u (inl h) (inl k) = inl (k.0 ∙ h.0, k.1 ∙ h.1)
+wish_on s t u (inl h) (inr k) = inr (subst (λ (c : Commit). c.number < u.current.number) h.0 k.0, k.1)
+wish_on s t u (inr h) (inl k) = inr (subst (λ (c : Commit). s.current.number < c.number) (sym k.0) h.0, k.1 ∙ h.1)
+wish_on s t u (inr h) (inr k) = let p = h.0 in let q = k.0 in inr (omega (arith, p, q), k.1)
+
+-- an update that told of a commit leaves none, and one that told of none leaves it
+pub wish_told : (s r t : Session) (told : Bool) → told ≡ true → r.current ≡ next_commit told s.current r.current.version → (told ≡ true → r.compares ≡ false) → t.current ≡ r.current → t.compares ≡ r.compares → KeepsWish s t
+wish_told s r t told is next none same compares =
+    let e : t.current.number ≡ s.current.number + 1 = ap (λ (c : Commit). c.number) (same ∙ next ∙ ap (λ b. next_commit b s.current r.current.version) is) in
+    inr (omega (arith, e), compares ∙ none is)
+
+pub wish_untold : (s t : Session) (told : Bool) → told ≡ false → (told ≡ false → t ≡ with_pending s t.pending) → KeepsWish s t
+wish_untold s t told is kept = let e = kept is in inl (ap (λ (x : Session). x.current) e, ap (λ (x : Session). x.compares) e)

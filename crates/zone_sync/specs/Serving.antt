@@ -1,8 +1,9 @@
 -- What a primary sends to the request that a link handed it (RFC 5936, 2.2).
-use Rattle.std.specs.Prelude.{◌≡◌, ℕ, ◌⊎◌, true, false, List, [], ◌∷◌, ◌++◌, Option, Some, None, Result, Ok, Err}
+use Rattle.std.specs.Prelude.{◌≡◌, ℕ, ◌⊎◌, Bool, true, false, List, [], ◌∷◌, ◌++◌, Option, Some, None, Result, Ok, Err}
 use Rattle.xfr_server.specs.Items.{Sending, sent_by}
 use Rattle.xfr_services.specs.declared.requests.Request.{Request}
 use Rattle.xfr_services.specs.declared.requests.TransportSpecificContext.TheVariants.{NonUdp}
+use Rattle.xfr_course.specs.Courses.{has_header}
 use Rattle.zone_sync.specs.declared.outcome.SyncOk.{SyncOk}
 use Rattle.zone_sync.specs.declared.outcome.SyncError.{SyncError}
 use Rattle.zone_sync.specs.declared.outcome.SyncError.TheVariants as why
@@ -63,12 +64,12 @@ SentOf items sent (Err why.LinkFault) = IsFront items sent
 SentOf items sent (Err why.Memory) = IsFront items sent
 SentOf items sent (Err _) = ⊥
 
--- the primary was asked, and a transfer came of it: a link that fails, want of memory and a message that is none may come while it replies
+-- the primary was asked, and a transfer came of it: a link that fails and want of memory may come while it replies, all
+-- else once it has
 abbrev pub RepliedTo : (Option (List Sending) → Type 0) → List (List ℕ) → Result SyncOk SyncError → Type 0
 RepliedTo Sends sent (Err (why.Primary e)) = FailsAfter Sends sent
 RepliedTo Sends sent (Err why.LinkFault) = HasBegun Sends sent
 RepliedTo Sends sent (Err why.Memory) = HasBegun Sends sent
-RepliedTo Sends sent (Err (why.Short e)) = HasBegun Sends sent
 RepliedTo Sends sent answer = SendsAll Sends sent
 
 -- it wasn't asked: it sent nothing, and nothing was taken
@@ -76,8 +77,19 @@ abbrev pub NotReplied : List (List ℕ) → List (List ℕ) → Result SyncOk Sy
 NotReplied sent replies (Err (why.Primary e)) = ⊥
 NotReplied sent replies answer = (sent ≡ []) × (replies ≡ [])
 
+-- what the link handed for its request has no header: it sent nothing, nothing was taken, and the answer says so
+abbrev pub NoRequest : List (List ℕ) → List (List ℕ) → Result SyncOk SyncError → Type 0
+NoRequest sent replies (Err (why.Short e)) = (sent ≡ []) × (replies ≡ [])
+NoRequest sent replies answer = ⊥
+
+-- it was handed octets that have a header, or not
+abbrev pub HandedTo : Bool → (Option (List Sending) → Type 0) → List (List ℕ) → List (List ℕ)
+    → Result SyncOk SyncError → Type 0
+HandedTo true Sends sent replies answer = RepliedTo Sends sent answer
+HandedTo false Sends sent replies answer = NoRequest sent replies answer
+
 -- what a primary sent to the requests that the link handed, at most one
 abbrev pub IsServed : (List ℕ → Option (List Sending) → Type 0) → List (List ℕ) → List (List ℕ) → List (List ℕ) → Result SyncOk SyncError → Type 0
 IsServed Sends [] sent replies answer = NotReplied sent replies answer
-IsServed Sends (m ∷ []) sent replies answer = RepliedTo (Sends m) sent answer
+IsServed Sends (m ∷ []) sent replies answer = HandedTo (has_header m) (Sends m) sent replies answer
 IsServed Sends (m ∷ n ∷ more) sent replies answer = ⊥

@@ -1,5 +1,5 @@
 -- How far single updates have led: an updater, its session, and the handles made (RFC 5936, 6).
-use Rattle.std.specs.Prelude.{◌≡◌, ℕ, ◌+◌, ◌-◌, ◌≤◌, ◌^◌, false, List, [], ◌∷◌, ◌++◌, length, Option, Some, None, Result, Ok, Err, ◌⊎◌}
+use Rattle.std.specs.Prelude.{◌≡◌, ℕ, ◌+◌, ◌-◌, ◌<◌, ◌≤◌, ◌^◌, false, List, [], ◌∷◌, ◌++◌, length, Option, Some, None, Result, Ok, Err, ◌⊎◌}
 use Rattle.zone_model.specs.Version.{Version}
 use Rattle.zone_model.specs.Commits.{Commit}
 use Rattle.zone_model.specs.Session.{Session, commits_after}
@@ -29,6 +29,12 @@ numbers_left base = 2 ^ 64 - 1 - base.number
 pub record HasMade (base : Commit) (before : List Commit) (s : Session) (handles : List Commit) (versions : List Version) : Type 0 where
   pub current : s.current ≡ commit_after base versions
   pub behind : handles ≡ before ++ commits_after base versions
+
+-- the wish for a difference: as before where no version was committed between, else there is none
+abbrev pub KeepsWish : Session → Session → Type 0
+KeepsWish old new =
+    ((new.current ≡ old.current) × (new.compares ≡ old.compares))
+    ⊎ ((old.current.number < new.current.number) × (new.compares ≡ false))
 
 -- an updater and its session have come to this progress
 pub record Ahead (base : Commit) (before : List Commit) (u : Updating) (s : Session) (handles : List Commit) (g : Progress) : Type 0 where

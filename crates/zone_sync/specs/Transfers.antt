@@ -135,5 +135,5 @@ pub record SyncSays (Sends : List ℕ → Option (List Sending) → Type 0) (a :
   pub transfers : Transfers a replies before handles s answer
   -- the causes of what comes in place of a reply
   pub too_long : (e : PushError) → answer ≡ Err (why.Request e) → (e ≡ ShortBuf) × (min longest 65535 < length (asked_octets a))
-  pub short : (e : ShortMessage) → answer ≡ Err (why.Short e) → HasShort heard ⊎ HasShort replies
+  pub short : (e : ShortMessage) → answer ≡ Err (why.Short e) → (HasShort heard × (sent ≡ [])) ⊎ HasShort replies
   pub ended : answer ≡ Err why.Ended → IsEnded heard new

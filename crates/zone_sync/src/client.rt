@@ -13,7 +13,7 @@ ghost use Rattle.zone_sync.specs.Modes.{mode_of};
 ghost use Rattle.zone_sync.specs.SoFar.{Asking, asked_octets, asked_mac, asked_id, asked_question, message_so_far, asking, asks_other, IsTooLong};
 ghost use Rattle.zone_sync.specs.Standing.{asking_of, Stands, TakesReply, ExchangeStands, IsUnderWay};
 ghost use Rattle.zone_sync.specs.Replies.{AnswersReply, AnswersRequest, IsAnswerTo, TestsReply, TakesMessage};
-ghost use Rattle.zone_sync.specs.Steps.{Ahead, TakesOne, TakesAll};
+ghost use Rattle.zone_sync.specs.Steps.{Ahead, KeepsWish, TakesOne, TakesAll};
 
 use crate::outcome::{SyncError, SyncOk};
 use dns_name::{KeyName, Labelled, ParsedName, Rtype, ToName};
@@ -165,6 +165,8 @@ impl XfrClient {
         ensures pending { result ≢ Ok None → session.new.pending ≡ session.new.current.version }
         // .. and no difference is wanted of the next commit.
         ensures wish { result ≢ Ok None → session.new.compares ≡ false }
+        // In between one is wanted as before, until a version is committed.
+        ensures keeps { result ≡ Ok None → KeepsWish session.old session.new }
     {
         let Some(mut exchange) = self.exchange.take() else {
             unreachable!()
@@ -196,8 +198,9 @@ impl Exchange {
         at: Time48,
         made: &mut Vec<ReadZone>,
     ) -> Result<Option<SyncOk>, SyncError>
-        ensures { (a : Asking) (taken : List (List ℕ)) (before : List Commit) → a.at ≡ at → a.mode ≡ Axfr → ExchangeStands self.old session.old a taken before made.old.items
+        ensures takes { (a : Asking) (taken : List (List ℕ)) (before : List Commit) → a.at ≡ at → a.mode ≡ Axfr → ExchangeStands self.old session.old a taken before made.old.items
             → TakesMessage a self.new session.new before made.new.items taken octets.items result }
+        ensures keeps { OnOk result (KeepsWish session.old session.new) }
     {
         let message = self.checked(octets, at)?;
         let updates = self.read(&message)?;
@@ -299,8 +302,9 @@ fn apply_all<R>(
     mut updates: XfrZoneUpdateIterator<'_>,
     made: &mut Vec<ReadZone>,
 ) -> Result<(), SyncError>
-    ensures { (base : Commit) (before : List Commit) (g : Progress) → updates.entry.retry ≡ false → Ahead base before updater.old session.old made.old.items g
+    ensures takes { (base : Commit) (before : List Commit) (g : Progress) → updates.entry.retry ≡ false → Ahead base before updater.old session.old made.old.items g
         → TakesAll base before updater.new session.new made.new.items g updates.entry result }
+    ensures keeps { OnOk result (KeepsWish session.old session.new) }
 {
     'updates: while let Some(update) = updates.next_update() {
         apply_one(rt, session, updater, update?, made)?;
@@ -316,8 +320,9 @@ fn apply_one<R>(
     update: ZoneUpdate<ReadRecord<'_>>,
     made: &mut Vec<ReadZone>,
 ) -> Result<(), update::Error>
-    ensures { (base : Commit) (before : List Commit) (g : Progress) → Ahead base before updater.old session.old made.old.items g
+    ensures takes { (base : Commit) (before : List Commit) (g : Progress) → Ahead base before updater.old session.old made.old.items g
         → TakesOne base before updater.new session.new made.new.items g (update_of update.entry) result }
+    ensures keeps { OnOk result (KeepsWish session.old session.new) }
 {
     if made.reserve(1).is_err() {
         drop(update);

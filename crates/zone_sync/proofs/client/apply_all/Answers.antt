@@ -1,17 +1,32 @@
+use Rattle.std.proofs.Common.{refl}
 use Rattle.std.proofs.lemmas.Result.{err_from_is_err_and}
 use Rattle.xfr_client.specs.Causes.{update_of}
 use Rattle.zone_sync.proofs.Messages.{led_on, halts_there}
+use Rattle.zone_sync.specs.Steps.{numbers_left}
+use Rattle.zone_sync.proofs.Steps.{led_none, wish_stays, wish_on}
 use Rattle.zone_sync.proofs.client.apply_all.Goals as goal
 
-pub updates-preserved : goal.updates-preserved
-updates-preserved met c base before g r a =
-    let i = c.updates.invariant base before g r a in
-    led_on base before c.updates.updater c.apply_one.new.updater c.updates.session c.apply_one.new.session c.updates.made.items c.apply_one.new.made.items g c.args.updates c.updates.updates c.next_update.new.self (update_of c.in_ok-update.field-0)
-    i (rw c.in_ok-update.was at c.in-Some.ensures) (c.in_ok-apply_one.ensures base before i.progress i.ahead)
+pub updates-init : goal.updates-init
+updates-init met c = (
+  λ base before g r a. record { progress = g; led = led_none (numbers_left base) g c.args.updates.run.updates; fault = refl; no_retry = r; ahead = a },
+  wish_stays c.args.session.now,
+)
 
-pub returns-in_err-apply_one : goal.returns-in_err-apply_one
-returns-in_err-apply_one met c base before g r a =
-    let i = c.updates.invariant base before g r a in
+pub updates-preserved : goal.updates-preserved
+updates-preserved met c = (
+  λ base before g r a.
+      let i = c.updates.invariant.0 base before g r a in
+      led_on base before c.updates.updater c.apply_one.new.updater c.updates.session c.apply_one.new.session c.updates.made.items c.apply_one.new.made.items g c.args.updates c.updates.updates c.next_update.new.self (update_of c.in_ok-update.field-0)
+      i (rw c.in_ok-update.was at c.in-Some.ensures) (c.in_ok-apply_one.ensures.takes base before i.progress i.ahead),
+  wish_on c.args.session.now c.updates.session c.apply_one.new.session c.updates.invariant.1 c.in_ok-apply_one.ensures.keeps,
+)
+
+pub returns-in_err-apply_one-clause-takes : goal.returns-in_err-apply_one-clause-takes
+returns-in_err-apply_one-clause-takes met c base before g r a =
+    let i = c.updates.invariant.0 base before g r a in
     let p = err_from_is_err_and c.from_residual-in_err-apply_one.result c.from_residual-in_err-apply_one.ensures.1 in
     rw (p.1, p.2) (halts_there base before c.updates.updater c.apply_one.new.updater c.updates.session c.apply_one.new.session c.updates.made.items c.apply_one.new.made.items g c.args.updates c.updates.updates c.next_update.new.self (update_of c.in_ok-update.field-0) c.in_err-apply_one.field-0.0
-    i (rw c.in_ok-update.was at c.in-Some.ensures) (c.in_err-apply_one.ensures base before i.progress i.ahead))
+    i (rw c.in_ok-update.was at c.in-Some.ensures) (c.in_err-apply_one.ensures.takes base before i.progress i.ahead))
+
+pub returns-clause-keeps : goal.returns-clause-keeps
+returns-clause-keeps met c = c.updates.invariant.1

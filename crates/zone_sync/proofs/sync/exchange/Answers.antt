@@ -4,6 +4,7 @@ use Rattle.zone_devices.specs.Calls.{Rose}
 use Rattle.zone_sync.specs.Serving.{request_at}
 use Rattle.zone_sync.specs.Standing.{asking_of}
 use Rattle.zone_sync.proofs.Passing.{nothing_more, request_taken, request_handed, requests_ended, link_on}
+use Rattle.zone_sync.proofs.Checking.{headed}
 use Rattle.zone_sync.proofs.Exchanges.{not_made, not_carried, not_handed, no_message, headless, not_served, replied, under_way}
 use Rattle.zone_sync.proofs.sync.exchange.Goals as goal
 
@@ -97,7 +98,7 @@ returns-in_err-serve-clause-says g c =
     let told = g.L.Link.lists c.take_request.new.self in
     let heard_it = link_on first mid told (m ∷ []) [] [] [] [] (heard ∷ []) [] [] took (request_handed mid told (Some heard) (rw c.in-Some.is at c.in_ok-asked.ensures.ok)) in
     let then = g.L.Link.lists c.serve.new.link in
-    rw (p.1, p.2) (not_served (λ m. g.P.Service.Sends c.args.primary.now (request_at m c.args.at_primary)) a longest first told then before s c.in_err-serve.field-0.0 (m ∷ []) heard heard_it asked current (rw c.in_ok-from_octets.ensures.found at c.in_err-serve.ensures.served))
+    rw (p.1, p.2) (not_served (λ m. g.P.Service.Sends c.args.primary.now (request_at m c.args.at_primary)) a longest first told then before s c.in_err-serve.field-0.0 (m ∷ []) heard heard_it asked current (headed heard c.in_ok-from_octets.ensures.whole) (rw c.in_ok-from_octets.ensures.found at c.in_err-serve.ensures.served))
 
 pub take_replies-requires : goal.take_replies-requires
 take_replies-requires g c =
@@ -127,7 +128,7 @@ returns-clause-says g c =
     let heard_it = link_on first mid told (m ∷ []) [] [] [] [] (heard ∷ []) [] [] took (request_handed mid told (Some heard) (rw c.in-Some.is at c.in_ok-asked.ensures.ok)) in
     let then = g.L.Link.lists c.serve.new.link in
     let st = c.in_ok-request.ensures.begun before in
-    replied (λ m. g.P.Service.Sends c.args.primary.now (request_at m c.args.at_primary)) a longest first told then (g.L.Link.lists c.take_replies.new.link) before c.take_replies.new.made.items c.take_replies.new.session c.take_replies.result (m ∷ []) heard heard_it asked (rw c.in_ok-from_octets.ensures.found at c.in_ok-serve.ensures.served) (c.take_replies.ensures.ends a before st)
+    replied (λ m. g.P.Service.Sends c.args.primary.now (request_at m c.args.at_primary)) a longest first told then (g.L.Link.lists c.take_replies.new.link) before c.take_replies.new.made.items c.take_replies.new.session c.take_replies.result (m ∷ []) heard heard_it asked (headed heard c.in_ok-from_octets.ensures.whole) (rw c.in_ok-from_octets.ensures.found at c.in_ok-serve.ensures.served) (c.take_replies.ensures.ends a before st)
 
 pub returns-clause-failed : goal.returns-clause-failed
 returns-clause-failed g c h =

@@ -9,8 +9,8 @@ use Rattle.zone_sync.proofs.Standings.{run_next}
 use Rattle.zone_sync.proofs.Taking.{message_fails, message_reads, updates_stop, updates_done, text_ends, text_goes_on}
 use Rattle.zone_sync.proofs.client.Exchange.take.Goals as goal
 
-pub returns-in_err-updates : goal.returns-in_err-updates
-returns-in_err-updates g c a taken before at whole x =
+pub returns-in_err-updates-clause-takes : goal.returns-in_err-updates-clause-takes
+returns-in_err-updates-clause-takes g c a taken before at whole x =
     let cl = client_so_far a taken in
     let o = c.checked.ensures.others in
     let ck = c.in_ok-message.ensures.answers a taken at x.key x.sequence in
@@ -18,8 +18,8 @@ returns-in_err-updates g c a taken before at whole x =
     let p = err_from_is_err_and c.from_residual-in_err-updates.result c.from_residual-in_err-updates.ensures.1 in
     rw (p.1, p.2) (message_fails a c.args.self.now c.args.session.now before c.args.made.now.items taken c.args.octets.items c.in_ok-message.message c.checked.new.self.sequence c.read.new.self.interpreter c.in_err-updates.field-0.0 x ck tests)
 
-pub returns-in_err-apply_all : goal.returns-in_err-apply_all
-returns-in_err-apply_all g c a taken before at whole x =
+pub returns-in_err-apply_all-clause-takes : goal.returns-in_err-apply_all-clause-takes
+returns-in_err-apply_all-clause-takes g c a taken before at whole x =
     let cl = client_so_far a taken in
     let o = c.checked.ensures.others in
     let r = c.read.ensures.others in
@@ -30,10 +30,10 @@ returns-in_err-apply_all g c a taken before at whole x =
     let ahead = subst (λ u. Ahead a.base before u c.args.session.now c.args.made.now.items cl.progress) (sym updater) x.ahead in
     let p = err_from_is_err_and c.from_residual-in_err-apply_all.result c.from_residual-in_err-apply_all.ensures.1 in
     rw (p.1, p.2) (updates_stop a c.apply_all.new.session before c.apply_all.new.made.items taken c.args.octets.items c.in_ok-message.message c.checked.new.self.sequence c.read.new.self.interpreter c.in_ok-updates.updates c.apply_all.new.updater c.in_err-apply_all.field-0.0
-    ck rd (c.in_err-apply_all.ensures a.base before cl.progress rd.no_retry ahead))
+    ck rd (c.in_err-apply_all.ensures.takes a.base before cl.progress rd.no_retry ahead))
 
-pub returns-then-is_finished : goal.returns-then-is_finished
-returns-then-is_finished g c a taken before at whole x =
+pub returns-then-is_finished-clause-takes : goal.returns-then-is_finished-clause-takes
+returns-then-is_finished-clause-takes g c a taken before at whole x =
     let cl = client_so_far a taken in
     let o = c.checked.ensures.others in
     let r = c.read.ensures.others in
@@ -42,12 +42,12 @@ returns-then-is_finished g c a taken before at whole x =
     let rd = message_reads a c.args.self.now c.args.session.now before c.args.made.now.items taken c.args.octets.items c.in_ok-message.message c.checked.new.self.sequence c.read.new.self.interpreter c.in_ok-updates.updates whole x ck tests in
     let updater : c.read.new.self.updater ≡ c.args.self.now.updater = ap (λ e. e.updater) r ∙ ap (λ e. e.updater) o in
     let ahead = subst (λ u. Ahead a.base before u c.args.session.now c.args.made.now.items cl.progress) (sym updater) x.ahead in
-    let d = updates_done a c.apply_all.new.session before c.apply_all.new.made.items taken c.args.octets.items c.read.new.self.interpreter c.in_ok-updates.updates c.apply_all.new.updater rd (c.in_ok-apply_all.ensures a.base before cl.progress rd.no_retry ahead) in
+    let d = updates_done a c.apply_all.new.session before c.apply_all.new.made.items taken c.args.octets.items c.read.new.self.interpreter c.in_ok-updates.updates c.apply_all.new.updater rd (c.in_ok-apply_all.ensures.takes a.base before cl.progress rd.no_retry ahead) in
     text_ends a c.apply_all.new.session before c.apply_all.new.made.items taken c.args.octets.items c.in_ok-message.message c.checked.new.self.sequence c.apply_all.new.updater (is_at_end (run_next a taken c.args.octets.items).place) ck d
     (sym (ap is_over rd.stands) ∙ sym c.is_finished.ensures ∙ c.if-is_finished.true)
 
-pub returns : goal.returns
-returns g c a taken before at whole x =
+pub returns-clause-takes : goal.returns-clause-takes
+returns-clause-takes g c a taken before at whole x =
     let cl = client_so_far a taken in
     let o = c.checked.ensures.others in
     let r = c.read.ensures.others in
@@ -56,8 +56,14 @@ returns g c a taken before at whole x =
     let rd = message_reads a c.args.self.now c.args.session.now before c.args.made.now.items taken c.args.octets.items c.in_ok-message.message c.checked.new.self.sequence c.read.new.self.interpreter c.in_ok-updates.updates whole x ck tests in
     let updater : c.read.new.self.updater ≡ c.args.self.now.updater = ap (λ e. e.updater) r ∙ ap (λ e. e.updater) o in
     let ahead = subst (λ u. Ahead a.base before u c.args.session.now c.args.made.now.items cl.progress) (sym updater) x.ahead in
-    let d = updates_done a c.apply_all.new.session before c.apply_all.new.made.items taken c.args.octets.items c.read.new.self.interpreter c.in_ok-updates.updates c.apply_all.new.updater rd (c.in_ok-apply_all.ensures a.base before cl.progress rd.no_retry ahead) in
+    let d = updates_done a c.apply_all.new.session before c.apply_all.new.made.items taken c.args.octets.items c.read.new.self.interpreter c.in_ok-updates.updates c.apply_all.new.updater rd (c.in_ok-apply_all.ensures.takes a.base before cl.progress rd.no_retry ahead) in
     text_goes_on a c.args.self.now c.args.session.now c.apply_all.new.session before c.args.made.now.items c.apply_all.new.made.items taken c.args.octets.items c.in_ok-message.message
     (record c.read.new.self { updater = c.apply_all.new.updater }) c.in_ok-updates.updates
     x (subst (λ q. ChecksReply a taken c.args.octets.items c.in_ok-message.message q) (sym (ap (λ e. e.sequence) r)) ck) rd d
     (sym (ap is_over rd.stands) ∙ sym c.is_finished.ensures ∙ c.if-is_finished.false) (ap (λ e. e.id) r ∙ ap (λ e. e.id) o) (ap (λ e. e.question) r ∙ ap (λ e. e.question) o)
+
+pub returns-then-is_finished-clause-keeps : goal.returns-then-is_finished-clause-keeps
+returns-then-is_finished-clause-keeps g c = c.in_ok-apply_all.ensures.keeps
+
+pub returns-clause-keeps : goal.returns-clause-keeps
+returns-clause-keeps g c = c.in_ok-apply_all.ensures.keeps
