@@ -1,6 +1,6 @@
 -- What an insertion and a removal make of the zones.
-use Rattle.std.proofs.Common.{◌≡◌, ℕ, Bool, true, false, cond, List, [], ◌∷◌, refl, sym, ap, ◌∙◌, true≢false, All, Ordering, Less, Equal, Greater, is_eq, Option, Some, None, Result, Ok, Err, OnOk, OnErr, IfNone}
-use Rattle.std.specs.Ordering.{match_ordering, eq_by_cmp}
+use Rattle.std.proofs.Common.{◌≡◌, ℕ, Bool, true, false, cond, [], ◌∷◌, refl, sym, ap, ◌∙◌, true≢false, All, Ordering, Less, Equal, Greater, is_eq, Option, Some, None, Result, Ok, Err, OnOk, OnErr, IfNone}
+use Rattle.std.specs.Ordering.{match_ordering}
 use Rattle.std.specs.Cmp.{tied_itself, alike_right, eq_by_cmp_equiv}
 use Rattle.std.specs.List.Sorted.{IsStrictlySortedBy}
 use Rattle.std.specs.BTreeMap.{insert_entry, is_at}
@@ -16,6 +16,11 @@ use Rattle.zone_tree.specs.Trees.{SameElsewhere}
 use Rattle.zone_tree.proofs.Keys.{keys_tie, IsPlaced, apart_is, apart_back}
 
 -- ---- facts of an outcome, from others
+
+tied : (o : Ordering) → is_eq o ≡ true → o ≡ Equal
+tied Less h = absurd (true≢false (sym h))
+tied Equal h = refl
+tied Greater h = absurd (true≢false (sym h))
 
 pub on_ok : {T E : Type 0} (r : Result T E) (P Q : Type 0) → OnOk r P → (P → Q) → OnOk r Q
 on_ok (Ok x) P Q h f = f h
@@ -64,11 +69,6 @@ module _ {Z : Type 0} where
   inserted_others zones class apex zone = λ c n apart. inserted_elsewhere zones (class, fold apex) (c, fold n) zone (apart_back class apex c n apart)
 
   -- ---- a removal
-
-  tied : (o : Ordering) → is_eq o ≡ true → o ≡ Equal
-  tied Less h = absurd (true≢false (sym h))
-  tied Equal h = refl
-  tied Greater h = absurd (true≢false (sym h))
 
   removed_at : (zones : Zones Z) (k q : ZoneKey) → IsStrictlySortedBy zone_key_cmp (keys_of zones)
       → lookup (is_at (zone_key_cmp q)) (remove_entry (is_at (zone_key_cmp k)) zones) ≡ cond (is_eq (zone_key_cmp k q)) None (lookup (is_at (zone_key_cmp q)) zones)

@@ -59,7 +59,8 @@ impl<Z: AtApex> ZoneTree<Z> {
     /// (RFC 1034, 4.3.2, step 2).
     pub fn find_zone<N: Labelled>(&self, qname: &N, class: Class) -> Option<&Z>
         ensures is { option_copied result ≡ find_zone self.now class (N.labels qname.now) }
-        ensures nearest { FindsNearest Z.class_of Z.apex_of self.now class (N.labels qname.now) (option_copied result) }
+        ensures nearest { FindsNearest Z.class_of Z.apex_of self.now class (N.labels qname.now)
+            (option_copied result) }
     {
         self.nearest(&qname.to_key_name(), class)
     }
@@ -93,10 +94,12 @@ impl<Z: AtApex> ZoneTree<Z> {
 impl<Z: AtApex + Drop> ZoneTree<Z> {
     /// Puts a zone in. Without memory, and where there is a zone of that class and apex, the zone is handed back and the tree stays as it was.
     pub fn insert_zone(&mut self, zone: Z) -> Result<(), InsertZoneError<Z>>
-        ensures ok { OnOk result (self.new ≡ insert_entry zone_key_cmp self.old (key_of Z.class_of Z.apex_of zone) zone) }
+        ensures ok { OnOk result
+            (self.new ≡ insert_entry zone_key_cmp self.old (key_of Z.class_of Z.apex_of zone) zone) }
         ensures stands { OnOk result (zone_of self.new (Z.class_of zone) (Z.apex_of zone) ≡ Some zone) }
         ensures others { SameElsewhere (Z.class_of zone) (Z.apex_of zone) self.old self.new }
-        ensures exists { IsSome (zone_of self.old (Z.class_of zone) (Z.apex_of zone)) ↔ (result ≡ Err (ZoneExists zone)) }
+        ensures exists { IsSome (zone_of self.old (Z.class_of zone) (Z.apex_of zone))
+            ↔ (result ≡ Err (ZoneExists zone)) }
         ensures refused { OnErr result (self.new ≡ self.old) }
         ensures returned { IfErr result (λ e. handed_back e ≡ zone) }
     {
@@ -119,7 +122,8 @@ impl<Z: AtApex + Drop> ZoneTree<Z> {
 
     /// Puts a zone in place of the one of its class and apex. Without memory it is handed back.
     fn put(&mut self, zone: Z) -> Result<(), Z>
-        ensures ok { OnOk result (self.new ≡ insert_entry zone_key_cmp self.old (key_of Z.class_of Z.apex_of zone) zone) }
+        ensures ok { OnOk result
+            (self.new ≡ insert_entry zone_key_cmp self.old (key_of Z.class_of Z.apex_of zone) zone) }
         ensures stands { OnOk result (zone_of self.new (Z.class_of zone) (Z.apex_of zone) ≡ Some zone) }
         ensures others { SameElsewhere (Z.class_of zone) (Z.apex_of zone) self.old self.new }
         ensures err { OnErr result (self.new ≡ self.old) }
@@ -135,8 +139,10 @@ impl<Z: AtApex + Drop> ZoneTree<Z> {
         apex_name: &N,
         class: Class,
     ) -> Result<Z, ZoneTreeModificationError>
-        ensures given { MatchOption (zone_of self.old class (N.labels apex_name.now)) (result ≡ Err ZoneDoesNotExist) (λ zone. result ≡ Ok zone) }
-        ensures is { self.new ≡ remove_entry (is_at (zone_key_cmp (class, fold (N.labels apex_name.now)))) self.old }
+        ensures given { MatchOption (zone_of self.old class (N.labels apex_name.now))
+            (result ≡ Err ZoneDoesNotExist) (λ zone. result ≡ Ok zone) }
+        ensures is { self.new
+            ≡ remove_entry (is_at (zone_key_cmp (class, fold (N.labels apex_name.now)))) self.old }
         ensures gone { zone_of self.new class (N.labels apex_name.now) ≡ None }
         ensures others { SameElsewhere class (N.labels apex_name.now) self.old self.new }
         ensures refused { OnErr result (self.new ≡ self.old) }
@@ -150,7 +156,8 @@ impl<Z: AtApex + Drop> ZoneTree<Z> {
     /// Takes the zone of a class and apex out.
     fn take<N: Labelled>(&mut self, apex_name: &N, class: Class) -> Option<Z>
         ensures value { result ≡ zone_of self.old class (N.labels apex_name.now) }
-        ensures is { self.new ≡ remove_entry (is_at (zone_key_cmp (class, fold (N.labels apex_name.now)))) self.old }
+        ensures is { self.new
+            ≡ remove_entry (is_at (zone_key_cmp (class, fold (N.labels apex_name.now)))) self.old }
         ensures gone { zone_of self.new class (N.labels apex_name.now) ≡ None }
         ensures others { SameElsewhere class (N.labels apex_name.now) self.old self.new }
         ensures none { IfNone result (self.new ≡ self.old) }
@@ -166,7 +173,8 @@ fn put_at<Z: AtApex + Drop>(
     key: ZoneKey,
     zone: Z,
 ) -> Result<(), Z>
-    ensures ok { OnOk result (entries.new.entries ≡ insert_entry zone_key_cmp entries.old.entries key zone) }
+    ensures ok { OnOk result
+        (entries.new.entries ≡ insert_entry zone_key_cmp entries.old.entries key zone) }
     ensures err { OnErr result (entries.new.entries ≡ entries.old.entries) }
     ensures returned { IfErr result (λ z. z ≡ zone) }
     ensures ordered { IsStrictlySortedBy zone_key_cmp (keys_of entries.new.entries) }

@@ -1,4 +1,4 @@
-use Rattle.std.proofs.Common.{◌≡◌, All, sym, ap, subst, ◌∙◌}
+use Rattle.std.proofs.Common.{All, sym, ap, subst, ◌∙◌}
 use Rattle.std.specs.BTreeMap.{is_at}
 use Rattle.std.specs.Map.{lookup, remove_entry}
 use Rattle.dns_name.specs.Names.{fold}
@@ -14,7 +14,7 @@ invariant_of-self g c =
     record {
       ordered = c.remove.ensures.ordered;
       placed = subst (All (IsPlaced z.class_of z.apex_of)) (sym c.remove.ensures.entries)
-        (placed_removed z.class_of z.apex_of c.self.inside.entries.entries (is_at (zone_key_cmp c.new-key.result)) c.self.invariant.placed);
+          (placed_removed z.class_of z.apex_of c.self.inside.entries.entries (is_at (zone_key_cmp c.new-key.result)) c.self.invariant.placed);
     }
 
 pub returns-clause-value : goal.returns-clause-value
