@@ -43,7 +43,7 @@ fn chaos() -> Class {
     Class::from_int(3)
 }
 
-fn marked<R: Abort>(rt: &R, alloc: Global, class: Class, apex: &[u8], mark: u8) -> Marked {
+fn make_zone<R: Abort>(rt: &R, alloc: Global, class: Class, apex: &[u8], mark: u8) -> Marked {
     let apex = name(rt, alloc, apex);
     Marked { class, apex, mark }
 }
@@ -56,7 +56,7 @@ fn put<R: Abort>(
     apex: &[u8],
     mark: u8,
 ) {
-    let zone = marked(rt, alloc, class, apex, mark);
+    let zone = make_zone(rt, alloc, class, apex, mark);
     tree.insert_zone(zone).expect(rt, "a new zone");
 }
 
@@ -102,7 +102,11 @@ fn a_name_lies_in_the_nearest_zone(rt: HostRuntime) {
     is(&rt, found(&rt, &tree, Class::IN, b"\x03org\x00"), None);
     is(&rt, found(&rt, &tree, chaos(), BELOW_A), None);
     is(&rt, kept(&rt, &tree, Class::IN, BELOW_A), None);
-    is(&rt, kept(&rt, &tree, Class::IN, b"\x01A\x07eXample\x00"), Some(2));
+    is(
+        &rt,
+        kept(&rt, &tree, Class::IN, b"\x01A\x07eXample\x00"),
+        Some(2),
+    );
     drop(tree);
 }
 
@@ -127,7 +131,7 @@ fn a_zone_taken_out_is_found_no_more(rt: HostRuntime) {
 fn a_zone_that_stands_is_not_replaced(rt: HostRuntime) {
     let alloc = rt.alloc();
     let mut tree = three_zones(&rt, alloc);
-    let second = marked(&rt, alloc, Class::IN, b"\x07EXAMPLE\x00", 9);
+    let second = make_zone(&rt, alloc, Class::IN, b"\x07EXAMPLE\x00", 9);
     let refused = tree.insert_zone(second);
     let refused = refused.err().expect(&rt, "a refusal");
     let mut said = String::new(alloc);

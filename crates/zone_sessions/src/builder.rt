@@ -111,9 +111,13 @@ impl ZoneBuilder {
         set: SharedRrset,
     ) -> Result<(), InsertError>
         ensures empty { (length set.contents.items == 0) ≡ true → IsOk result × (self.new ≡ self.old) }
-        ensures ok { (length set.contents.items == 0) ≡ false → OnOk result (edits.replace_set self.old (N.labels owner.now) set.rtype set.contents ≡ Ok self.new) }
-        ensures outside { (result ≡ Err InsertError.OutOfZone) ↔ (((length set.contents.items == 0) ≡ false) × (under (N.labels owner.now) self.old.apex ≡ false)) }
-        ensures alias { (result ≡ Err InsertError.InvalidData) ↔ (((length set.contents.items == 0) ≡ false) × (under (N.labels owner.now) self.old.apex ≡ true) × (edits.is_bad_alias self.old (N.labels owner.now) set.rtype set.contents ≡ true)) }
+        ensures ok { (length set.contents.items == 0) ≡ false → OnOk result
+            (edits.replace_set self.old (N.labels owner.now) set.rtype set.contents ≡ Ok self.new) }
+        ensures outside { (result ≡ Err InsertError.OutOfZone)
+            ↔ (((length set.contents.items == 0) ≡ false) × (under (N.labels owner.now) self.old.apex ≡ false)) }
+        ensures alias { (result ≡ Err InsertError.InvalidData)
+            ↔ (((length set.contents.items == 0) ≡ false) × (under (N.labels owner.now) self.old.apex ≡ true)
+            × (edits.is_bad_alias self.old (N.labels owner.now) set.rtype set.contents ≡ true)) }
         ensures err { OnErr result (self.new ≡ self.old) }
     {
         let put = self.put_rrset(&owner.to_key_name(), set.as_rrset());
@@ -123,10 +127,15 @@ impl ZoneBuilder {
 
     /// The same of an owner and an RRset that are lent.
     fn put_rrset(&mut self, owner: &KeyName, set: &Rrset) -> Result<(), InsertError>
-        ensures empty { (length set.now.contents.items == 0) ≡ true → IsOk result × (self.new ≡ self.old) }
-        ensures ok { (length set.now.contents.items == 0) ≡ false → OnOk result (edits.replace_set self.old owner.now set.now.rtype set.now.contents ≡ Ok self.new) }
-        ensures outside { (result ≡ Err InsertError.OutOfZone) ↔ (((length set.now.contents.items == 0) ≡ false) × (under owner.now self.old.apex ≡ false)) }
-        ensures alias { (result ≡ Err InsertError.InvalidData) ↔ (((length set.now.contents.items == 0) ≡ false) × (under owner.now self.old.apex ≡ true) × (edits.is_bad_alias self.old owner.now set.now.rtype set.now.contents ≡ true)) }
+        ensures empty { (length set.now.contents.items == 0) ≡ true
+            → IsOk result × (self.new ≡ self.old) }
+        ensures ok { (length set.now.contents.items == 0) ≡ false → OnOk result
+            (edits.replace_set self.old owner.now set.now.rtype set.now.contents ≡ Ok self.new) }
+        ensures outside { (result ≡ Err InsertError.OutOfZone)
+            ↔ (((length set.now.contents.items == 0) ≡ false) × (under owner.now self.old.apex ≡ false)) }
+        ensures alias { (result ≡ Err InsertError.InvalidData)
+            ↔ (((length set.now.contents.items == 0) ≡ false) × (under owner.now self.old.apex ≡ true)
+            × (edits.is_bad_alias self.old owner.now set.now.rtype set.now.contents ≡ true)) }
         ensures err { OnErr result (self.new ≡ self.old) }
     {
         if set.is_empty() {
@@ -153,9 +162,12 @@ impl ZoneBuilder {
     ) -> Result<(), InsertCutError>
         requires ns { ns.rtype ≡ type_ns }
         requires ds { IfSome ds (λ s. s.rtype ≡ type_ds) }
-        ensures ok { OnOk result (self.new ≡ edits.make_cut self.old (N.labels name.now) ns.contents (option_map (λ (s : TypedSet). s.contents) ds) glue.items) }
-        ensures outside { (result ≡ Err InsertCutError.OutOfZone) ↔ (under (N.labels name.now) self.old.apex ≡ false) }
-        ensures apex { (result ≡ Err InsertCutError.ZoneCutAtApex) ↔ (same_name (N.labels name.now) self.old.apex ≡ true) }
+        ensures ok { OnOk result (self.new ≡ edits.make_cut self.old (N.labels name.now) ns.contents
+            (option_map (λ (s : TypedSet). s.contents) ds) glue.items) }
+        ensures outside { (result ≡ Err InsertCutError.OutOfZone)
+            ↔ (under (N.labels name.now) self.old.apex ≡ false) }
+        ensures apex { (result ≡ Err InsertCutError.ZoneCutAtApex)
+            ↔ (same_name (N.labels name.now) self.old.apex ≡ true) }
         ensures err { OnErr result (self.new ≡ self.old) }
     {
         let put = self.put_cut(&name.to_key_name(), &ns, &ds, &glue);
@@ -175,9 +187,12 @@ impl ZoneBuilder {
     ) -> Result<(), InsertCutError>
         requires ns { ns.now.rtype ≡ type_ns }
         requires ds { IfSome ds.now (λ s. s.rtype ≡ type_ds) }
-        ensures ok { OnOk result (self.new ≡ edits.make_cut self.old name.now ns.now.contents (option_map (λ (s : TypedSet). s.contents) ds.now) glue.now) }
-        ensures outside { (result ≡ Err InsertCutError.OutOfZone) ↔ (under name.now self.old.apex ≡ false) }
-        ensures apex { (result ≡ Err InsertCutError.ZoneCutAtApex) ↔ (same_name name.now self.old.apex ≡ true) }
+        ensures ok { OnOk result (self.new ≡ edits.make_cut self.old name.now ns.now.contents
+            (option_map (λ (s : TypedSet). s.contents) ds.now) glue.now) }
+        ensures outside { (result ≡ Err InsertCutError.OutOfZone)
+            ↔ (under name.now self.old.apex ≡ false) }
+        ensures apex { (result ≡ Err InsertCutError.ZoneCutAtApex)
+            ↔ (same_name name.now self.old.apex ≡ true) }
         ensures err { OnErr result (self.new ≡ self.old) }
     {
         if name.name_eq(self.version.apex()) {
@@ -197,9 +212,12 @@ impl ZoneBuilder {
         alias: SharedRr,
     ) -> Result<(), InsertCnameError>
         requires { alias.rtype ≡ type_cname }
-        ensures ok { OnOk result (self.new ≡ edits.make_alias self.old (N.labels name.now) alias.ttl alias.fields) }
-        ensures outside { (result ≡ Err InsertCnameError.OutOfZone) ↔ (under (N.labels name.now) self.old.apex ≡ false) }
-        ensures apex { (result ≡ Err InsertCnameError.CnameAtApex) ↔ (same_name (N.labels name.now) self.old.apex ≡ true) }
+        ensures ok { OnOk result
+            (self.new ≡ edits.make_alias self.old (N.labels name.now) alias.ttl alias.fields) }
+        ensures outside { (result ≡ Err InsertCnameError.OutOfZone)
+            ↔ (under (N.labels name.now) self.old.apex ≡ false) }
+        ensures apex { (result ≡ Err InsertCnameError.CnameAtApex)
+            ↔ (same_name (N.labels name.now) self.old.apex ≡ true) }
         ensures err { OnErr result (self.new ≡ self.old) }
     {
         let put = self.put_cname(&name.to_key_name(), &alias);
@@ -210,9 +228,12 @@ impl ZoneBuilder {
     /// The same of an alias that is lent.
     fn put_cname(&mut self, name: &KeyName, alias: &SharedRr) -> Result<(), InsertCnameError>
         requires { alias.now.rtype ≡ type_cname }
-        ensures ok { OnOk result (self.new ≡ edits.make_alias self.old name.now alias.now.ttl alias.now.fields) }
-        ensures outside { (result ≡ Err InsertCnameError.OutOfZone) ↔ (under name.now self.old.apex ≡ false) }
-        ensures apex { (result ≡ Err InsertCnameError.CnameAtApex) ↔ (same_name name.now self.old.apex ≡ true) }
+        ensures ok { OnOk result
+            (self.new ≡ edits.make_alias self.old name.now alias.now.ttl alias.now.fields) }
+        ensures outside { (result ≡ Err InsertCnameError.OutOfZone)
+            ↔ (under name.now self.old.apex ≡ false) }
+        ensures apex { (result ≡ Err InsertCnameError.CnameAtApex)
+            ↔ (same_name name.now self.old.apex ≡ true) }
         ensures err { OnErr result (self.new ≡ self.old) }
     {
         if name.name_eq(self.version.apex()) {

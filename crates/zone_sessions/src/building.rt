@@ -21,7 +21,8 @@ pub(crate) fn replace_set(
 ) -> Result<(), AllocError>
     requires zone { under owner.now version.old.apex ≡ true }
     requires alias { edits.is_bad_alias version.old owner.now set.now.rtype set.now.contents ≡ false }
-    ensures ok { OnOk result (version.new ≡ edits.put_set version.old owner.now set.now.rtype (distinct_set set.now.contents)) }
+    ensures ok { OnOk result
+        (version.new ≡ edits.put_set version.old owner.now set.now.rtype (distinct_set set.now.contents)) }
     ensures err { OnErr result (version.new ≡ version.old) }
 {
     let first = RecordSet::from_rrset(alloc, set)?;
@@ -37,7 +38,8 @@ pub(crate) fn make_alias(
 ) -> Result<(), AllocError>
     requires zone { under owner.now version.old.apex ≡ true }
     requires rtype { alias.now.rtype ≡ type_cname }
-    ensures ok { OnOk result (version.new ≡ edits.make_alias version.old owner.now alias.now.ttl alias.now.fields) }
+    ensures ok { OnOk result
+        (version.new ≡ edits.make_alias version.old owner.now alias.now.ttl alias.now.fields) }
     ensures err { OnErr result (version.new ≡ version.old) }
 {
     let item = alias.data().clone()?;
@@ -57,7 +59,8 @@ pub(crate) fn make_cut(
     requires zone { under owner.now version.old.apex ≡ true }
     requires ns { ns.now.rtype ≡ type_ns }
     requires ds { IfSome ds.now (λ s. s.rtype ≡ type_ds) }
-    ensures ok { OnOk result (version.new ≡ edits.make_cut version.old owner.now ns.now.contents (option_map (λ (s : TypedSet). s.contents) ds.now) glue.now) }
+    ensures ok { OnOk result (version.new ≡ edits.make_cut version.old owner.now ns.now.contents
+        (option_map (λ (s : TypedSet). s.contents) ds.now) glue.now) }
     ensures err { OnErr result (version.new ≡ version.old) }
 {
     let before = version.clone()?;
@@ -85,7 +88,8 @@ fn put_cut(
     requires zone { under owner.now version.old.apex ≡ true }
     requires ns { ns.now.rtype ≡ type_ns }
     requires ds { IfSome ds.now (λ s. s.rtype ≡ type_ds) }
-    ensures { OnOk result (version.new ≡ edits.make_cut version.old owner.now ns.now.contents (option_map (λ (s : TypedSet). s.contents) ds.now) glue.now) }
+    ensures { OnOk result (version.new ≡ edits.make_cut version.old owner.now ns.now.contents
+        (option_map (λ (s : TypedSet). s.contents) ds.now) glue.now) }
 {
     replace_set(version, alloc, owner, ns)?;
     put_signer(version, alloc, owner, ds)?;
@@ -101,7 +105,8 @@ fn put_signer(
 ) -> Result<(), AllocError>
     requires zone { under owner.now version.old.apex ≡ true }
     requires ds { IfSome signer.now (λ s. s.rtype ≡ type_ds) }
-    ensures { OnOk result (version.new ≡ edits.put_set version.old owner.now type_ds (distinct_set (unwrap_or (option_map (λ (s : TypedSet). s.contents) signer.now) (record { ttl = 0; items = [] })))) }
+    ensures { OnOk result (version.new ≡ edits.put_set version.old owner.now type_ds (distinct_set
+        (unwrap_or (option_map (λ (s : TypedSet). s.contents) signer.now) (record { ttl = 0; items = [] })))) }
 {
     match signer {
         Some(set) => replace_set(version, alloc, owner, set),
@@ -113,7 +118,11 @@ fn put_signer(
 }
 
 /// Puts the addresses of a zone cut's servers, in turn.
-fn put_glue(version: &mut ZoneVersion, alloc: Global, glue: &[StoredRecord]) -> Result<(), AllocError>
+fn put_glue(
+    version: &mut ZoneVersion,
+    alloc: Global,
+    glue: &[StoredRecord],
+) -> Result<(), AllocError>
     ensures { OnOk result (version.new ≡ fold_list edits.add_glue version.old glue.now) }
 {
     for added in glue {

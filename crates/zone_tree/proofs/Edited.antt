@@ -1,6 +1,6 @@
 -- What an insertion and a removal make of the zones.
-use Rattle.std.proofs.Common.{◌≡◌, ℕ, Bool, true, false, cond, List, [], ◌∷◌, refl, sym, ap, ◌∙◌, true≢false, All, Ordering, Less, Equal, Greater, is_eq, Option, Some, None}
-use Rattle.std.specs.Ordering.{match_ordering, eq_by_cmp}
+use Rattle.std.proofs.Common.{◌≡◌, ℕ, Bool, true, false, cond, [], ◌∷◌, refl, sym, ap, ◌∙◌, true≢false, All, Ordering, Less, Equal, Greater, is_eq, Option, Some, None, Result, Ok, Err, OnOk, OnErr, IfNone}
+use Rattle.std.specs.Ordering.{match_ordering}
 use Rattle.std.specs.Cmp.{tied_itself, alike_right, eq_by_cmp_equiv}
 use Rattle.std.specs.List.Sorted.{IsStrictlySortedBy}
 use Rattle.std.specs.BTreeMap.{insert_entry, is_at}
@@ -14,6 +14,29 @@ use Rattle.zone_model.proofs.Folded.{fold-fold}
 use Rattle.zone_tree.specs.KeyOrder.{zone_key_total}
 use Rattle.zone_tree.specs.Trees.{SameElsewhere}
 use Rattle.zone_tree.proofs.Keys.{keys_tie, IsPlaced, apart_is, apart_back}
+
+-- ---- facts of an outcome, from others
+
+tied : (o : Ordering) → is_eq o ≡ true → o ≡ Equal
+tied Less h = absurd (true≢false (sym h))
+tied Equal h = refl
+tied Greater h = absurd (true≢false (sym h))
+
+pub on_ok : {T E : Type 0} (r : Result T E) (P Q : Type 0) → OnOk r P → (P → Q) → OnOk r Q
+on_ok (Ok x) P Q h f = f h
+on_ok (Err e) P Q h f = tt
+
+pub on_err : {T E : Type 0} (r : Result T E) (P Q : Type 0) → OnErr r P → (P → Q) → OnErr r Q
+on_err (Ok x) P Q h f = tt
+on_err (Err e) P Q h f = f h
+
+pub of_both : {T E : Type 0} (r : Result T E) (P Q A : Type 0) → OnOk r P → OnErr r Q → (P → A) → (Q → A) → A
+of_both (Ok x) P Q A h k f g = f h
+of_both (Err e) P Q A h k f g = g k
+
+pub if_none : {T : Type 0} (o : Option T) (P Q : Type 0) → IfNone o P → (P → Q) → IfNone o Q
+if_none None P Q h f = f h
+if_none (Some x) P Q h f = tt
 
 module _ {Z : Type 0} where
   -- ---- an insertion
@@ -46,11 +69,6 @@ module _ {Z : Type 0} where
   inserted_others zones class apex zone = λ c n apart. inserted_elsewhere zones (class, fold apex) (c, fold n) zone (apart_back class apex c n apart)
 
   -- ---- a removal
-
-  tied : (o : Ordering) → is_eq o ≡ true → o ≡ Equal
-  tied Less h = absurd (true≢false (sym h))
-  tied Equal h = refl
-  tied Greater h = absurd (true≢false (sym h))
 
   removed_at : (zones : Zones Z) (k q : ZoneKey) → IsStrictlySortedBy zone_key_cmp (keys_of zones)
       → lookup (is_at (zone_key_cmp q)) (remove_entry (is_at (zone_key_cmp k)) zones) ≡ cond (is_eq (zone_key_cmp k q)) None (lookup (is_at (zone_key_cmp q)) zones)

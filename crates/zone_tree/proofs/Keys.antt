@@ -1,5 +1,5 @@
 -- What a look-up by class and apex finds, and when keys are one.
-use Rattle.std.proofs.Common.{◌≡◌, ℕ, Bool, true, false, cond, ◌&&◌, List, [], ◌∷◌, ◌++◌, refl, sym, ap, ◌∙◌, subst, true≢false, eq-eqb, All, Contains, Ordering, Less, Equal, Greater, is_eq, nat_cmp, Option, Some, None, is_some, unwrap_or}
+use Rattle.std.proofs.Common.{◌≡◌, ℕ, true, false, cond, ◌&&◌, ◌==◌, [], ◌∷◌, refl, sym, ap, ◌∙◌, subst, true≢false, eq-eqb, All, Contains, Ordering, Less, Equal, Greater, is_eq, nat_cmp, Some, None, is_some, unwrap_or}
 use Rattle.std.specs.Ordering.{ordering_then}
 use Rattle.std.specs.Cmp.{tied_itself, tied_back}
 use Rattle.std.specs.Map.{values_of}
@@ -60,7 +60,7 @@ module _ {Z : Type 0} (class_of : Z → ℕ) (apex_of : Z → Name) where
       by Less q g rest = later (rest g)
       by Equal q g rest =
           subst (λ z. Contains (values_of (e ∷ zones)) z × IsZoneOf class apex z) (ap (λ o. unwrap_or o e.1) g)
-              (Contains-append_left (e.1 ∷ []) (values_of zones) e.1 (Contains-push [] e.1), tie_is class apex e (All-head IsPlaced e zones placed) q)
+          (Contains-append_left (e.1 ∷ []) (values_of zones) e.1 (Contains-push [] e.1), tie_is class apex e (All-head IsPlaced e zones placed) q)
       by Greater q g rest = later (rest g)
 
   -- and finds none where there is none
@@ -71,7 +71,7 @@ module _ {Z : Type 0} (class_of : Z → ℕ) (apex_of : Z → Name) where
       apart : (o : Ordering) → is_eq o ≡ false → zone_key_cmp (class, fold apex) e.0 ≡ o → All (λ zone. IsZoneOf class apex zone → ⊥) (values_of zones) → All (λ zone. IsZoneOf class apex zone → ⊥) (values_of (e ∷ zones))
       apart o differs q rest =
           All-cons (λ zone. IsZoneOf class apex zone → ⊥) e.1 (values_of zones)
-              (λ z. true≢false (sym (ap is_eq (is_tie class apex e (All-head IsPlaced e zones placed) z)) ∙ ap is_eq q ∙ differs)) rest
+          (λ z. true≢false (sym (ap is_eq (is_tie class apex e (All-head IsPlaced e zones placed) z)) ∙ ap is_eq q ∙ differs)) rest
 
       by : (o : Ordering) → zone_key_cmp (class, fold apex) e.0 ≡ o → cond (is_eq o) (Some e.1) (zone_of zones class apex) ≡ None
           → (zone_of zones class apex ≡ None → All (λ zone. IsZoneOf class apex zone → ⊥) (values_of zones)) → All (λ zone. IsZoneOf class apex zone → ⊥) (values_of (e ∷ zones))

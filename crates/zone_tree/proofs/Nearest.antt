@@ -1,12 +1,12 @@
 -- The zone that is found is the nearest one, name by name upwards.
-use Rattle.std.proofs.Common.{◌≡◌, ℕ, ◌+◌, ◌≤◌, ◌<◌, Bool, true, false, cond, List, [], ◌∷◌, ◌++◌, drop, length, refl, sym, ap, ◌∙◌, true≢false, arith, length-append, slice_index_or, Contains, Option, Some, None, ◌⊎◌, inl, inr, ⊎_elim}
+use Rattle.std.proofs.Common.{◌≡◌, ℕ, ◌+◌, ◌≤◌, ◌<◌, Bool, true, false, List, [], ◌∷◌, ◌++◌, drop, length, refl, sym, ap, ◌∙◌, true≢false, arith, length-append, slice_index_or, Contains, Option, Some, None, ◌⊎◌, inl, inr, ⊎_elim}
 use Rattle.std.specs.Option.{option_or}
 use Rattle.std.specs.Str.{str_to_ascii_lowercase}
 use Rattle.std.specs.Map.{values_of}
 use Rattle.std.proofs.lemmas.List.{length-map}
 use Rattle.dns_name.specs.Names.{Name, fold, under}
 use Rattle.dns_name.proofs.FoldedLabels.{names_under}
-use Rattle.zone_model.specs.Zones.{ZoneKey, Zones, zone_of, find_zone}
+use Rattle.zone_model.specs.Zones.{Zones, zone_of, find_zone}
 use Rattle.zone_tree.specs.Trees.{IsZoneTree, Covers, IsNearest, FindsNearest}
 use Rattle.zone_tree.proofs.Keys.{IsZoneOf, found_is, none_is}
 

@@ -1,5 +1,5 @@
 -- Which zones stand where, and which of them a name lies in (RFC 1034, 4.3.2, step 2).
-use Rattle.std.specs.Prelude.{◌≡◌, ℕ, ◌≤◌, ◌&&◌, ◌==◌, Bool, false, length, IsTrue, MatchOption, Option}
+use Rattle.std.specs.Prelude.{◌≡◌, ℕ, ◌≤◌, ◌&&◌, ◌==◌, false, length, IsTrue, MatchOption, Option}
 use Rattle.std.specs.List.{All, Contains}
 use Rattle.std.specs.List.Sorted.{IsStrictlySortedBy}
 use Rattle.std.specs.Map.{keys_of, values_of}

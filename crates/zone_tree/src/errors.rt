@@ -12,14 +12,3 @@ pub enum InsertZoneError<Z> {
     #[error("out of memory")]
     Memory(#[derive_where(skip)] Z),
 }
-
-/// Temporary.
-#[derive(Clone, Copy, Debug, PartialEq, Eq, Drop, Error)]
-pub enum ZoneTreeModificationError {
-    /// There is a zone of that apex and class.
-    #[error("Zone already exists")]
-    ZoneExists,
-    /// There is no zone of that apex and class.
-    #[error("Zone does not exist")]
-    ZoneDoesNotExist,
-}

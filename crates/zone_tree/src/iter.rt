@@ -22,7 +22,7 @@ impl<'a, Z> Model for ZoneSetIter<'a, Z> {
 impl<'a, Z> ZoneSetIter<'a, Z> {
     /// The zones of a map's entries.
     pub(crate) fn of(zones: Values<'a, ZoneKey, Z>) -> ZoneSetIter<'a, Z>
-        ensures { result ≡ zones }
+        ensures { result ≡ zones.entry }
     {
         ZoneSetIter { zones }
     }

@@ -11,6 +11,6 @@ mod tree;
 mod zone_key;
 
 pub use at_apex::AtApex;
-pub use errors::{InsertZoneError, ZoneTreeModificationError};
+pub use errors::InsertZoneError;
 pub use iter::ZoneSetIter;
 pub use tree::ZoneTree;

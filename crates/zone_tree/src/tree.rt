@@ -1,13 +1,14 @@
 // The zones of a server by class and apex.
-ghost use Rattle.std.specs.Prelude.{◌≡◌, ◌↔◌, [], Some, None, Ok, Err, IsSome, IfErr, OnOk, OnErr, MatchOption, is_some, option_copied};
+ghost use Rattle.std.specs.Prelude.{◌≡◌, ◌↔◌, [], Some, None, Ok, Err, IsSome, IfErr, IfNone, OnOk, OnErr, MatchOption, is_some, option_copied};
 ghost use Rattle.std.specs.BTreeMap.{insert_entry, is_at};
-ghost use Rattle.std.specs.Map.{lookup, remove_entry, values_of};
+ghost use Rattle.std.specs.List.Sorted.{IsStrictlySortedBy};
+ghost use Rattle.std.specs.Map.{keys_of, remove_entry, values_of};
 ghost use Rattle.dns_name.specs.Names.{fold};
 ghost use Rattle.zone_model.specs.Zones.{zone_key_cmp, zone_of, find_zone};
 ghost use Rattle.zone_tree.specs.Trees.{key_of, IsZoneTree, FindsNearest, SameElsewhere};
 ghost use Rattle.zone_tree.specs.Refusals.{handed_back};
 ghost use Rattle.zone_tree.specs.declared.errors.InsertZoneError.TheVariants.{ZoneExists};
-ghost use Rattle.zone_tree.specs.declared.errors.ZoneTreeModificationError.TheVariants.{ZoneDoesNotExist};
+ghost use Rattle.zone_values.specs.declared.errors.ZoneTreeModificationError.TheVariants.{ZoneDoesNotExist};
 
 use crate::at_apex::AtApex;
 use crate::errors::InsertZoneError;
@@ -17,7 +18,7 @@ use dns_name::{Class, KeyName, Labelled};
 use std::alloc::Global;
 use std::collections::BTreeMap;
 use std::marker::Model;
-use crate::errors::ZoneTreeModificationError;
+use zone_values::ZoneTreeModificationError;
 
 /// The zones of a server by class and apex, at most one of each.
 #[derive(Drop)]
@@ -58,7 +59,8 @@ impl<Z: AtApex> ZoneTree<Z> {
     /// (RFC 1034, 4.3.2, step 2).
     pub fn find_zone<N: Labelled>(&self, qname: &N, class: Class) -> Option<&Z>
         ensures is { option_copied result ≡ find_zone self.now class (N.labels qname.now) }
-        ensures nearest { FindsNearest Z.class_of Z.apex_of self.now class (N.labels qname.now) (option_copied result) }
+        ensures nearest { FindsNearest Z.class_of Z.apex_of self.now class (N.labels qname.now)
+            (option_copied result) }
     {
         self.nearest(&qname.to_key_name(), class)
     }
@@ -92,21 +94,43 @@ impl<Z: AtApex> ZoneTree<Z> {
 impl<Z: AtApex + Drop> ZoneTree<Z> {
     /// Puts a zone in. Without memory, and where there is a zone of that class and apex, the zone is handed back and the tree stays as it was.
     pub fn insert_zone(&mut self, zone: Z) -> Result<(), InsertZoneError<Z>>
-        ensures ok { OnOk result (self.new ≡ insert_entry zone_key_cmp self.old (key_of Z.class_of Z.apex_of zone) zone) }
+        ensures ok { OnOk result
+            (self.new ≡ insert_entry zone_key_cmp self.old (key_of Z.class_of Z.apex_of zone) zone) }
         ensures stands { OnOk result (zone_of self.new (Z.class_of zone) (Z.apex_of zone) ≡ Some zone) }
         ensures others { SameElsewhere (Z.class_of zone) (Z.apex_of zone) self.old self.new }
-        ensures exists { IsSome (zone_of self.old (Z.class_of zone) (Z.apex_of zone)) ↔ (result ≡ Err (ZoneExists zone)) }
+        ensures exists { IsSome (zone_of self.old (Z.class_of zone) (Z.apex_of zone))
+            ↔ (result ≡ Err (ZoneExists zone)) }
         ensures refused { OnErr result (self.new ≡ self.old) }
         ensures returned { IfErr result (λ e. handed_back e ≡ zone) }
     {
-        let key = ZoneKey::new(zone.class(), zone.apex_name());
-        if self.has(&key) {
+        if self.is_taken(&zone) {
             return Err(InsertZoneError::ZoneExists(zone));
         }
-        match self.put(key, zone) {
+        match self.put(zone) {
             Ok(()) => Ok(()),
             Err(zone) => Err(InsertZoneError::Memory(zone)),
         }
+    }
+
+    /// Whether there is a zone of a zone's class and apex.
+    fn is_taken(&self, zone: &Z) -> bool
+        ensures { result ≡ is_some (zone_of self.now (Z.class_of zone.now) (Z.apex_of zone.now)) }
+    {
+        let key = ZoneKey::new(zone.class(), zone.apex_name());
+        self.entries.contains_key(&key)
+    }
+
+    /// Puts a zone in place of the one of its class and apex. Without memory it is handed back.
+    fn put(&mut self, zone: Z) -> Result<(), Z>
+        ensures ok { OnOk result
+            (self.new ≡ insert_entry zone_key_cmp self.old (key_of Z.class_of Z.apex_of zone) zone) }
+        ensures stands { OnOk result (zone_of self.new (Z.class_of zone) (Z.apex_of zone) ≡ Some zone) }
+        ensures others { SameElsewhere (Z.class_of zone) (Z.apex_of zone) self.old self.new }
+        ensures err { OnErr result (self.new ≡ self.old) }
+        ensures returned { IfErr result (λ z. z ≡ zone) }
+    {
+        let key = ZoneKey::new(zone.class(), zone.apex_name());
+        put_at(&mut self.entries, key, zone)
     }
 
     /// Takes the zone of a class and apex out, the case of letters aside, and hands it out.
@@ -115,53 +139,54 @@ impl<Z: AtApex + Drop> ZoneTree<Z> {
         apex_name: &N,
         class: Class,
     ) -> Result<Z, ZoneTreeModificationError>
-        ensures given { MatchOption (zone_of self.old class (N.labels apex_name.now)) (result ≡ Err ZoneDoesNotExist) (λ zone. result ≡ Ok zone) }
-        ensures is { self.new ≡ remove_entry (is_at (zone_key_cmp (class, fold (N.labels apex_name.now)))) self.old }
+        ensures given { MatchOption (zone_of self.old class (N.labels apex_name.now))
+            (result ≡ Err ZoneDoesNotExist) (λ zone. result ≡ Ok zone) }
+        ensures is { self.new
+            ≡ remove_entry (is_at (zone_key_cmp (class, fold (N.labels apex_name.now)))) self.old }
         ensures gone { zone_of self.new class (N.labels apex_name.now) ≡ None }
         ensures others { SameElsewhere class (N.labels apex_name.now) self.old self.new }
         ensures refused { OnErr result (self.new ≡ self.old) }
     {
-        match self.take(&ZoneKey::new(class, apex_name)) {
+        match self.take(apex_name, class) {
             Some(zone) => Ok(zone),
             None => Err(ZoneTreeModificationError::ZoneDoesNotExist),
         }
     }
+
+    /// Takes the zone of a class and apex out.
+    fn take<N: Labelled>(&mut self, apex_name: &N, class: Class) -> Option<Z>
+        ensures value { result ≡ zone_of self.old class (N.labels apex_name.now) }
+        ensures is { self.new
+            ≡ remove_entry (is_at (zone_key_cmp (class, fold (N.labels apex_name.now)))) self.old }
+        ensures gone { zone_of self.new class (N.labels apex_name.now) ≡ None }
+        ensures others { SameElsewhere class (N.labels apex_name.now) self.old self.new }
+        ensures none { IfNone result (self.new ≡ self.old) }
+    {
+        let key = ZoneKey::new(class, apex_name);
+        self.entries.remove(&key)
+    }
 }
 
-// One map at its keys.
-impl<Z: AtApex + Drop> ZoneTree<Z> {
-    /// Whether there is a zone at a key.
-    fn has(&self, key: &ZoneKey) -> bool
-        ensures { result ≡ is_some (lookup (is_at (zone_key_cmp key.now)) self.now) }
-    {
-        self.entries.contains_key(key)
-    }
-
-    /// Puts a zone at its key. Without memory the zone is handed back.
-    fn put(&mut self, key: ZoneKey, zone: Z) -> Result<(), Z>
-        requires { key ≡ key_of Z.class_of Z.apex_of zone }
-        ensures ok { OnOk result (self.new ≡ insert_entry zone_key_cmp self.old key zone) }
-        ensures err { OnErr result (self.new ≡ self.old) }
-        ensures returned { IfErr result (λ z. z ≡ zone) }
-    {
-        match self.entries.insert(key, zone) {
-            Ok(before) => {
-                drop(before);
-                Ok(())
-            }
-            Err(failed) => {
-                let (_, zone) = failed.value;
-                Err(zone)
-            }
+/// Puts a zone at a key in place of the one there. Without memory it is handed back.
+fn put_at<Z: AtApex + Drop>(
+    entries: &mut BTreeMap<ZoneKey, Z>,
+    key: ZoneKey,
+    zone: Z,
+) -> Result<(), Z>
+    ensures ok { OnOk result
+        (entries.new.entries ≡ insert_entry zone_key_cmp entries.old.entries key zone) }
+    ensures err { OnErr result (entries.new.entries ≡ entries.old.entries) }
+    ensures returned { IfErr result (λ z. z ≡ zone) }
+    ensures ordered { IsStrictlySortedBy zone_key_cmp (keys_of entries.new.entries) }
+{
+    match entries.insert(key, zone) {
+        Ok(before) => {
+            drop(before);
+            Ok(())
         }
-    }
-
-    /// Takes the zone at a key out.
-    fn take(&mut self, key: &ZoneKey) -> Option<Z>
-        ensures value { result ≡ lookup (is_at (zone_key_cmp key.now)) self.old }
-        ensures is { self.new ≡ remove_entry (is_at (zone_key_cmp key.now)) self.old }
-        ensures tree { IsZoneTree Z.class_of Z.apex_of self.old }
-    {
-        self.entries.remove(key)
+        Err(failed) => {
+            let (_, zone) = failed.value;
+            Err(zone)
+        }
     }
 }
