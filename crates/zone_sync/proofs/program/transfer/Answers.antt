@@ -25,3 +25,21 @@ pub returns-clause-over_link : goal.returns-clause-over_link
 returns-clause-over_link g c =
     inr (transfer_so _ c.args.script.at_primary _ _ _ _ _ c.args.script.key c.args.script.at_secondary c.write-session.result.current c.args.script.secondary c.new-made.result.items c.sync_zone-outcome.new.made.items c.sync_zone-outcome.new.session c.sync_zone-outcome.result
     (ap (λ (s : Session). s.current) c.write-session.ensures) c.new-made.ensures.items (rw c.in_ok-primary.ensures at c.sync_zone-outcome.ensures.headline) c.sync_zone-outcome.ensures.failed c.sync_zone-outcome.ensures.steady)
+
+pub returns-in_err-primary-clause-over_link : goal.returns-in_err-primary-clause-over_link
+returns-in_err-primary-clause-over_link g c = inl untouched
+
+pub returns-in_err-zone-clause-over_link : goal.returns-in_err-zone-clause-over_link
+returns-in_err-zone-clause-over_link g c =
+    inr (transfer_so _ c.args.script.at_primary _ _ _ _ _ c.args.script.key c.args.script.at_secondary c.write-session.result.current c.args.script.secondary c.new-made.result.items c.sync_zone-outcome.new.made.items c.sync_zone-outcome.new.session c.sync_zone-outcome.result
+    (ap (λ (s : Session). s.current) c.write-session.ensures) c.new-made.ensures.items (rw c.in_ok-primary.ensures at c.sync_zone-outcome.ensures.headline) c.sync_zone-outcome.ensures.failed c.sync_zone-outcome.ensures.steady)
+
+pub returns-then-eq-clause-over_link : goal.returns-then-eq-clause-over_link
+returns-then-eq-clause-over_link g c =
+    inr (transfer_so _ c.args.script.at_primary _ _ _ _ _ c.args.script.key c.args.script.at_secondary c.write-session.result.current c.args.script.secondary c.new-made.result.items c.sync_zone-outcome.new.made.items c.sync_zone-outcome.new.session c.sync_zone-outcome.result
+    (ap (λ (s : Session). s.current) c.write-session.ensures) c.new-made.ensures.items (rw c.in_ok-primary.ensures at c.sync_zone-outcome.ensures.headline) c.sync_zone-outcome.ensures.failed c.sync_zone-outcome.ensures.steady)
+
+pub returns-in_err-report-clause-over_link : goal.returns-in_err-report-clause-over_link
+returns-in_err-report-clause-over_link g c =
+    inr (transfer_so _ c.args.script.at_primary _ _ _ _ _ c.args.script.key c.args.script.at_secondary c.write-session.result.current c.args.script.secondary c.new-made.result.items c.sync_zone-outcome.new.made.items c.sync_zone-outcome.new.session c.sync_zone-outcome.result
+    (ap (λ (s : Session). s.current) c.write-session.ensures) c.new-made.ensures.items (rw c.in_ok-primary.ensures at c.sync_zone-outcome.ensures.headline) c.sync_zone-outcome.ensures.failed c.sync_zone-outcome.ensures.steady)
