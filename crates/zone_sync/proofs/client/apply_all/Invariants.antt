@@ -7,7 +7,7 @@ use Rattle.zone_sync.proofs.client.apply_all.Given as goal
 abbrev pub invariant-updates : goal.invariant-updates
 invariant-updates met l =
     ((base : Commit) (before : List Commit) (g : Progress) → l.initial.updates.retry ≡ false → Ahead base before l.initial.updater l.initial.session l.initial.made.items g
-        → LedOn base before l.updater l.session l.made.items g l.initial.updates l.updates)
+    → LedOn base before l.updater l.session l.made.items g l.initial.updates l.updates)
     × KeepsWish l.initial.session l.session
 
 abbrev pub decreases-updates : goal.decreases-updates
