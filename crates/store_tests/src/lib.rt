@@ -19,3 +19,5 @@ mod node_tests;
 mod session_tests;
 #[cfg(test)]
 mod value_tests;
+#[cfg(test)]
+mod zonefile_tests;
