@@ -6,4 +6,4 @@ pub mod Joined
 pub mod Tidy
 pub mod Answering
 pub mod Faulty
-pub mod Reading
+pub mod ReadRecords

@@ -15,7 +15,7 @@ impl Zonefile {
     /// The zone file of some records, the first of which is the SOA record of its apex: that gives the origin and the class. Where it is another, or
     /// there is none, `MissingSoa` is all that is told, under its owner or the root. Else each record that is refused is told in order under its
     /// owner, as `insert` refuses it.
-    #[tactic(auto, using(crate::proofs::Reading::begun_ok, crate::proofs::Reading::begun_refused, crate::proofs::Reading::begun_kept, crate::proofs::Reading::not_begun))]
+    #[tactic(auto, using(crate::proofs::ReadRecords::begun_ok, crate::proofs::ReadRecords::begun_refused, crate::proofs::ReadRecords::begun_kept, crate::proofs::ReadRecords::not_begun))]
     pub fn from_records(
         alloc: Global,
         records: Vec<StoredRecord>,
@@ -31,7 +31,7 @@ impl Zonefile {
     }
 
     /// The zone file with some records, unless one of them is refused.
-    #[tactic(auto, using(crate::proofs::Reading::all_taken, crate::proofs::Reading::some_refused))]
+    #[tactic(auto, using(crate::proofs::ReadRecords::all_taken, crate::proofs::ReadRecords::some_refused))]
     fn read(
         mut self,
         alloc: Global,
@@ -66,7 +66,7 @@ impl Zonefile {
     }
 
     /// Takes a record, or adds its refusal.
-    #[tactic(auto, using(crate::proofs::Reading::read_taken, crate::proofs::Reading::read_refused))]
+    #[tactic(auto, using(crate::proofs::ReadRecords::read_taken, crate::proofs::ReadRecords::read_refused))]
     fn insert_or_note(
         &mut self,
         found: StoredRecord,
