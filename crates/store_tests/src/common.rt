@@ -5,7 +5,7 @@ use dns_rdata::{
     A, Cname, Ns, Record, RecordData, Soa, StoredRecord, StoredRecordData, ZoneRecordData,
 };
 use std::alloc::Global;
-use std::fmt::Debug;
+use std::fmt::{self, Debug, Write};
 use std::process::Abort;
 use zone_store::{WriteZone, ZoneApex};
 use zone_types::{InMemoryZoneDiff, Rrset, SharedRrset, ZoneDiff, ZoneDiffItem};
@@ -21,6 +21,14 @@ pub(crate) fn is<R: Abort, T: PartialEq + Debug + Drop>(rt: &R, found: T, wanted
     assert_eq!(rt; found, wanted);
     drop(wanted);
     drop(found);
+}
+
+/// Asserts that a value says this.
+pub(crate) fn says<R: Abort, T: fmt::Display>(rt: &R, alloc: Global, value: &T, wanted: &str) {
+    let mut said = String::new(alloc);
+    write!(said, "{value}").expect(rt, "memory");
+    is(rt, said.as_str(), wanted);
+    drop(said);
 }
 
 pub(crate) fn name<R: Abort>(rt: &R, alloc: Global, octets: &[u8]) -> StoredName {

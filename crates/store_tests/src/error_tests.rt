@@ -1,10 +1,9 @@
 // What each error of zones says, the owners of refused records, and lists of refusals.
 
-use crate::common::{HOST, address, is, name};
+use crate::common::{HOST, address, is, name, says};
 use dns_name::{Class, Rtype};
 use dns_rdata::StoredRecord;
 use std::alloc::Global;
-use std::fmt::{self, Write};
 use std::process::Abort;
 use zone_store::{
     AskError, CommitError, EditError, InsertError, NodeError, QueryError, UpdateError,
@@ -13,14 +12,6 @@ use zone_types::{
     CnameError, ContextError, OutOfZone, RecordError, WriteApexError, ZoneCutError, ZoneDiffError,
     ZoneErrors, ZoneTreeModificationError,
 };
-
-/// Asserts that a value says this.
-fn says<R: Abort, T: fmt::Display>(rt: &R, alloc: Global, value: &T, wanted: &str) {
-    let mut said = String::new(alloc);
-    write!(said, "{value}").expect(rt, "memory");
-    is(rt, said.as_str(), wanted);
-    drop(said);
-}
 
 #[test]
 fn texts_of_refused_edits(rt: HostRuntime) {
@@ -132,6 +123,7 @@ fn texts_of_refused_records(rt: HostRuntime) {
     refuses(&rt, alloc, refusal, text, true);
     let refusal = RecordError::MissingSoa(None);
     refuses(&rt, alloc, refusal, "The SOA record was not found.", false);
+    refuses(&rt, alloc, RecordError::Memory, "out of memory", false);
     let invalid = ContextError::InvalidCname(CnameError::CnameAtApex);
     let refusal = RecordError::InvalidRecord(invalid);
     let text = "The record is parseable but not valid: Invalid CNAME: CNAME at apex";

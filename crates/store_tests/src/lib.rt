@@ -21,3 +21,5 @@ mod session_tests;
 mod value_tests;
 #[cfg(test)]
 mod zone_tree_tests;
+#[cfg(test)]
+mod zonefile_tests;

@@ -2,7 +2,7 @@
 use Rattle.std.specs.Prelude.{Option, Some, None, option_map}
 use Rattle.dns_name.specs.Names.{Name}
 use Rattle.zone_errors.specs.declared.errors.RecordError.{RecordError}
-use Rattle.zone_errors.specs.declared.errors.RecordError.TheVariants.{ClassMismatch, IllegalZoneCut, IllegalRecord, IllegalCname, MultipleCnames, InvalidRecord, MissingSoa}
+use Rattle.zone_errors.specs.declared.errors.RecordError.TheVariants.{ClassMismatch, IllegalZoneCut, IllegalRecord, IllegalCname, MultipleCnames, InvalidRecord, MissingSoa, Memory}
 
 -- the owner of the record that a refusal is about, if it is about one
 abbrev pub owner_in : RecordError → Option Name
@@ -13,3 +13,4 @@ owner_in (IllegalCname found other) = Some found.owner
 owner_in (MultipleCnames found) = Some found.owner
 owner_in (InvalidRecord why) = None
 owner_in (MissingSoa found) = option_map (λ r. r.owner) found
+owner_in Memory = None

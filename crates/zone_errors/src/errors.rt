@@ -4,6 +4,7 @@ ghost use Rattle.zone_errors.specs.Owners.{owner_in};
 
 use dns_name::{Class, Rtype, StoredName};
 use dns_rdata::StoredRecord;
+use std::alloc::AllocError;
 use std::fmt;
 use thiserror::Error;
 use zone_values::{CnameError, ZoneCutError};
@@ -49,6 +50,9 @@ pub enum RecordError {
     /// The first record isn't an SOA record, but this one; None where there is no record.
     #[error("{}", soa_text(.0))]
     MissingSoa(Option<StoredRecord>),
+    /// The record would be taken if there were memory for it.
+    #[error("out of memory")]
+    Memory,
 }
 
 impl RecordError {
@@ -67,7 +71,19 @@ impl RecordError {
                 Some(found) => Some(found.owner()),
                 None => None,
             },
+            RecordError::Memory => None,
         }
+    }
+}
+
+impl From<AllocError> for RecordError {
+    ghost use Rattle.std.specs.Prelude.{◌≡◌};
+    ghost use Rattle.zone_errors.specs.declared.errors.RecordError.{RecordError};
+
+    ghost from_gives = { λ e f. f ≡ RecordError.Memory };
+
+    fn from(_error: AllocError) -> RecordError {
+        RecordError::Memory
     }
 }
 

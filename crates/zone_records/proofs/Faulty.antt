@@ -1,0 +1,23 @@
+-- Faults, key by key.
+use Rattle.std.proofs.Common.{◌≡◌, List, [], ◌∷◌, ◌++◌, refl, sym, ap, ◌∙◌, append_assoc, Option, Some, None, option_map}
+use Rattle.std.specs.List.{cons_option}
+use Rattle.dns_name.specs.Names.{Name}
+use Rattle.zone_model.specs.Version.{Key}
+use Rattle.zone_model.specs.Classify.{Kind}
+use Rattle.zone_errors.specs.declared.errors.ContextError.{ContextError}
+use Rattle.zone_records.specs.Parsed.{Parsed}
+use Rattle.zone_records.specs.Faults.{fault_at, faults_at, with_fault}
+
+-- one key more
+pub fault_step : (p : Parsed) (kind : Kind) (found : List (Name × ContextError)) (k : Key) (ks : List Key) → with_fault found k (fault_at p kind k) ++ faults_at p kind ks ≡ found ++ faults_at p kind (k ∷ ks)
+fault_step p kind found k ks = by (fault_at p kind k)
+  where
+    by : (o : Option ContextError) → with_fault found k o ++ faults_at p kind ks ≡ found ++ cons_option (option_map (λ (why : ContextError). (k.0, why)) o) (faults_at p kind ks)
+    by None = refl
+    by (Some why) = append_assoc found ((k.0, why) ∷ []) (faults_at p kind ks)
+
+pub with_one : (found after : List (Name × ContextError)) (k : Key) (o : Option ContextError) (name : Name) (why : ContextError) → Some why ≡ o → name ≡ k.0 → after ≡ found ++ (name, why) ∷ [] → after ≡ with_fault found k o
+with_one found after k o name why h n e = e ∙ (λ i. found ++ (n i, why) ∷ []) ∙ ap (with_fault found k) h
+
+pub with_none : (found : List (Name × ContextError)) (k : Key) (o : Option ContextError) → ◌≡◌ {A = Option ContextError} None o → found ≡ with_fault found k o
+with_none found k o h = ap (with_fault found k) h

@@ -1,0 +1,9 @@
+pub mod Lowest
+pub mod TypesIn
+pub mod Putting
+pub mod KeptFiles
+pub mod Joined
+pub mod Tidy
+pub mod Answering
+pub mod Faulty
+pub mod ReadRecords

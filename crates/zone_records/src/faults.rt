@@ -1,0 +1,138 @@
+// What keeps the records of a zone file from making a zone.
+ghost use Rattle.std.specs.Prelude.{◌≡◌, ◌++◌, not, is_some, IfOk, OnOk};
+ghost use Rattle.dns_name.specs.Names.{fold, same_name, under};
+ghost use Rattle.dns_name.specs.Codes.{type_ns};
+ghost use Rattle.zone_model.specs.Version.{set_in};
+ghost use Rattle.zone_records.specs.Seen.{kind_seen};
+ghost use Rattle.zone_records.specs.Faults.{cut_fault, alias_fault, normal_fault, fault_at, with_fault, faults_of, faults};
+
+use crate::kinds::RecordKind;
+use crate::zonefile::Zonefile;
+use dns_name::{KeyName, Rtype, ToName};
+use std::alloc::{AllocError, Global};
+use zone_errors::{ContextError, ZoneErrors};
+use zone_sets::SetKey;
+use zone_values::{CnameError, ZoneCutError};
+
+impl Zonefile {
+    /// What keeps the records from making a zone, each under its owner in lower case and in canonical order: first at zone cuts, DS without NS
+    /// (RFC 4035, 2.4), or a name that is the origin or outside it; then at such names CNAMEs; then normal RRsets outside the origin; and last all
+    /// RRsets that were outside as they were taken.
+    pub fn faults(&self, alloc: Global) -> Result<ZoneErrors<ContextError>, AllocError>
+        ensures { IfOk result (λ found. found ≡ faults self.now) }
+    {
+        let mut found = ZoneErrors::new(alloc);
+        self.add_faults(RecordKind::Cut, &mut found)?;
+        self.add_faults(RecordKind::Alias, &mut found)?;
+        self.add_faults(RecordKind::Normal, &mut found)?;
+        self.add_faults(RecordKind::Outside, &mut found)?;
+        Ok(found)
+    }
+
+    /// Adds the faults at RRsets of one kind.
+    fn add_faults(
+        &self,
+        kind: RecordKind,
+        found: &mut ZoneErrors<ContextError>,
+    ) -> Result<(), AllocError>
+        ensures { OnOk result (found.new ≡ found.old ++ faults_of self.now (kind_seen kind)) }
+    {
+        for key in self.owners(kind).keys() {
+            self.add_fault(kind, key, found)?;
+        }
+        Ok(())
+    }
+
+    /// Adds the fault at a key, if there is one.
+    #[tactic(auto, using(crate::proofs::Faulty::with_one, crate::proofs::Faulty::with_none))]
+    fn add_fault(
+        &self,
+        kind: RecordKind,
+        key: &SetKey,
+        found: &mut ZoneErrors<ContextError>,
+    ) -> Result<(), AllocError>
+        ensures { OnOk result (found.new ≡ with_fault found.old key.now (fault_at self.now (kind_seen kind) key.now)) }
+    {
+        match self.fault_at(kind, key.owner(), key.rtype()) {
+            Some(why) => {
+                found.add_error(key.owner(), why)?;
+                Ok(())
+            }
+            None => Ok(()),
+        }
+    }
+
+    /// The fault at an owner and type.
+    fn fault_at(&self, kind: RecordKind, owner: &KeyName, rtype: Rtype) -> Option<ContextError>
+        ensures { result ≡ fault_at self.now (kind_seen kind) (owner.now, rtype) }
+    {
+        match kind {
+            RecordKind::Cut => self.cut_fault(owner, rtype),
+            RecordKind::Alias => self.alias_fault(owner, rtype),
+            RecordKind::Normal => self.normal_fault(owner, rtype),
+            RecordKind::Outside => Some(ContextError::OutOfZone(rtype)),
+        }
+    }
+
+    /// The fault at an RRset of a zone cut.
+    fn cut_fault(&self, owner: &KeyName, rtype: Rtype) -> Option<ContextError>
+        ensures { result ≡ cut_fault self.now (owner.now, rtype) }
+    {
+        if self.lacks_servers(owner) {
+            Some(ContextError::MissingNs)
+        } else if rtype == Rtype::DS {
+            None
+        } else if self.is_now_outside(owner) {
+            Some(ContextError::InvalidZonecut(ZoneCutError::OutOfZone))
+        } else if self.is_origin(owner) {
+            Some(ContextError::InvalidZonecut(ZoneCutError::ZoneCutAtApex))
+        } else {
+            None
+        }
+    }
+
+    /// The fault at a CNAME.
+    fn alias_fault(&self, owner: &KeyName, rtype: Rtype) -> Option<ContextError>
+        ensures { result ≡ alias_fault self.now (owner.now, rtype) }
+    {
+        if self.is_now_outside(owner) {
+            Some(ContextError::InvalidCname(CnameError::OutOfZone))
+        } else if self.is_origin(owner) {
+            Some(ContextError::InvalidCname(CnameError::CnameAtApex))
+        } else {
+            None
+        }
+    }
+
+    /// The fault at a normal RRset.
+    fn normal_fault(&self, owner: &KeyName, rtype: Rtype) -> Option<ContextError>
+        ensures { result ≡ normal_fault self.now (owner.now, rtype) }
+    {
+        if self.is_now_outside(owner) {
+            Some(ContextError::OutOfZone(rtype))
+        } else {
+            None
+        }
+    }
+
+    /// Whether a name has no NS RRset of a zone cut.
+    fn lacks_servers(&self, owner: &KeyName) -> bool
+        ensures { result ≡ not (is_some (set_in self.now.cuts (fold owner.now, type_ns))) }
+    {
+        !self.zone_cuts().has_set(owner, Rtype::NS)
+    }
+
+    /// Whether a name is neither the origin, as it is now, nor below it.
+    fn is_now_outside(&self, owner: &KeyName) -> bool
+        ensures { result ≡ not (under owner.now self.now.origin) }
+    {
+        !owner.ends_with(self.origin())
+    }
+
+    /// Whether a name is the origin.
+    fn is_origin(&self, owner: &KeyName) -> bool
+        ensures { result ≡ same_name owner.now self.now.origin }
+    {
+        owner.name_eq(self.origin())
+    }
+}

@@ -1,0 +1,307 @@
+// The records of a zone file.
+ghost use Rattle.std.specs.Prelude.{◌≡◌, ◌==◌, ◌&&◌, ◌||◌, not, None, Ok, OnOk, OnErr, IfErr, if◌then◌else◌};
+ghost use Rattle.dns_name.specs.Names.{same_name, under};
+ghost use Rattle.dns_name.specs.Codes.{type_ns, type_ds};
+ghost use Rattle.zone_model.specs.Classify.{ZoneFile, is_address, classify, opened};
+ghost use Rattle.zone_records.specs.Parsed.{kept, with_record, empty_file, joined, sets_for, IsTidy};
+ghost use Rattle.zone_records.specs.Taking.{cut_in, verdict_in, verdict_as, cut_verdict, alias_verdict, normal_verdict, kind_in, taken_in, take};
+ghost use Rattle.zone_records.specs.Seen.{kind_seen, verdict_seen};
+ghost use Rattle.zone_records.specs.Refusals.{refusal};
+
+use crate::kinds::{Obstacle, RecordKind};
+use crate::owners::Owners;
+use dns_name::{Class, Rtype, StoredName, ToName};
+use dns_rdata::StoredRecord;
+use std::alloc::{AllocError, Global};
+use std::marker::Model;
+use zone_errors::RecordError;
+use zone_sets::KeyedSets;
+
+/// The records of a zone file by kind (RFC 1034, 4.2.1), under an origin and a class.
+#[derive(Drop)]
+pub struct Zonefile {
+    alloc: Global,
+    origin: StoredName,
+    class: Class,
+    normal: Owners,
+    zone_cuts: Owners,
+    cnames: Owners,
+    out_of_zone: Owners,
+}
+
+impl Model for Zonefile {
+    ghost use Rattle.zone_records.specs.Parsed.{Parsed};
+
+    ghost Value = { Parsed };
+
+    ghost view = { λ z. record { origin = z.origin; class = z.class; normal = z.normal; cuts = z.zone_cuts; aliases = z.cnames; outside = z.out_of_zone } };
+}
+
+/// The parts of a zone file, RRsets by kind.
+#[derive(Drop)]
+pub struct ZonefileParts {
+    pub origin: StoredName,
+    pub class: Class,
+    pub normal: KeyedSets,
+    pub zone_cuts: KeyedSets,
+    pub cnames: KeyedSets,
+    pub out_of_zone: KeyedSets,
+}
+
+impl Zonefile {
+    /// A zone file of this origin and class without records.
+    pub fn new(alloc: Global, origin: StoredName, class: Class) -> Zonefile
+        ensures { result ≡ empty_file origin class }
+    {
+        Zonefile {
+            alloc,
+            origin,
+            class,
+            normal: Owners::new(alloc),
+            zone_cuts: Owners::new(alloc),
+            cnames: Owners::new(alloc),
+            out_of_zone: Owners::new(alloc),
+        }
+    }
+
+    /// The origin, the apex of the zone.
+    pub fn origin(&self) -> &StoredName
+        ensures { result.now ≡ self.now.origin }
+    {
+        &self.origin
+    }
+
+    /// The class of the zone.
+    pub fn class(&self) -> Class
+        ensures { result ≡ self.now.class }
+    {
+        self.class
+    }
+
+    /// Changes the origin. Records that were taken stay of their kind.
+    pub fn set_origin(&mut self, origin: StoredName)
+        ensures { self.new ≡ record self.old { origin = origin } }
+    {
+        self.origin = origin;
+    }
+
+    /// The RRsets at names that are no zone cuts and no aliases, and addresses at and below zone cuts.
+    pub fn normal(&self) -> &Owners
+        ensures { result.now ≡ self.now.normal }
+    {
+        &self.normal
+    }
+
+    /// The NS and DS RRsets below the origin.
+    pub fn zone_cuts(&self) -> &Owners
+        ensures { result.now ≡ self.now.cuts }
+    {
+        &self.zone_cuts
+    }
+
+    /// The CNAME RRsets.
+    pub fn cnames(&self) -> &Owners
+        ensures { result.now ≡ self.now.aliases }
+    {
+        &self.cnames
+    }
+
+    /// The RRsets whose owners were neither the origin nor below it as they were taken.
+    pub fn out_of_zone(&self) -> &Owners
+        ensures { result.now ≡ self.now.outside }
+    {
+        &self.out_of_zone
+    }
+
+    /// The RRsets of one kind.
+    pub(crate) fn owners(&self, kind: RecordKind) -> &Owners
+        ensures { result.now ≡ sets_for self.now (kind_seen kind) }
+    {
+        match kind {
+            RecordKind::Normal => &self.normal,
+            RecordKind::Cut => &self.zone_cuts,
+            RecordKind::Alias => &self.cnames,
+            RecordKind::Outside => &self.out_of_zone,
+        }
+    }
+
+    /// Takes a record, unless it can't stand beside those before it. Tested in this order: its class is another; it is of a zone cut, and other types
+    /// than A and AAAA or a CNAME stand at its owner (`IllegalZoneCut`); it is a CNAME beside other types (`IllegalCname`) or a second one
+    /// (`MultipleCnames`), equal data too; it is no address beside a zone cut's records, or stands beside a CNAME (`IllegalRecord`). The type that is
+    /// told is the least, and DS before NS. Records outside the origin are all taken. `Memory` comes only where a record would be taken.
+    #[tactic(auto, using(crate::proofs::Answering::took, crate::proofs::Answering::out_of_memory, crate::proofs::Answering::refused, crate::proofs::Answering::verdict_for, crate::proofs::Answering::taken_for))]
+    pub fn insert(&mut self, found: StoredRecord) -> Result<(), RecordError>
+        ensures ok { OnOk result (take self.old found ≡ Ok self.new) }
+        ensures refused { IfErr result (λ e. e ≡ refusal self.old found) }
+        ensures err { OnErr result (self.new ≡ self.old) }
+        ensures file_verdict { (f : ZoneFile) → self.old ≡ kept f → verdict_in self.old found ≡ classify f found }
+        ensures file_taken { OnOk result ((f : ZoneFile) → self.old ≡ kept f → self.new ≡ kept (with_record f found)) }
+    {
+        let class = self.class();
+        match self.verdict(&found) {
+            Ok(kind) => {
+                self.put(kind, found)?;
+                Ok(())
+            }
+            Err(obstacle) => Err(obstacle.refusal(found, class)),
+        }
+    }
+
+    /// The kind of a record, or what is in its way.
+    #[tactic(auto, using(crate::proofs::Answering::other_class, crate::proofs::Answering::verdict_of_kind))]
+    pub(crate) fn verdict(&self, found: &StoredRecord) -> Result<RecordKind, Obstacle>
+        ensures { verdict_seen result ≡ verdict_in self.now found.now }
+    {
+        if self.is_other_class(found) {
+            return Err(Obstacle::ClassMismatch);
+        }
+        self.verdict_as(found, self.kind_of(found))
+    }
+
+    /// The verdict on a record of one kind.
+    fn verdict_as(&self, found: &StoredRecord, kind: RecordKind) -> Result<RecordKind, Obstacle>
+        ensures { verdict_seen result ≡ verdict_as self.now found.now (kind_seen kind) }
+    {
+        match kind {
+            RecordKind::Outside => Ok(RecordKind::Outside),
+            RecordKind::Cut => self.cut_verdict(found.owner()),
+            RecordKind::Alias => self.alias_verdict(found.owner()),
+            RecordKind::Normal => self.normal_verdict(found.owner(), found.rtype()),
+        }
+    }
+
+    /// The kind that a record's owner and type give it.
+    fn kind_of(&self, found: &StoredRecord) -> RecordKind
+        ensures { kind_seen result ≡ kind_in self.now found.now }
+    {
+        if self.is_outside(found) {
+            RecordKind::Outside
+        } else if self.is_of_cut(found) {
+            RecordKind::Cut
+        } else if found.rtype() == Rtype::CNAME {
+            RecordKind::Alias
+        } else {
+            RecordKind::Normal
+        }
+    }
+
+    /// Whether a record is of another class.
+    fn is_other_class(&self, found: &StoredRecord) -> bool
+        ensures { result ≡ not (found.now.class == self.now.class) }
+    {
+        found.class() != self.class()
+    }
+
+    /// Whether a record's owner is neither the origin nor below it.
+    fn is_outside(&self, found: &StoredRecord) -> bool
+        ensures { result ≡ not (under found.now.owner self.now.origin) }
+    {
+        !found.owner().ends_with(self.origin())
+    }
+
+    /// Whether a record is of a zone cut, if its owner is in the zone.
+    fn is_of_cut(&self, found: &StoredRecord) -> bool
+        ensures { result ≡ (((found.now.rtype == type_ns) || (found.now.rtype == type_ds)) && not (same_name found.now.owner self.now.origin)) }
+    {
+        (found.rtype() == Rtype::NS || found.rtype() == Rtype::DS)
+            && !found.owner().name_eq(self.origin())
+    }
+
+    /// The verdict on a record of a zone cut.
+    #[tactic(auto, using(crate::proofs::Answering::in_the_way, crate::proofs::Answering::free))]
+    fn cut_verdict(&self, owner: &StoredName) -> Result<RecordKind, Obstacle>
+        ensures { verdict_seen result ≡ cut_verdict self.now owner.now }
+    {
+        if let Some(rtype) = self.normal().first_non_glue(owner) {
+            return Err(Obstacle::IllegalZoneCut(rtype));
+        }
+        if let Some(rtype) = self.cnames().sample_rtype(owner) {
+            return Err(Obstacle::IllegalZoneCut(rtype));
+        }
+        Ok(RecordKind::Cut)
+    }
+
+    /// The verdict on a CNAME.
+    #[tactic(auto, using(crate::proofs::Answering::in_the_way, crate::proofs::Answering::free))]
+    fn alias_verdict(&self, owner: &StoredName) -> Result<RecordKind, Obstacle>
+        ensures { verdict_seen result ≡ alias_verdict self.now owner.now }
+    {
+        if let Some(rtype) = self.normal().sample_rtype(owner) {
+            return Err(Obstacle::IllegalCname(rtype));
+        }
+        if let Some(rtype) = self.zone_cuts().cut_type(owner) {
+            return Err(Obstacle::IllegalCname(rtype));
+        }
+        if let Some(_) = self.cnames().sample_rtype(owner) {
+            return Err(Obstacle::MultipleCnames);
+        }
+        Ok(RecordKind::Alias)
+    }
+
+    /// The verdict on a record of another type.
+    #[tactic(auto, using(crate::proofs::Answering::in_the_way, crate::proofs::Answering::free))]
+    fn normal_verdict(&self, owner: &StoredName, rtype: Rtype) -> Result<RecordKind, Obstacle>
+        ensures { verdict_seen result ≡ normal_verdict self.now owner.now rtype }
+    {
+        if let Some(other) = self.cut_beside(owner, rtype) {
+            return Err(Obstacle::IllegalRecord(other));
+        }
+        if let Some(other) = self.cnames().sample_rtype(owner) {
+            return Err(Obstacle::IllegalRecord(other));
+        }
+        Ok(RecordKind::Normal)
+    }
+
+    /// The type of a zone cut that is in a record's way; none is in that of an address.
+    fn cut_beside(&self, owner: &StoredName, rtype: Rtype) -> Option<Rtype>
+        ensures { result ≡ (if is_address rtype then None else cut_in self.now.cuts owner.now) }
+    {
+        if is_address(rtype) {
+            None
+        } else {
+            self.zone_cuts().cut_type(owner)
+        }
+    }
+
+    /// Puts a record to the RRsets of one kind.
+    pub(crate) fn put(&mut self, kind: RecordKind, found: StoredRecord) -> Result<(), AllocError>
+        ensures ok { OnOk result (self.new ≡ taken_in self.old found (kind_seen kind)) }
+        ensures err { OnErr result (self.new ≡ self.old) }
+    {
+        let alloc = self.alloc;
+        match kind {
+            RecordKind::Normal => self.normal.put(alloc, found),
+            RecordKind::Cut => self.zone_cuts.put(alloc, found),
+            RecordKind::Alias => self.cnames.put(alloc, found),
+            RecordKind::Outside => self.out_of_zone.put(alloc, found),
+        }
+    }
+
+    /// The parts. Those of a zone file whose origin wasn't changed, but what is outside, make the RRsets that the file opens with (`joined`).
+    #[tactic(auto, using(crate::proofs::Answering::joined_for))]
+    pub fn into_parts(self) -> ZonefileParts
+        ensures origin { result.origin ≡ self.origin }
+        ensures class { result.class ≡ self.class }
+        ensures normal { (result.normal ≡ self.normal) × IsTidy self.normal }
+        ensures zone_cuts { (result.zone_cuts ≡ self.cuts) × IsTidy self.cuts }
+        ensures cnames { (result.cnames ≡ self.aliases) × IsTidy self.aliases }
+        ensures out_of_zone { (result.out_of_zone ≡ self.outside) × IsTidy self.outside }
+        ensures opened { (f : ZoneFile) → self ≡ kept f → joined self ≡ (opened f).sets }
+    {
+        ZonefileParts {
+            origin: self.origin,
+            class: self.class,
+            normal: self.normal.into_sets(),
+            zone_cuts: self.zone_cuts.into_sets(),
+            cnames: self.cnames.into_sets(),
+            out_of_zone: self.out_of_zone.into_sets(),
+        }
+    }
+}
+
+/// Whether a type is one of addresses.
+fn is_address(rtype: Rtype) -> bool
+    ensures { result ≡ is_address rtype }
+{
+    rtype == Rtype::A || rtype == Rtype::AAAA
+}
