@@ -1,0 +1,3 @@
+pub mod BatchAdding
+pub mod BatchHistories
+pub mod BatchLists

@@ -1,0 +1,4 @@
+pub mod Batches
+pub mod BatchCalls
+pub mod BatchSteps
+pub mod Batchers
