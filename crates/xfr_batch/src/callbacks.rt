@@ -25,7 +25,7 @@ pub trait Callbacks<T> {
     ghost is_full: { T → Building → Bool };
 
     /// What becomes of a message, which is the last one or isn't: the answer, and the state afterwards.
-    ghost Readies: { T → Building → Bool → Result (Unit {0}) Error → T → Type 0 };
+    ghost Readies: { T → Building → Bool → Result (Unit {0}) Self.Error → T → Type 0 };
 
     /// Begins a message, for the answers to a request. `ShortBuf` exactly where what it begins with isn't within its limit.
     fn batch_started(

@@ -11,9 +11,11 @@ use crate::callbacks::Callbacks;
 pub fn batches_join<T, C: Callbacks<T>>()
     ensures joined { (b : Batching T) (pushed : List Record) (batches : List (Batch T))
         → ((s : T) → (C.begins s b.request).answers ≡ []) → b.answer ≡ None
-        → Stands C.begins C.is_full b pushed batches → flat_map (records_in C.begins b.request) batches ≡ pushed }
+        → Stands C.begins C.is_full b pushed batches
+        → flat_map (records_in C.begins b.request) batches ≡ pushed }
     ensures some { (b : Batching T) (pushed : List Record) (batches : List (Batch T))
-        → Stands C.begins C.is_full b pushed batches → All (λ x. records_in C.begins b.request x ≢ []) batches }
+        → Stands C.begins C.is_full b pushed batches
+        → All (λ x. records_in C.begins b.request x ≢ []) batches }
 {}
 
 /// A message that ended before a `finish` was said to be full, or had no room for the record that was pushed next. Each is within its limit.

@@ -86,7 +86,8 @@ fn push_first<T, C: Callbacks<T>, R: ComposeRecord>(
     state: &T,
     item: &R,
 ) -> Result<PushResult, PushError>
-    ensures { Opens (C.begins state.now request.now) (C.is_full state.now) (R.record_of item.now) kept.old result kept.new }
+    ensures { Opens (C.begins state.now request.now) (C.is_full state.now) (R.record_of item.now)
+        kept.old result kept.new }
 {
     match C::batch_started(alloc, state, request) {
         Ok(answer) => push_alone::<T, C, R>(kept, state, answer, item),
@@ -104,7 +105,8 @@ fn push_into<T, C: Callbacks<T>, R: ComposeRecord>(
 ) -> Result<PushResult, PushError>
     ensures { (begun : List Record)
         → IsBegun (C.begins state.now request.now) (C.is_full state.now) begun kept.old
-        → Tries (C.begins state.now request.now) (C.is_full state.now) (R.record_of item.now) begun kept.old result kept.new }
+        → Tries (C.begins state.now request.now) (C.is_full state.now) (R.record_of item.now)
+        begun kept.old result kept.new }
 {
     match kept.take() {
         Some(answer) => push_next::<T, C, R>(kept, state, answer, item),
@@ -137,7 +139,8 @@ fn try_push<T, C: Callbacks<T>, R: ComposeRecord>(
     ensures { (pushed : List Record) (batches : List (Batch T))
         → Stands C.begins C.is_full (batching request.now kept.old state.old) pushed batches
         → TriesOnce C.begins C.is_full C.Readies C.Error.from_gives (R.record_of item.now)
-        (batching request.now kept.old state.old) pushed batches result (batching request.now kept.new state.new) }
+        (batching request.now kept.old state.old) pushed batches result
+        (batching request.now kept.new state.new) }
 {
     match push_into::<T, C, R>(alloc, request, kept, state, item) {
         Ok(PushResult::PushedAndReadyForMore) => Ok(true),
@@ -159,7 +162,8 @@ fn push_again<T, C: Callbacks<T>, R: ComposeRecord>(
     ensures { (pushed : List Record) (batches : List (Batch T))
         → Stands C.begins C.is_full (batching request.now kept.old state.old) pushed batches
         → TriesAgain C.begins C.is_full C.Readies C.Error.from_gives (R.record_of item.now)
-        (batching request.now kept.old state.old) pushed batches result (batching request.now kept.new state.new) }
+        (batching request.now kept.old state.old) pushed batches result
+        (batching request.now kept.new state.new) }
 {
     match try_push::<T, C, R>(alloc, request, kept, state, item) {
         Ok(true) => Ok(PushResult::PushedAndReadyForMore),
@@ -179,7 +183,8 @@ pub(crate) fn push_or_retry<T, C: Callbacks<T>, R: ComposeRecord>(
     ensures { (pushed : List Record) (batches : List (Batch T))
         → Stands C.begins C.is_full (batching request.now kept.old state.old) pushed batches
         → Pushes C.begins C.is_full C.Readies C.Error.from_gives (R.record_of item.now)
-        (batching request.now kept.old state.old) pushed batches result (batching request.now kept.new state.new) }
+        (batching request.now kept.old state.old) pushed batches result
+        (batching request.now kept.new state.new) }
 {
     match try_push::<T, C, R>(alloc, request, kept, state, item) {
         Ok(true) => Ok(PushResult::PushedAndReadyForMore),
