@@ -262,6 +262,10 @@ module _ {T E : Type 0} (begins : T → List ℕ → Beginning) (is_full : T →
       let P : Option Building → Type 0 = λ k. Stands begins is_full (batching q k s) pushed batches in
       NoMemory from (still (ByPush r) kept new s pushed batches (subst P (sym tried) st))
 
+  pub once_never : (r : Record) (begun : List Record) (kept k : Option Building) (s : T) (old new : Batching T) (pushed : List Record) (batches : List (Batch T))
+      → Tries (begins s q) (is_full s) r begun kept (Ok Retry) k → TriesOnce begins is_full Readies From r old pushed batches (Ok false) new
+  once_never r begun kept k s old new pushed batches tried = absurd tried
+
   -- ---- a second try
 
   hands_on_more : (s mid t : T) (xs ys : List (Batch T)) → HandsOn (λ x. begins x q) Readies s xs mid → HandsOn (λ x. begins x q) Readies mid ys t

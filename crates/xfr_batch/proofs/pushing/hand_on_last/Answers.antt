@@ -7,7 +7,7 @@ returns-in-Some-clause-finishes g c = λ request pushed batches st.
     finishes g.C.Callbacks.begins g.C.Callbacks.is_full g.C.Callbacks.Readies g.C.Error.From.from_gives request c.args.kept.now c.take.new.self c.args.state.now c.batch_ready.new.state c.in-Some.answer
     c.batch_ready.result pushed batches (sym c.in-Some.ensures.value) c.take.ensures.after c.batch_ready.ensures st
 
-pub returns-clause-finishes : goal.returns-clause-finishes
-returns-clause-finishes g c = λ request pushed batches st.
+pub returns-in-None-clause-finishes : goal.returns-in-None-clause-finishes
+returns-in-None-clause-finishes g c = λ request pushed batches st.
     finishes_idle g.C.Callbacks.begins g.C.Callbacks.is_full g.C.Callbacks.Readies g.C.Error.From.from_gives request c.args.kept.now c.take.new.self c.args.state.now tt pushed batches
     (sym c.in-None.ensures.value) c.take.ensures.after st

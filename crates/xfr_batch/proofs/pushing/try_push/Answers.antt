@@ -1,4 +1,4 @@
-use Rattle.xfr_batch.proofs.BatchHistories.{once_kept, once_full, once_short, once_failed}
+use Rattle.xfr_batch.proofs.BatchHistories.{once_kept, once_full, once_short, once_failed, once_never}
 use Rattle.xfr_batch.proofs.pushing.try_push.Goals as goal
 
 pub returns-in-Ok-PushedAndReadyForMore : goal.returns-in-Ok-PushedAndReadyForMore
@@ -23,9 +23,10 @@ returns-in-Ok-NotPushedMessageFull g c = λ pushed batches st.
 pub returns-in-Ok-Retry : goal.returns-in-Ok-Retry
 returns-in-Ok-Retry g c = λ pushed batches st.
     let tried = rw c.in-Ok-Retry.field-0-is at (c.in-Ok-Retry.ensures st.begun st.message) in
-    absurd tried
+    once_never g.C.Callbacks.begins g.C.Callbacks.is_full g.C.Callbacks.Readies g.C.Error.From.from_gives c.args.request.now (g.R.ComposeRecord.record_of c.args.item.now)
+    st.begun c.args.kept.now c.push_into.new.kept c.args.state.now _ _ pushed batches tried
 
-pub returns : goal.returns
-returns g c = λ pushed batches st.
+pub returns-in-Err : goal.returns-in-Err
+returns-in-Err g c = λ pushed batches st.
     once_failed g.C.Callbacks.begins g.C.Callbacks.is_full g.C.Callbacks.Readies g.C.Error.From.from_gives c.args.request.now (g.R.ComposeRecord.record_of c.args.item.now)
     c.args.kept.now c.push_into.new.kept c.args.state.now c.in-Err.error c.from.result pushed batches st (c.in-Err.ensures st.begun st.message) c.from.ensures
