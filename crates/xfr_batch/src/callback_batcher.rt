@@ -5,7 +5,7 @@ ghost use Rattle.dns_wire.specs.Builds.{Builds};
 ghost use Rattle.xfr_batch.specs.Batches.{Batch, Stands, message_with};
 ghost use Rattle.xfr_batch.specs.BatchCalls.{Pushes, Finishes};
 
-use crate::batcher::PushResult;
+use crate::batcher::{PushResult, ResourceRecordBatcher};
 use crate::callbacks::Callbacks;
 use crate::pushing::{hand_on_last, push_or_retry};
 use dns_rdata::ComposeRecord;
@@ -21,7 +21,7 @@ pub struct CallbackBatcher<C, T> {
     alloc: Global,
     request: MessageBuf,
     answer: Option<AnswerBuilder>,
-    callback_state: T,
+    pub(crate) callback_state: T,
 }
 
 impl<C, T> Model for CallbackBatcher<C, T> {
@@ -105,5 +105,27 @@ impl<T, C: Callbacks<T>> CallbackBatcher<C, T> {
             (C.begins self.now.state request.now).limit result }
     {
         C::batch_started(self.alloc, &self.callback_state, request)
+    }
+}
+
+impl<C: Callbacks<T>, T> ResourceRecordBatcher for CallbackBatcher<C, T> {
+    ghost use Rattle.xfr_batch.specs.Batchers.{StandsInLists};
+
+    type Error = C::Error;
+
+    ghost StandsFor = { StandsInLists C.begins C.is_full };
+
+    ghost begins_with = { λ b request. C.begins b.state request };
+
+    fn push<R: ComposeRecord>(&mut self, item: &R) -> Result<PushResult, C::Error> {
+        CallbackBatcher::<C, T>::push(self, item)
+    }
+
+    fn finish(&mut self) -> Result<(), C::Error> {
+        CallbackBatcher::<C, T>::finish(self)
+    }
+
+    fn mk_answer_builder(&self, request: &Message<'_>) -> Result<AnswerBuilder, PushError> {
+        CallbackBatcher::<C, T>::mk_answer_builder(self, request)
     }
 }

@@ -1,8 +1,11 @@
 // Laws of batches, each the contract of a function with an empty body.
-ghost use Rattle.std.specs.Prelude.{◌≡◌, ◌≢◌, ℕ, true, false, List, [], ◌∷◌, ◌++◌, None, All, flat_map};
+ghost use Rattle.std.specs.Prelude.{◌≡◌, ◌≢◌, ◌≤◌, ℕ, true, false, List, [], ◌∷◌, ◌++◌, Some, None, All, flat_map, length, map};
 ghost use Rattle.dns_rdata.specs.Records.{Record};
 ghost use Rattle.xfr_batch.specs.Batches.{message_with, has_room, Batch, records_in, Batching, Stands};
 ghost use Rattle.xfr_batch.specs.Batches.Ending.{Full, NoRoomFor};
+ghost use Rattle.xfr_batch.specs.BatchCalls.{HandsOn};
+ghost use Rattle.xfr_batch.specs.ReadyMessages.{Kept};
+ghost use Rattle.xfr_batch.specs.XfrBatches.{transfer_begins, transfer_is_full, TransferReadies};
 
 use crate::callbacks::Callbacks;
 
@@ -31,4 +34,19 @@ pub fn batches_are_full<T, C: Callbacks<T>>()
     ensures within { (b : Batching T) (pushed : List Record) (batches : List (Batch T))
         → Stands C.begins C.is_full b pushed batches
         → All (λ x. has_room (C.begins x.state b.request) x.records ≡ true) batches }
+{}
+
+/// The messages that a transfer's batcher hands on are ready behind the others, in order.
+pub fn ready_messages_are_the_batches()
+    ensures { (request : List ℕ) (s t : Kept) (batches : List (Batch Kept))
+        → HandsOn (λ x. transfer_begins x request) TransferReadies s batches t
+        → t ≡ record s { ready = s.ready
+            ++ map (λ b. message_with (transfer_begins s request) b.records) batches } }
+{}
+
+/// No message of a transfer has more records than it may have.
+pub fn messages_are_within_the_record_limit()
+    ensures { (b : Batching Kept) (pushed : List Record) (batches : List (Batch Kept)) (n : ℕ) → 1 ≤ n
+        → Stands transfer_begins transfer_is_full b pushed batches
+        → All (λ x. x.state.hard_rr_limit ≡ Some n → length x.records ≤ n) batches }
 {}

@@ -6,7 +6,11 @@ mod callback_batcher;
 mod callbacks;
 mod laws;
 mod pushing;
+mod ready;
+mod xfr;
 
-pub use batcher::PushResult;
+pub use batcher::{PushResult, ResourceRecordBatcher};
 pub use callback_batcher::CallbackBatcher;
 pub use callbacks::{Callbacks, start_batch};
+pub use ready::ReadyMessages;
+pub use xfr::{BatchReadyError, XfrRrBatcher};
