@@ -1,6 +1,6 @@
 -- What a batcher stands for after each call.
 use Rattle.std.proofs.Common.{◌≡◌, ℕ, Bool, true, false, true≢false, List, [], ◌∷◌, ◌++◌, refl, sym, ap, ◌∙◌, subst}
-use Rattle.std.specs.Prelude.{◌≢◌, All, Option, Some, None, Result, Ok, Err, flat_map, IsOk}
+use Rattle.std.specs.Prelude.{◌≢◌, All, Option, Some, None, Result, Ok, Err, flat_map}
 use Rattle.std.proofs.lemmas.List.{append_assoc, append-nil}
 use Rattle.std.proofs.lemmas.List.Concat.{flat_map-append}
 use Rattle.std.proofs.lemmas.List.Elements.{All-nil, All-cons, All-append, All-push, All-weaker}

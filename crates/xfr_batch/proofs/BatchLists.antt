@@ -1,7 +1,7 @@
 -- The same batches as lists of records.
 use Rattle.std.proofs.Common.{◌≡◌, ℕ, Bool, List, [], ◌∷◌, ◌++◌, map, refl, sym, ap, ◌∙◌, subst}
-use Rattle.std.specs.Prelude.{◌≢◌, All, Option, Some, None, Result, Ok, Err, flat_map}
-use Rattle.std.proofs.lemmas.List.{append_assoc, append-nil, map-append}
+use Rattle.std.specs.Prelude.{◌≢◌, None, Result, Ok, Err, flat_map}
+use Rattle.std.proofs.lemmas.List.{map-append}
 use Rattle.std.proofs.lemmas.List.Elements.{All-weaker, All-map}
 use Rattle.dns_rdata.specs.Records.{Record}
 use Rattle.dns_wire.specs.Wire.{Building}
@@ -34,11 +34,13 @@ module _ {T E : Type 0} (begins : T → List ℕ → Beginning) (is_full : T →
 
   lost : (By : Ending → Type 0) (old new : Batching T) (upto : Ending → List Record) (lists : List (List Record)) (batches : List (Batch T)) (e : E) → lists ≡ lists_of batches
       → Loses begins is_full Readies By old upto batches e new → (left : List Record) × HandsMore (StandsInLists begins is_full new) left lists
-  lost By old new upto lists batches e same l =
-      (joined (batches ++ l.handed), record {
-        handed = lists_of l.handed;
-        stands = record { batches = batches ++ l.handed; same = more_lists lists batches l.handed same; stands = l.stands };
-      })
+  lost By old new upto lists batches e same l = (
+    joined (batches ++ l.handed),
+    record {
+      handed = lists_of l.handed;
+      stands = record { batches = batches ++ l.handed; same = more_lists lists batches l.handed same; stands = l.stands };
+    },
+  )
 
   failed : (r : Record) (old new : Batching T) (pushed : List Record) (lists : List (List Record)) (batches : List (Batch T)) (e : E) → lists ≡ lists_of batches
       → NotPushed begins is_full Readies From r old pushed batches e new → (left : List Record) × HandsMore (StandsInLists begins is_full new) left lists
@@ -58,7 +60,7 @@ module _ {T E : Type 0} (begins : T → List ℕ → Beginning) (is_full : T →
   is_all new pushed batches closed st = record {
     joined = joined_lists batches ∙ sym (closed_all begins is_full new pushed batches closed st);
     some = All-map (λ (rs : List Record). rs ≢ []) (λ (x : Batch T). x.records) batches
-      (All-weaker (IsBatch (λ s. begins s new.request) is_full) (λ (x : Batch T). x.records ≢ []) (λ x h. h.some) batches st.each);
+        (All-weaker (IsBatch (λ s. begins s new.request) is_full) (λ (x : Batch T). x.records ≢ []) (λ x h. h.some) batches st.each);
   }
 
   pub finishes_all : (old new : Batching T) (pushed : List Record) (lists : List (List Record)) (batches : List (Batch T)) (result : Result (Unit {0}) E) → lists ≡ lists_of batches

@@ -1,6 +1,6 @@
 -- What the messages of a transfer are that are ready, and how many records they have.
-use Rattle.std.proofs.Common.{◌≡◌, ℕ, ◌+◌, ◌<◌, ◌≤◌, ◌^◌, Bool, true, false, List, [], ◌∷◌, ◌++◌, length, map, refl, sym, ap, ◌∙◌, subst, arith}
-use Rattle.std.specs.Prelude.{◌≢◌, nat_le, All, Option, Some, None, Result, Ok, Err}
+use Rattle.std.proofs.Common.{◌≡◌, ℕ, ◌+◌, ◌<◌, ◌≤◌, true, false, List, [], ◌∷◌, ◌++◌, length, map, refl, sym, ap, ◌∙◌, subst, arith}
+use Rattle.std.specs.Prelude.{nat_le, All, Option, Some}
 use Rattle.std.proofs.lemmas.Bool.Decides.{nat_tests}
 use Rattle.std.proofs.lemmas.List.{append_assoc, append-nil, length-append}
 use Rattle.std.proofs.lemmas.List.Elements.{All-weaker}
@@ -8,11 +8,11 @@ use Rattle.dns_rdata.specs.Records.{Record}
 use Rattle.dns_wire.specs.Wire.{Building, header_in, ancount_in}
 use Rattle.dns_wire.specs.Parse.{questions_in}
 use Rattle.dns_wire.proofs.Pushing.{answers-counted}
-use Rattle.xfr_batch.specs.Batches.{Beginning, message_with, has_room, Ending, Batch, MustEnd, IsBatch, Batching, IsBegun, Stands}
+use Rattle.xfr_batch.specs.Batches.{message_with, has_room, Ending, Batch, MustEnd, IsBatch, Batching, Stands}
 use Rattle.xfr_batch.specs.Batches.Ending.{Full, NoRoomFor, Finished}
 use Rattle.xfr_batch.specs.BatchCalls.{HandsOn}
 use Rattle.xfr_batch.specs.ReadyMessages.{Kept}
-use Rattle.xfr_batch.specs.XfrBatches.{axfr_header, has_reached, transfer_begins, transfer_is_full, TransferReadies, TakesReady}
+use Rattle.xfr_batch.specs.XfrBatches.{axfr_header, has_reached, transfer_begins, transfer_is_full, TransferReadies}
 use Rattle.xfr_batch.proofs.BatchAdding.{few}
 
 -- ---- the messages handed on are those that are ready behind the others
@@ -26,20 +26,6 @@ ready_are q s (b ∷ batches) t h =
     let P : Kept → Type 0 = λ mid. t ≡ record mid { ready = mid.ready ++ map (λ (x : Batch Kept). message_with (transfer_begins mid q) x.records) batches } in
     let there : t ≡ record s { ready = (s.ready ++ m ∷ []) ++ more } = subst P h.1.1.0.1 (ready_are q h.1.0 batches t h.1.1.1) in
     there ∙ ap (λ (ms : List Building). record s { ready = ms }) (append_assoc s.ready (m ∷ []) more)
-
--- ---- a message that is taken out
-
-pub taken_stands : (old new : Batching Kept) (m : Option Building) (pushed : List Record) (batches : List (Batch Kept)) → TakesReady old.state m new.state
-    → new ≡ record old { state = new.state } → Stands transfer_begins transfer_is_full old pushed batches → Stands transfer_begins transfer_is_full new pushed batches
-taken_stands old new None pushed batches takes same st =
-    let P : Batching Kept → Type 0 = λ b. Stands transfer_begins transfer_is_full b pushed batches in
-    let back : new ≡ old = same ∙ ap (λ (s : Kept). record old { state = s }) takes.1 in
-    subst P (sym back) st
-taken_stands old new (Some m) pushed batches takes same st =
-    let P : Batching Kept → Type 0 = λ b. Stands transfer_begins transfer_is_full b pushed batches in
-    let Q : Kept → Type 0 = λ s. IsBegun (transfer_begins s old.request) (transfer_is_full s) st.begun old.answer in
-    let begun : IsBegun (transfer_begins new.state old.request) (transfer_is_full new.state) st.begun old.answer = subst Q takes st.message in
-    subst P (sym same) (record { begun = st.begun; all = st.all; message = begun; each = st.each })
 
 -- ---- no message has more records than it may have
 

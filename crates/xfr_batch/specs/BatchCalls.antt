@@ -1,9 +1,9 @@
 -- What the calls of a batcher answer and leave.
-use Rattle.std.specs.Prelude.{◌≡◌, ◌≢◌, ℕ, Bool, true, false, List, [], ◌∷◌, ◌++◌, All, Option, Some, None, Result, Ok, Err}
+use Rattle.std.specs.Prelude.{◌≡◌, ℕ, Bool, false, List, [], ◌∷◌, ◌++◌, All, None, Result, Ok, Err}
 use Rattle.dns_rdata.specs.Records.{Record}
 use Rattle.dns_wire.specs.Wire.{Building}
 use Rattle.dns_wire.specs.declared.builder.PushError.{PushError}
-use Rattle.dns_wire.specs.declared.builder.PushError.TheVariants.{ShortBuf, CountOverflow, Memory}
+use Rattle.dns_wire.specs.declared.builder.PushError.TheVariants.{ShortBuf, Memory}
 use Rattle.xfr_batch.specs.Batches.{Beginning, message_with, has_room, Ending, is_last, Batch, joined, IsBatch, Batching, Stands}
 use Rattle.xfr_batch.specs.Batches.Ending.{Full, NoRoomFor, Finished}
 use Rattle.xfr_batch.specs.declared.batcher.PushResult.{PushResult}

@@ -44,7 +44,12 @@ impl<C, T> CallbackBatcher<C, T> {
     pub fn into_callback_state(self) -> T
         ensures { result ≡ self.state }
     {
-        let CallbackBatcher { answer, request, callback_state, .. } = self;
+        let CallbackBatcher {
+            answer,
+            request,
+            callback_state,
+            ..
+        } = self;
         drop(answer);
         drop(request);
         callback_state

@@ -26,11 +26,11 @@ pub fn batches_are_full<T, C: Callbacks<T>>()
     ensures said { (b : Batching T) (pushed : List Record) (batches : List (Batch T))
         → Stands C.begins C.is_full b pushed batches
         → All (λ x. x.ending ≡ Full
-            → C.is_full x.state (message_with (C.begins x.state b.request) x.records) ≡ true) batches }
+        → C.is_full x.state (message_with (C.begins x.state b.request) x.records) ≡ true) batches }
     ensures no_room { (b : Batching T) (pushed : List Record) (batches : List (Batch T)) (r : Record)
         → Stands C.begins C.is_full b pushed batches
         → All (λ x. x.ending ≡ NoRoomFor r
-            → has_room (C.begins x.state b.request) (x.records ++ r ∷ []) ≡ false) batches }
+        → has_room (C.begins x.state b.request) (x.records ++ r ∷ []) ≡ false) batches }
     ensures within { (b : Batching T) (pushed : List Record) (batches : List (Batch T))
         → Stands C.begins C.is_full b pushed batches
         → All (λ x. has_room (C.begins x.state b.request) x.records ≡ true) batches }
@@ -40,8 +40,10 @@ pub fn batches_are_full<T, C: Callbacks<T>>()
 pub fn ready_messages_are_the_batches()
     ensures { (request : List ℕ) (s t : Kept) (batches : List (Batch Kept))
         → HandsOn (λ x. transfer_begins x request) TransferReadies s batches t
-        → t ≡ record s { ready = s.ready
-            ++ map (λ b. message_with (transfer_begins s request) b.records) batches } }
+        → t ≡ record s {
+          ready = s.ready
+              ++ map (λ b. message_with (transfer_begins s request) b.records) batches;
+        } }
 {}
 
 /// No message of a transfer has more records than it may have.

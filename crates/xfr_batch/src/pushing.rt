@@ -62,19 +62,21 @@ fn push_alone<T, C: Callbacks<T>, R: ComposeRecord>(
     let mut answer = answer;
     match answer.push(item) {
         Ok(()) => Ok(settle::<T, C>(kept, state, answer)),
-        Err(error) => {
-            drop(answer);
-            give_up(kept, error)
-        }
+        Err(error) => give_up(kept, Some(answer), error),
     }
 }
 
-/// Leaves no message begun.
-fn give_up(kept: &mut Option<AnswerBuilder>, error: PushError) -> Result<PushResult, PushError>
+/// Leaves no message begun, also where one without a record was.
+fn give_up(
+    kept: &mut Option<AnswerBuilder>,
+    begun: Option<AnswerBuilder>,
+    error: PushError,
+) -> Result<PushResult, PushError>
     ensures error { result ≡ Err error }
     ensures none { kept.new ≡ None }
 {
     *kept = None;
+    drop(begun);
     Err(error)
 }
 
@@ -91,7 +93,7 @@ fn push_first<T, C: Callbacks<T>, R: ComposeRecord>(
 {
     match C::batch_started(alloc, state, request) {
         Ok(answer) => push_alone::<T, C, R>(kept, state, answer, item),
-        Err(error) => give_up(kept, error),
+        Err(error) => give_up(kept, None, error),
     }
 }
 
