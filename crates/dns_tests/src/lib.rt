@@ -19,3 +19,5 @@ mod dns_rdata_vector_tests;
 mod dns_wire_tests;
 #[cfg(test)]
 mod rdata_octets_tests;
+#[cfg(test)]
+mod xfr_batch_tests;

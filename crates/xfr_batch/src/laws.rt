@@ -1,0 +1,54 @@
+// Laws of batches, each the contract of a function with an empty body.
+ghost use Rattle.std.specs.Prelude.{◌≡◌, ◌≢◌, ◌≤◌, ℕ, true, false, List, [], ◌∷◌, ◌++◌, Some, None, All, flat_map, length, map};
+ghost use Rattle.dns_rdata.specs.Records.{Record};
+ghost use Rattle.xfr_batch.specs.Batches.{message_with, has_room, Batch, records_in, Batching, Stands};
+ghost use Rattle.xfr_batch.specs.Batches.Ending.{Full, NoRoomFor};
+ghost use Rattle.xfr_batch.specs.BatchCalls.{HandsOn};
+ghost use Rattle.xfr_batch.specs.ReadyMessages.{Kept};
+ghost use Rattle.xfr_batch.specs.XfrBatches.{transfer_begins, transfer_is_full, TransferReadies};
+
+use crate::callbacks::Callbacks;
+
+/// Where no message is begun, as after a `finish`, and messages begin without a record, the records of the messages handed on are those
+/// pushed, in order, and no message is without a record.
+pub fn batches_join<T, C: Callbacks<T>>()
+    ensures joined { (b : Batching T) (pushed : List Record) (batches : List (Batch T))
+        → ((s : T) → (C.begins s b.request).answers ≡ []) → b.answer ≡ None
+        → Stands C.begins C.is_full b pushed batches
+        → flat_map (records_in C.begins b.request) batches ≡ pushed }
+    ensures some { (b : Batching T) (pushed : List Record) (batches : List (Batch T))
+        → Stands C.begins C.is_full b pushed batches
+        → All (λ x. records_in C.begins b.request x ≢ []) batches }
+{}
+
+/// A message that ended before a `finish` was said to be full, or had no room for the record that was pushed next. Each is within its limit.
+pub fn batches_are_full<T, C: Callbacks<T>>()
+    ensures said { (b : Batching T) (pushed : List Record) (batches : List (Batch T))
+        → Stands C.begins C.is_full b pushed batches
+        → All (λ x. x.ending ≡ Full
+        → C.is_full x.state (message_with (C.begins x.state b.request) x.records) ≡ true) batches }
+    ensures no_room { (b : Batching T) (pushed : List Record) (batches : List (Batch T)) (r : Record)
+        → Stands C.begins C.is_full b pushed batches
+        → All (λ x. x.ending ≡ NoRoomFor r
+        → has_room (C.begins x.state b.request) (x.records ++ r ∷ []) ≡ false) batches }
+    ensures within { (b : Batching T) (pushed : List Record) (batches : List (Batch T))
+        → Stands C.begins C.is_full b pushed batches
+        → All (λ x. has_room (C.begins x.state b.request) x.records ≡ true) batches }
+{}
+
+/// The messages that a transfer's batcher hands on are ready behind the others, in order.
+pub fn ready_messages_are_the_batches()
+    ensures { (request : List ℕ) (s t : Kept) (batches : List (Batch Kept))
+        → HandsOn (λ x. transfer_begins x request) TransferReadies s batches t
+        → t ≡ record s {
+          ready = s.ready
+              ++ map (λ b. message_with (transfer_begins s request) b.records) batches;
+        } }
+{}
+
+/// No message of a transfer has more records than it may have.
+pub fn messages_are_within_the_record_limit()
+    ensures { (b : Batching Kept) (pushed : List Record) (batches : List (Batch Kept)) (n : ℕ) → 1 ≤ n
+        → Stands transfer_begins transfer_is_full b pushed batches
+        → All (λ x. x.state.hard_rr_limit ≡ Some n → length x.records ≤ n) batches }
+{}
