@@ -121,10 +121,10 @@ module _ (f : ZoneFile) (q : Key) where
   found : (p : Record → Bool) (c : Bool) → ((r : Record) → ties q r ≡ true → p r ≡ c) → set_in (fold_list opened_with empty (filter p f.accepted)).sets q ≡ cond c whole None
   found p c h = ap (λ (sets : Sets). set_in sets q) (sets_after (filter p f.accepted) empty) ∙ found_after q (filter p f.accepted) [] ∙ tested p c h f.accepted None
 
-  of_kind : (kind : Kind) → set_in (sets_of f kind) q ≡ cond (same_kind (kind_of f probe) kind) whole None
+  pub of_kind : (kind : Kind) → set_in (sets_of f kind) q ≡ cond (same_kind (kind_of f probe) kind) whole None
   of_kind kind = found (λ r. same_kind (kind_of f r) kind) (same_kind (kind_of f probe) kind) (λ r h. ap (λ k. same_kind k kind) (alike_kinds r h))
 
-  of_opened : set_in (opened f).sets q ≡ cond (under q.0 f.apex) whole None
+  pub of_opened : set_in (opened f).sets q ≡ cond (under q.0 f.apex) whole None
   of_opened = found (λ r. under r.owner f.apex) (under q.0 f.apex) alike_zones
 
 -- ---- the sets put together

@@ -7,3 +7,4 @@ pub mod Tidy
 pub mod Answering
 pub mod Faulty
 pub mod ReadRecords
+pub mod Whole

@@ -1,10 +1,12 @@
 -- What keeps the records that are held from making a zone (RFC 1034, 3.6.2 and 4.2.1; RFC 4035, 2.4).
-use Rattle.std.specs.Prelude.{ℕ, ◌==◌, [], ◌∷◌, ◌++◌, not, if◌then◌else◌, List, Option, Some, None, is_some, option_map, filter_map}
+use Rattle.std.specs.Prelude.{ℕ, ◌==◌, Bool, ◌&&◌, ◌||◌, [], ◌∷◌, ◌++◌, not, if◌then◌else◌, List, length, Option, Some, None, is_some, option_map, filter_map}
+use Rattle.std.specs.List.{list_all}
 use Rattle.std.specs.Map.{keys_of}
 use Rattle.dns_name.specs.Names.{Name, fold, same_name, under}
-use Rattle.dns_name.specs.Codes.{type_ns, type_ds}
-use Rattle.zone_model.specs.Version.{Key, set_in}
-use Rattle.zone_model.specs.Classify.{Kind, Normal, Cut, Alias, Outside}
+use Rattle.dns_name.specs.Records.{Record}
+use Rattle.dns_name.specs.Codes.{type_ns, type_cname, type_ds}
+use Rattle.zone_model.specs.Version.{Key, set_in, below_apex, is_cut}
+use Rattle.zone_model.specs.Classify.{ZoneFile, Kind, Normal, Cut, Alias, Outside, opened}
 use Rattle.zone_errors.specs.declared.errors.ContextError.{ContextError}
 use Rattle.zone_errors.specs.declared.errors.ContextError.TheVariants.{MissingNs, InvalidZonecut, InvalidCname, OutOfZone}
 use Rattle.zone_values.specs.declared.errors.ZoneCutError.TheVariants as no_cut
@@ -54,3 +56,14 @@ faults p = faults_of p Cut ++ faults_of p Alias ++ faults_of p Normal ++ faults_
 abbrev pub with_fault : List (Name × ContextError) → Key → Option ContextError → List (Name × ContextError)
 with_fault found k None = found
 with_fault found k (Some why) = found ++ (k.0, why) ∷ []
+
+-- whether the records make a zone
+abbrev pub is_whole : Parsed → Bool
+is_whole p = length (faults p) == 0
+
+-- whether those of a file do: none is outside, none a CNAME at the apex, and DS records below it have NS records beside them
+-- (RFC 1034, 3.6.2 and 4.2.1; RFC 4035, 2.4)
+abbrev pub makes_zone : ZoneFile → Bool
+makes_zone f =
+    let v = opened f in
+    list_all (λ (r : Record). under r.owner f.apex && not ((r.rtype == type_cname) && same_name r.owner f.apex) && (not ((r.rtype == type_ds) && below_apex v r.owner) || is_cut v r.owner)) f.accepted

@@ -48,6 +48,10 @@ put_all sets more = fold_list (λ (into : Sets) (e : Key × RecordSet). insert_e
 abbrev pub joined : Parsed → Sets
 joined p = put_all (put_all p.normal p.cuts) p.aliases
 
+-- the version that they make
+abbrev pub version_of : Parsed → Version
+version_of p = record { apex = p.origin; class = p.class; sets = joined p }
+
 -- what sets keep whatever is put to them: owners in lower case and in order, and in each set data, of which no two are equal
 abbrev pub is_tidy_at : Key × RecordSet → Bool
 is_tidy_at e = labels_eq e.0.0 (fold e.0.0) && nat_le 1 (length e.1.items) && all_differ e.1.items

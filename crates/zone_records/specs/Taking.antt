@@ -5,8 +5,8 @@ use Rattle.dns_name.specs.Names.{Name, same_name}
 use Rattle.dns_name.specs.Records.{Record}
 use Rattle.dns_name.specs.Codes.{type_ns, type_ds}
 use Rattle.zone_model.specs.Version.{RecordSet, Key, Sets}
-use Rattle.zone_model.specs.Classify.{Kind, Normal, Cut, Alias, Outside, BadRecord, ClassMismatch, IllegalZoneCut, IllegalRecord, IllegalCname, MultipleCnames, RecordVerdict, Accepted, Rejected, kind_of, least, is_address, refuse_if, opened_with}
-use Rattle.zone_records.specs.Parsed.{Parsed}
+use Rattle.zone_model.specs.Classify.{ZoneFile, Kind, Normal, Cut, Alias, Outside, BadRecord, ClassMismatch, IllegalZoneCut, IllegalRecord, IllegalCname, MultipleCnames, RecordVerdict, Accepted, Rejected, kind_of, least, is_address, refuse_if, opened_with}
+use Rattle.zone_records.specs.Parsed.{Parsed, kept, with_record}
 
 -- the types that an owner has among some sets
 abbrev pub types_in : Sets → Name → List ℕ
@@ -65,3 +65,8 @@ taken_by p r (Rejected why) = Err why
 -- what is held with a record, or why the record is refused
 abbrev pub take : Parsed → Record → Result Parsed BadRecord
 take p r = taken_by p r (verdict_in p r)
+
+-- the same of a file of accepted records
+abbrev pub taken_as : ZoneFile → Record → RecordVerdict → Result Parsed BadRecord
+taken_as f r (Accepted kind) = Ok (kept (with_record f r))
+taken_as f r (Rejected why) = Err why

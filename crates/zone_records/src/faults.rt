@@ -1,10 +1,13 @@
 // What keeps the records of a zone file from making a zone.
-ghost use Rattle.std.specs.Prelude.{◌≡◌, ◌++◌, not, is_some, IfOk, OnOk};
+ghost use Rattle.std.specs.Prelude.{◌≡◌, ◌++◌, not, is_some, is_none, IfOk, OnOk};
+ghost use Rattle.std.specs.List.{list_all};
+ghost use Rattle.std.specs.Map.{keys_of};
+ghost use Rattle.zone_records.specs.Parsed.{sets_for};
 ghost use Rattle.dns_name.specs.Names.{fold, same_name, under};
 ghost use Rattle.dns_name.specs.Codes.{type_ns};
 ghost use Rattle.zone_model.specs.Version.{set_in};
 ghost use Rattle.zone_records.specs.Seen.{kind_seen};
-ghost use Rattle.zone_records.specs.Faults.{cut_fault, alias_fault, normal_fault, fault_at, with_fault, faults_of, faults};
+ghost use Rattle.zone_records.specs.Faults.{is_whole, cut_fault, alias_fault, normal_fault, fault_at, with_fault, faults_of, faults};
 
 use crate::kinds::RecordKind;
 use crate::zonefile::Zonefile;
@@ -27,6 +30,26 @@ impl Zonefile {
         self.add_faults(RecordKind::Normal, &mut found)?;
         self.add_faults(RecordKind::Outside, &mut found)?;
         Ok(found)
+    }
+
+    /// Whether the records make a zone, so that `faults` tells none.
+    #[tactic(auto, using(crate::proofs::Whole::whole_in_parts))]
+    pub fn is_whole(&self) -> bool
+        ensures { result ≡ is_whole self.now }
+    {
+        self.passes(RecordKind::Cut)
+            && self.passes(RecordKind::Alias)
+            && self.passes(RecordKind::Normal)
+            && self.passes(RecordKind::Outside)
+    }
+
+    /// Whether there is no fault at the RRsets of one kind.
+    fn passes(&self, kind: RecordKind) -> bool
+        ensures { result ≡ list_all (λ k. is_none (fault_at self.now (kind_seen kind) k)) (keys_of (sets_for self.now (kind_seen kind))) }
+    {
+        self.owners(kind)
+            .keys()
+            .all(|key| self.fault_at(kind, key.owner(), key.rtype()).is_none())
     }
 
     /// Adds the faults at RRsets of one kind.

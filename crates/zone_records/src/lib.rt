@@ -7,10 +7,12 @@
 mod errors;
 mod faults;
 mod kinds;
+mod laws;
 mod owners;
 mod reading;
 mod zonefile;
 
 pub use errors::FileError;
+pub use laws::zone_files_open;
 pub use owners::Owners;
 pub use zonefile::{Zonefile, ZonefileParts};
