@@ -21,7 +21,7 @@ invariant_of-self-2 c =
     let key : c.new-key.result ≡ (fold r.owner, r.rtype) = c.new-key.ensures ∙ (λ i. (fold (c.owner.ensures i), c.rtype.ensures i)) in
     let had : c.has_item-had.result ≡ list_any (same_data r.fields) (items_at sets (fold r.owner, r.rtype))
     = c.has_item-had.ensures ∙ (λ i. list_any (same_data (c.data.ensures.fields i)) (items_at sets (key i))) in
-    let made : c.put_opening.new.sets ≡ put_to sets r
+    let made : c.put_opening.new.self ≡ put_to sets r
     = c.in_ok-put_opening.ensures.ok ∙ (λ i. put_with (opening_set (c.ttl-ttl.ensures i) (c.into_data.ensures.fields i) (had i)) (key i) sets) ∙ put_opening_is sets r c.self.invariant in
     subst (λ (l : Sets). IsTidy l) (sym made) (put_tidy sets r c.self.invariant)
 
