@@ -15,6 +15,18 @@ pub(crate) fn is<R: Abort, T: PartialEq + Debug + Drop>(rt: &R, found: T, wanted
     drop(found);
 }
 
+/// The same, at a place that is told where it isn't so.
+pub(crate) fn is_at<R: Abort, T: PartialEq + Debug + Drop, P: Display>(
+    rt: &R,
+    found: T,
+    wanted: T,
+    place: &P,
+) {
+    assert_eq!(rt; found, wanted, "{place}");
+    drop(wanted);
+    drop(found);
+}
+
 /// The octets that pairs of hexadecimal digits say.
 pub fn octets<R: Abort>(rt: &R, alloc: Global, digits: &str) -> Vec<u8> {
     let decoded = hex::decode(alloc, digits);

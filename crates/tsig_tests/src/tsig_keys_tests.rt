@@ -1,5 +1,5 @@
 // Algorithms, keys made of a source, stores, and texts of errors.
-use crate::common::{is, key, name, says};
+use crate::common::{is, is_at, key, name, says};
 use dns_name::KeyName;
 use rand_core::SeedableRng;
 use rand_pcg::Pcg32;
@@ -111,7 +111,7 @@ fn lengths(rt: HostRuntime) {
 /// Asserts that the text names that algorithm, or none.
 fn reads<R: Abort>(rt: &R, text: &str, wanted: Result<Algorithm, AlgorithmError>) {
     let read = Algorithm::from_str(text);
-    assert_eq!(rt; read, wanted, "{text}");
+    is_at(rt, read, wanted, &text);
 }
 
 #[test]

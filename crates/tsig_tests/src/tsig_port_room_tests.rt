@@ -1,5 +1,5 @@
 // Messages without room for their TSIG, and refusals whose reply has no room: that is told, and not want of memory.
-use crate::common::{accepted, asked, is, key, key_of, message, octets, received, refused};
+use crate::common::{accepted, asked, is, is_at, key, key_of, message, octets, received, refused};
 use dns_wire::{AdditionalBuilder, MessageBuf, MessageBuilder, PushError};
 use std::alloc::Global;
 use std::process::Abort;
@@ -33,10 +33,8 @@ fn wanted_within(limit: usize) -> (Option<PushError>, usize) {
 
 /// Asserts that a TSIG without room within the limit was refused for that and left the message alone, or else was added.
 fn is_told<R: Abort>(rt: &R, message: AdditionalBuilder, limit: usize, refused: Option<PushError>) {
-    let (wanted, len) = wanted_within(limit);
-    assert_eq!(rt; refused, wanted, "{limit}");
-    let found = message.as_slice().len();
-    assert_eq!(rt; found, len, "{limit}");
+    let found = (refused, message.as_slice().len());
+    is_at(rt, found, wanted_within(limit), &limit);
     drop(message);
 }
 
@@ -128,7 +126,7 @@ fn replies<R: Abort>(
 ) {
     for limit in limits {
         let refused = reply_within(rt, alloc, known, &mut request, now, *limit).err();
-        assert_eq!(rt; refused, Some(PushError::ShortBuf), "{limit}");
+        is_at(rt, refused, Some(PushError::ShortBuf), limit);
     }
     let reply = reply_within(rt, alloc, known, &mut request, now, len);
     let reply = reply.expect(rt, "room");

@@ -26,11 +26,14 @@ impl<'v> AnswerRef<'v> {
     {
         let lent = self.content();
         let content = own_content(alloc, lent)?;
-        let authority = own_authority(alloc, self.version(), lent)?;
-        let additional = own_additional(alloc, self.version(), lent)?;
         let mut answer = bare_answer(self.rcode(), content, self.authoritative());
-        put_records(&mut answer, authority, additional);
-        Ok(answer)
+        match put_records(alloc, self.version(), lent, &mut answer) {
+            Ok(()) => Ok(answer),
+            Err(error) => {
+                drop(answer);
+                Err(error)
+            }
+        }
     }
 }
 
@@ -48,22 +51,28 @@ fn bare_answer(rcode: Rcode, content: AnswerContent, authoritative: bool) -> Ans
     answer
 }
 
-/// Puts authority and additional records to an answer without them.
+/// Puts the authority and additional records of what is lent to an answer without them.
 fn put_records(
+    alloc: Global,
+    version: &ZoneVersion,
+    lent: &Content<'_>,
     answer: &mut Answer,
-    authority: Option<AnswerAuthority>,
-    additional: Option<AnswerAdditional>,
-)
+) -> Result<(), AllocError>
+    requires types { HasItsTypes lent.now }
     requires authority { answer.old.authority ≡ None }
     requires additional { answer.old.additional ≡ None }
-    ensures { answer.new ≡ record answer.old { additional = additional; authority = authority } }
+    ensures { OnOk result (answer.new ≡ record answer.old {
+      additional = additional_for version.now (answer_of lent.now);
+      authority = authority_for version.now (answer_of lent.now);
+    }) }
 {
-    if let Some(authority) = authority {
+    if let Some(authority) = own_authority(alloc, version, lent)? {
         answer.set_authority(authority);
     }
-    if let Some(additional) = additional {
+    if let Some(additional) = own_additional(alloc, version, lent)? {
         answer.set_additional(additional);
     }
+    Ok(())
 }
 
 /// What is said of the name: the first record of an alias, or the set found.
@@ -116,10 +125,33 @@ fn delegation(
 ) -> Result<AnswerAuthority, AllocError>
     ensures { IfOk result (λ a. a ≡ authority owner.now None (Some servers.now) (option_copied signer.entry)) }
 {
-    let owner = owner.to_stored(alloc)?;
     let servers = own_set(alloc, servers)?;
-    let signer = own_option(alloc, signer)?;
-    Ok(AnswerAuthority::new(owner, None, Some(servers), signer))
+    match own_option(alloc, signer) {
+        Ok(signer) => authority_at(alloc, owner, servers, signer),
+        Err(error) => {
+            drop(servers);
+            Err(error)
+        }
+    }
+}
+
+/// These NS and DS sets at a zone cut's name.
+fn authority_at(
+    alloc: Global,
+    owner: &KeyName,
+    servers: SharedRrset,
+    signer: Option<SharedRrset>,
+) -> Result<AnswerAuthority, AllocError>
+    ensures { IfOk result (λ a. a ≡ authority owner.now None (Some servers) signer) }
+{
+    match owner.to_stored(alloc) {
+        Ok(owner) => Ok(AnswerAuthority::new(owner, None, Some(servers), signer)),
+        Err(error) => {
+            drop(signer);
+            drop(servers);
+            Err(error)
+        }
+    }
 }
 
 /// The first SOA record of the apex there, if there is one (RFC 2308, 3).
@@ -127,10 +159,13 @@ fn soa_authority(version: &ZoneVersion) -> Result<Option<AnswerAuthority>, Alloc
     ensures { IfOk result (λ a. a ≡ soa_authority version.now) }
 {
     match first_apex_soa(version)? {
-        Some(soa) => {
-            let apex = version.apex().clone()?;
-            Ok(Some(AnswerAuthority::new(apex, Some(soa), None, None)))
-        }
+        Some(soa) => match version.apex().clone() {
+            Ok(apex) => Ok(Some(AnswerAuthority::new(apex, Some(soa), None, None))),
+            Err(error) => {
+                drop(soa);
+                Err(error)
+            }
+        },
         None => Ok(None),
     }
 }
@@ -182,8 +217,13 @@ fn own_record(alloc: Global, lent: &AnswerRecord<'_>) -> Result<StoredRecord, Al
     ensures { IfOk result (λ r. r ≡ lent.now) }
 {
     let owner = lent.owner().to_stored(alloc)?;
-    let rdata = (*lent.data()).clone()?;
-    Ok(Record::new(owner, lent.class(), lent.ttl(), rdata))
+    match (*lent.data()).clone() {
+        Ok(rdata) => Ok(Record::new(owner, lent.class(), lent.ttl(), rdata)),
+        Err(error) => {
+            drop(owner);
+            Err(error)
+        }
+    }
 }
 
 /// The set with records of its own, where there is a set.
