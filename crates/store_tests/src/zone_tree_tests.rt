@@ -5,7 +5,7 @@ use dns_name::{Class, NameRef, StoredName};
 use std::alloc::Global;
 use std::fmt::Write;
 use std::process::Abort;
-use zone_tree::{AtApex, InsertZoneError, ZoneTree};
+use zone_file::{AtApex, InsertZoneError, ZoneTree};
 use zone_types::ZoneTreeModificationError;
 
 const A: &[u8] = b"\x01a\x07example\x00";

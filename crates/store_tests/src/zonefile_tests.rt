@@ -5,7 +5,7 @@ use dns_name::{Class, Rtype, StoredName, ToName, Ttl};
 use dns_rdata::{Ds, Record, StoredRecord, StoredRecordData, Txt, ZoneRecordData};
 use std::alloc::Global;
 use std::process::Abort;
-use zone_records::Zonefile;
+use zone_file::Zonefile;
 
 const CUT: &[u8] = b"\x01c\x07example\x00";
 

@@ -6,10 +6,12 @@ use dns_name::{Class, StoredName};
 use std::alloc::{AllocError, Global};
 use std::marker::Model;
 use zone_sessions::{ReadZone, WriteZone, ZoneApex};
+use zone_tree::AtApex;
 
 /// What keeps a zone: it knows its class and apex, and gives read handles.
 pub trait ZoneStore {
-    ghost use Rattle.std.specs.Prelude.{◌≡◌, IfOk};
+    ghost use Rattle.std.specs.Prelude.{◌≡◌, ℕ, IfOk};
+    ghost use Rattle.dns_name.specs.Names.{Name};
     ghost use Rattle.zone_model.specs.Commits.{Commit};
 
     /// The handles that it gives.
@@ -19,12 +21,20 @@ pub trait ZoneStore {
     ghost MayGive: { Self → Commit → Type 0 };
 
     /// The class.
+    ghost class_of: { Self → ℕ };
+
+    /// The name of the apex, as it was given.
+    ghost apex_of: { Self → Name };
+
+    /// The class.
     fn class(&self) -> Class
-        ensures { (c : Commit) → MayGive self.now c → c.version.class ≡ result };
+        ensures is { result ≡ class_of self.now }
+        ensures given { (c : Commit) → MayGive self.now c → c.version.class ≡ result };
 
     /// The name of the apex, as it was given.
     fn apex_name(&self) -> &StoredName
-        ensures { (c : Commit) → MayGive self.now c → c.version.apex ≡ result.now };
+        ensures is { result.now ≡ apex_of self.now }
+        ensures given { (c : Commit) → MayGive self.now c → c.version.apex ≡ result.now };
 
     /// A read handle. It doesn't wait, so nothing is asked of `rt`.
     fn read<R>(&self, rt: &R) -> Result<Self::Read, AllocError>
@@ -38,6 +48,10 @@ impl ZoneStore for ZoneApex {
     type Read = ReadZone;
 
     ghost MayGive = { λ z c. c ≡ z };
+
+    ghost class_of = { λ z. z.version.class };
+
+    ghost apex_of = { λ z. z.version.apex };
 
     fn class(&self) -> Class {
         ZoneApex::class(self)
@@ -92,6 +106,10 @@ impl<S: ZoneStore + Drop> ZoneStore for Zone<S> {
 
     ghost MayGive = { S.MayGive };
 
+    ghost class_of = { S.class_of };
+
+    ghost apex_of = { S.apex_of };
+
     fn class(&self) -> Class {
         self.store.class()
     }
@@ -102,6 +120,23 @@ impl<S: ZoneStore + Drop> ZoneStore for Zone<S> {
 
     fn read<R>(&self, rt: &R) -> Result<S::Read, AllocError> {
         self.store.read(rt)
+    }
+}
+
+/// A zone stands in a tree of zones by its class and apex.
+impl<S: ZoneStore + Drop> AtApex for Zone<S> {
+    ghost use Rattle.std.specs.Prelude.{◌≡◌};
+
+    ghost class_of = { S.class_of };
+
+    ghost apex_of = { S.apex_of };
+
+    fn class(&self) -> Class {
+        self.store.class()
+    }
+
+    fn apex_name(&self) -> &StoredName {
+        self.store.apex_name()
     }
 }
 
