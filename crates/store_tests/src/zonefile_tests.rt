@@ -25,8 +25,9 @@ fn of_class<R: Abort>(
 /// A DS record.
 fn signer<R: Abort>(rt: &R, alloc: Global, owner: &[u8]) -> StoredRecord {
     let digest = Ds::new(1, 8, 2, b"digest".as_slice());
-    let data: ZoneRecordData<&[u8], StoredName> =
-        ZoneRecordData::Ds(digest.ok().expect(rt, "short data"));
+    let data: ZoneRecordData<&[u8], StoredName> = ZoneRecordData::Ds(
+        digest.ok().expect(rt, "short data"),
+    );
     let data = data.flatten(alloc).expect(rt, "memory");
     of_class(rt, alloc, owner, 1, data)
 }
@@ -105,7 +106,8 @@ fn opens_with_no_other_record(rt: HostRuntime) {
     records.push(first).ok().expect(&rt, "memory");
     let error = Zonefile::from_records(alloc, records).err();
     let error = error.expect(&rt, "a refusal");
-    let other = "Zone file errors: ['t.example': The SOA record was not found, found this record instead,]";
+    let other =
+        "Zone file errors: ['t.example': The SOA record was not found, found this record instead,]";
     says(&rt, alloc, &error, other);
     drop(error);
 }
@@ -150,7 +152,8 @@ fn refusals_at_other_names(rt: HostRuntime) {
     refuses(&rt, alloc, &mut file, glue, beside);
     takes(&rt, &mut file, address(&rt, alloc, b"\x05other\x00", 60, 1));
     file.set_origin(name(&rt, alloc, OTHER));
-    let none = "Zone file errors: ['d.example': Invalid CNAME: CNAME at apex,'t.example': Out of zone: TXT,'other': Out of zone: A,]";
+    let none =
+        "Zone file errors: ['d.example': Invalid CNAME: CNAME at apex,'t.example': Out of zone: TXT,'other': Out of zone: A,]";
     has_faults(&rt, alloc, &file, none);
     drop(file);
 }

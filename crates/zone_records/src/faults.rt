@@ -47,9 +47,7 @@ impl Zonefile {
     fn passes(&self, kind: RecordKind) -> bool
         ensures { result ≡ list_all (λ k. is_none (fault_at self.now (kind_seen kind) k)) (keys_of (sets_for self.now (kind_seen kind))) }
     {
-        self.owners(kind)
-            .keys()
-            .all(|key| self.fault_at(kind, key.owner(), key.rtype()).is_none())
+        self.owners(kind).keys().all(|key| self.fault_at(kind, key.owner(), key.rtype()).is_none())
     }
 
     /// Adds the faults at RRsets of one kind.
