@@ -54,12 +54,14 @@ least_lowest [] = λ t. refl
 least_lowest (x ∷ xs) = by (least xs) (least_lowest xs)
   where
     by : (o : Option ℕ) → Lowest (is_in xs) o → Lowest (is_in (x ∷ xs)) (Some (option_map_or (min x) o x))
-    by None h =
-        (ap (λ c. c || is_in xs x) (eq-eqb x x refl),
-        λ t g. either_so (x == t) (is_in xs t) g (λ a. let e : x ≡ t = eqb-true x t a in omega arith) (λ a. absurd (true≢false (sym a ∙ h t))))
-    by (Some m) h =
-        (lower x m xs (nat_le x m) refl h.0,
-        λ t g. either_so (x == t) (is_in xs t) g (λ a. let e : x ≡ t = eqb-true x t a in omega arith) (λ a. let l : m ≤ t = h.1 t a in omega arith))
+    by None h = (
+      ap (λ c. c || is_in xs x) (eq-eqb x x refl),
+      λ t g. either_so (x == t) (is_in xs t) g (λ a. let e : x ≡ t = eqb-true x t a in omega arith) (λ a. absurd (true≢false (sym a ∙ h t))),
+    )
+    by (Some m) h = (
+      lower x m xs (nat_le x m) refl h.0,
+      λ t g. either_so (x == t) (is_in xs t) g (λ a. let e : x ≡ t = eqb-true x t a in omega arith) (λ a. let l : m ≤ t = h.1 t a in omega arith),
+    )
 
 -- a number is among those that a test accepts where it is among all and accepted
 pub in_filter : (p : ℕ → Bool) (xs : List ℕ) (t : ℕ) → is_in (filter p xs) t ≡ (is_in xs t && p t)
