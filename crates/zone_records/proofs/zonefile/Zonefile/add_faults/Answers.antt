@@ -8,10 +8,6 @@ use Rattle.zone_records.specs.Faults.{faults_at}
 use Rattle.zone_records.proofs.Faulty.{fault_step}
 use Rattle.zone_records.proofs.zonefile.Zonefile.add_faults.Goals as goal
 
--- All keys are left.
-pub loop-key-init : goal.loop-key-init
-loop-key-init c = ap (λ (ks : List Key). c.args.found.now ++ faults_at c.args.self.now (kind_seen c.args.kind) ks) (c.keys-key-items.ensures ∙ ap keys_of c.owners.ensures)
-
 -- One key more.
 pub loop-key-preserved : goal.loop-key-preserved
 loop-key-preserved c =
