@@ -1,0 +1,80 @@
+#!/usr/bin/python3
+"""Turns a zone's master file into a script for zonesync, and a report of zonesync back into master-file text.
+
+usage: tools/zone_text.py script ORIGIN MASTER [SECONDARY] > script
+       tools/zone_text.py zone < report
+
+It needs dnspython, by Debian's package for Debian's own Python: apt-get update && apt-get install -y python3-dnspython
+
+`script` reads a master file (RFC 1035, 5) of the zone ORIGIN, in class IN, whose records the primary has, and where it is named one whose records the
+secondary begins with. The SOA record comes first, the others in canonical order. The key is a sample key. `zone` prints each record that the
+report shows in the text form of its type (RFC 1035, 5.1), types without one as RFC 3597, 5 has them, and the report's other lines as
+comments. docs/SCRIPT.md says what script and report are.
+"""
+
+import sys
+
+import dns.name
+import dns.rdata
+import dns.rdataclass
+import dns.rdatatype
+import dns.zone
+
+KEY = "key 0673616d706c6500 hmac-sha256 000102030405060708090a0b0c0d0e0f - -"
+
+
+def wire(owner, ttl, data):
+    """The octets of one record, without compression (RFC 1035, 3.2.1)."""
+    octets = data.to_wire()
+    numbers = ((data.rdtype, 2), (data.rdclass, 2), (ttl, 4), (len(octets), 2))
+    return owner.to_wire() + b"".join(value.to_bytes(size, "big") for value, size in numbers) + octets
+
+
+def lines_of(word, origin, path):
+    """A line for each record of a master file."""
+    zone = dns.zone.from_file(path, origin, relativize=False, check_origin=False)
+    found = [(owner, ttl, data) for owner, ttl, data in zone.iterate_rdatas()]
+    found.sort(key=lambda it: (it[2].rdtype != dns.rdatatype.SOA, it[0], it[2].rdtype))
+    return [f"{word} {wire(*it).hex()}" for it in found]
+
+
+def print_script(origin, primary, secondary=None):
+    name = dns.name.from_text(origin)
+    print(f"zone {name.to_wire().hex()} 1", KEY, sep="\n")
+    print(*lines_of("p", name, primary), sep="\n")
+    if secondary:
+        print(*lines_of("s", name, secondary), sep="\n")
+
+
+def text_of(octets):
+    """One record as text."""
+    owner, used = dns.name.from_wire(octets, 0)
+    rtype, rclass, ttl, length = (int.from_bytes(octets[used + at : used + at + size], "big") for at, size in ((0, 2), (2, 2), (4, 4), (8, 2)))
+    data = dns.rdata.from_wire(rclass, rtype, octets, used + 10, length)
+    return f"{owner}\t{ttl}\t{dns.rdataclass.to_text(rclass)}\t{dns.rdatatype.to_text(rtype)}\t{data}"
+
+
+def print_zone(report):
+    for line in report:
+        fields = line.split()
+        if fields[:1] == ["rr"] and len(fields) == 3:
+            print(text_of(bytes.fromhex(fields[2])))
+        elif len(fields) == 2 and fields[0] in ("an", "au", "ad"):
+            print(f"; {fields[0]} {text_of(bytes.fromhex(fields[1]))}")
+        else:
+            print(f"; {line.rstrip()}")
+
+
+def main(words):
+    if words == ["zone"]:
+        print_zone(sys.stdin)
+    elif words[:1] == ["script"] and 3 <= len(words) <= 4:
+        print_script(*words[1:])
+    else:
+        print(__doc__, file=sys.stderr)
+        return 2
+    return 0
+
+
+if __name__ == "__main__":
+    sys.exit(main(sys.argv[1:]))
