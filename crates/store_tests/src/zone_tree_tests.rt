@@ -1,9 +1,8 @@
 // The zones of a server by class and apex, and the one that a name lies in.
 
-use crate::common::{APEX, is, name};
+use crate::common::{APEX, is, name, says};
 use dns_name::{Class, NameRef, StoredName};
 use std::alloc::Global;
-use std::fmt::Write;
 use std::process::Abort;
 use zone_file::{AtApex, InsertZoneError, ZoneTree};
 use zone_types::ZoneTreeModificationError;
@@ -41,6 +40,22 @@ impl AtApex for Marked {
 /// The class CH (RFC 1035, 3.2.4).
 fn chaos() -> Class {
     Class::from_int(3)
+}
+
+/// The number of the zone that is handed back where one stands already.
+fn mark_back(put: Result<(), InsertZoneError<Marked>>) -> u8 {
+    match put {
+        Ok(()) => 0,
+        Err(InsertZoneError::ZoneExists(zone)) => {
+            let mark = zone.mark;
+            drop(zone);
+            mark
+        }
+        Err(InsertZoneError::Memory(zone)) => {
+            drop(zone);
+            0
+        }
+    }
 }
 
 fn make_zone<R: Abort>(rt: &R, alloc: Global, class: Class, apex: &[u8], mark: u8) -> Marked {
@@ -132,19 +147,19 @@ fn a_zone_that_stands_is_not_replaced(rt: HostRuntime) {
     let alloc = rt.alloc();
     let mut tree = three_zones(&rt, alloc);
     let second = make_zone(&rt, alloc, Class::IN, b"\x07EXAMPLE\x00", 9);
-    let refused = tree.insert_zone(second);
-    let refused = refused.err().expect(&rt, "a refusal");
-    let mut said = String::new(alloc);
-    write!(said, "{refused}").expect(&rt, "memory");
-    is(&rt, said.as_str(), "Zone already exists");
-    drop(said);
-    let back = match refused {
-        InsertZoneError::ZoneExists(zone) => zone.mark,
-        InsertZoneError::Memory(_) => 0,
-    };
+    let back = mark_back(tree.insert_zone(second));
     is(&rt, back, 9);
     is(&rt, kept(&rt, &tree, Class::IN, APEX), Some(1));
     drop(tree);
+}
+
+#[test]
+fn texts_of_refused_zones(rt: HostRuntime) {
+    let alloc = rt.alloc();
+    let stands: InsertZoneError<u8> = InsertZoneError::ZoneExists(1);
+    says(&rt, alloc, &stands, "Zone already exists");
+    let wants: InsertZoneError<u8> = InsertZoneError::Memory(1);
+    says(&rt, alloc, &wants, "out of memory");
 }
 
 #[test]
