@@ -1,7 +1,6 @@
 mod NumberSteps
 mod CutSteps
-mod FileLookups
-mod FileVerdicts
+mod FileLaws
 mod ReadLines
 mod KeyFields
 mod Agreement

@@ -11,16 +11,16 @@ at_end : (c : goal.After-finish) → Tells c.finish.result (said c.args.text.now
 at_end c = tells_at_end c.finish.result c.lines.reading c.lines.number c.lines.rest.now c.args.text.now c.finish.ensures.ok c.finish.ensures.bad c.in_default.ensures.none c.lines.invariant.0
 
 pub returns-in_err-read-clause-bad : goal.returns-in_err-read-clause-bad
-returns-in_err-read-clause-bad c = names c.from_residual.result c.args.text.now (at_line c)
+returns-in_err-read-clause-bad c = names (laws_of c) c.from_residual.result c.args.text.now (at_line c)
 
 pub returns-in_err-read-clause-only_bad : goal.returns-in_err-read-clause-only_bad
-returns-in_err-read-clause-only_bad c = only_names c.from_residual.result c.args.text.now (at_line c)
+returns-in_err-read-clause-only_bad c = only_names (laws_of c) c.from_residual.result c.args.text.now (at_line c)
 
 pub returns-clause-ok : goal.returns-clause-ok
-returns-clause-ok c = reads c.finish.result c.args.text.now (at_end c)
+returns-clause-ok c = reads (laws_of c) c.finish.result c.args.text.now (at_end c)
 
 pub returns-clause-bad : goal.returns-clause-bad
-returns-clause-bad c = names c.finish.result c.args.text.now (at_end c)
+returns-clause-bad c = names (laws_of c) c.finish.result c.args.text.now (at_end c)
 
 pub returns-clause-only_bad : goal.returns-clause-only_bad
-returns-clause-only_bad c = only_names c.finish.result c.args.text.now (at_end c)
+returns-clause-only_bad c = only_names (laws_of c) c.finish.result c.args.text.now (at_end c)
