@@ -1,6 +1,7 @@
 mod NumberSteps
 mod CutSteps
 mod FileLaws
+mod Refused
 mod ReadLines
 mod KeyFields
 mod Agreement

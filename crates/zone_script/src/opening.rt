@@ -1,7 +1,7 @@
 //! A zone as its opening records are read.
 ghost use Rattle.std.specs.Prelude.{◌≡◌, Ok, Err, IfOk, IfErr, IfSome, OnOk, Some, None};
 ghost use Rattle.zone_script.specs.Keeping as keeping;
-ghost use Rattle.zone_script.specs.Causes.{line_in};
+ghost use Rattle.zone_script.specs.Causes.{line_in, cause_of};
 
 use crate::script::ScriptError;
 use dns_name::{Class, StoredName};
@@ -29,7 +29,8 @@ impl OpeningZone {
         }
     }
 
-    /// Takes the record of a line, unless it can't stand beside those before it (RFC 1034, 4.2.1).
+    /// Takes the record of a line, unless it is of another class or can't stand beside those before it (RFC 1034, 4.2.1; RFC 2181, 10.1).
+    #[tactic(auto, using(crate::proofs::Refused::line_refused))]
     pub(crate) fn take(&mut self, found: StoredRecord, number: u64) -> Result<(), ScriptError>
         ensures ok { OnOk result (keeping.take_record self.old number found ≡ Ok self.new) }
         ensures bad { IfErr result (λ e. IfSome (line_in e) (λ n. keeping.take_record self.old number found ≡ Err n)) }
@@ -39,10 +40,10 @@ impl OpeningZone {
                 self.last_line = number;
                 Ok(())
             }
-            Err(RecordError::Memory) => Err(ScriptError::Memory),
             Err(refused) => {
+                let cause = cause_of(number, &refused);
                 drop(refused);
-                Err(ScriptError::Line(number))
+                Err(cause)
             }
         }
     }
@@ -72,5 +73,15 @@ impl OpeningZone {
                 Err(ScriptError::Line(number))
             }
         }
+    }
+}
+
+/// What the refusal of a line's record says of the script: its line, but want of memory stays that.
+fn cause_of(number: u64, refused: &RecordError) -> ScriptError
+    ensures { result ≡ cause_of number refused.now }
+{
+    match refused {
+        RecordError::Memory => ScriptError::Memory,
+        _ => ScriptError::Line(number),
     }
 }
