@@ -9,17 +9,15 @@ ghost use Rattle.zone_values.specs.TypedSets.{TypedSet};
 ghost use Rattle.zone_versions.specs.Puts.{adds_alias};
 
 use crate::apex::ZoneApex;
-use crate::building::{make_alias, make_cut, replace_set};
-use crate::errors::{InsertCnameError, InsertCutError};
 use crate::read::ReadZone;
 use dns_name::{Class, KeyName, Labelled, Rtype, StoredName, ToName};
 use dns_rdata::StoredRecord;
 use std::alloc::{AllocError, Global};
 use std::marker::Model;
 use std::sync::Arc;
-use zone_errors::InsertError;
+use zone_errors::{InsertCnameError, InsertCutError, InsertError};
 use zone_values::{Rrset, SharedRr, SharedRrset};
-use zone_versions::ZoneVersion;
+use zone_versions::{ZoneVersion, make_alias, make_cut, replace_set};
 
 /// The records that a zone opens with, put one by one. It is seen as the version that they make.
 #[derive(Drop)]
