@@ -6,6 +6,8 @@ mod edits;
 mod errors;
 mod list;
 
-pub use edits::{CommitError, InsertError, NodeError, UpdateError};
+pub use edits::{
+    CommitError, InsertCnameError, InsertCutError, InsertError, NodeError, UpdateError,
+};
 pub use errors::{ContextError, RecordError};
 pub use list::ZoneErrors;

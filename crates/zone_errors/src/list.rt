@@ -1,6 +1,8 @@
 // Refusals in order.
-ghost use Rattle.std.specs.Prelude.{◌≡◌, ◌++◌, ◌∷◌, [], ◌==◌, ◌<◌, length, OnOk, OnErr, IfErr};
+ghost use Rattle.std.specs.Prelude.{◌≡◌, ◌++◌, ◌∷◌, [], ◌==◌, ◌<◌, length, OnOk, OnErr, IfOk, IfErr};
+ghost use Rattle.zone_errors.specs.Invalid.{invalid_records};
 
+use crate::errors::{ContextError, RecordError};
 use dns_name::{StoredName, ToName};
 use std::alloc::{AllocError, Global};
 use std::fmt;
@@ -39,6 +41,14 @@ impl<T: Drop> ZoneErrors<T> {
         ensures kept { OnErr result (self.new ≡ self.old) }
     {
         let name = name.to_stored(self.alloc)?;
+        self.push(name, error)
+    }
+
+    /// The same with the name itself.
+    fn push(&mut self, name: StoredName, error: T) -> Result<(), AllocError>
+        ensures added { OnOk result (self.new ≡ self.old ++ (name, error) ∷ []) }
+        ensures kept { OnErr result (self.new ≡ self.old) }
+    {
         Ok(self.errors.push((name, error))?)
     }
 
@@ -67,6 +77,19 @@ impl<T: Drop> ZoneErrors<T> {
         ensures { result ≡ length self.now }
     {
         self.errors.len()
+    }
+}
+
+impl ZoneErrors<ContextError> {
+    /// What is wrong with records that were taken, as refusals of records: each is an `InvalidRecord`.
+    pub fn into_record_errors(self) -> Result<ZoneErrors<RecordError>, AllocError>
+        ensures { IfOk result (λ errors. errors ≡ invalid_records self) }
+    {
+        let mut errors = ZoneErrors::new(self.alloc);
+        for (name, error) in self.errors {
+            errors.push(name, RecordError::InvalidRecord(error))?;
+        }
+        Ok(errors)
     }
 }
 

@@ -6,6 +6,7 @@
 mod comparing;
 mod errors;
 mod laws;
+mod opening;
 mod querying;
 mod steps;
 mod stores;

@@ -9,17 +9,16 @@ ghost use Rattle.zone_values.specs.TypedSets.{TypedSet};
 ghost use Rattle.zone_versions.specs.Puts.{adds_alias};
 
 use crate::apex::ZoneApex;
-use crate::building::{make_alias, make_cut, replace_set};
-use crate::errors::{InsertCnameError, InsertCutError};
 use crate::read::ReadZone;
 use dns_name::{Class, KeyName, Labelled, Rtype, StoredName, ToName};
 use dns_rdata::StoredRecord;
 use std::alloc::{AllocError, Global};
 use std::marker::Model;
 use std::sync::Arc;
-use zone_errors::InsertError;
+use zone_errors::{ContextError, InsertCnameError, InsertCutError, InsertError};
+use zone_records::{FileError, Zonefile};
 use zone_values::{Rrset, SharedRr, SharedRrset};
-use zone_versions::ZoneVersion;
+use zone_versions::{ZoneVersion, make_alias, make_cut, replace_set};
 
 /// The records that a zone opens with, put one by one. It is seen as the version that they make.
 #[derive(Drop)]
@@ -259,5 +258,25 @@ impl ZoneBuilder {
     {
         let version = Arc::new(self.alloc, self.version.into_closed()?)?;
         Ok(ZoneApex::of(ReadZone::of(number, version)))
+    }
+}
+
+/// A zone opens with the records of a zone file, moved and not copied. Where they make no zone, what keeps them from it is told (`faults`). The file
+/// is gone either way.
+impl TryFrom<Zonefile> for ZoneBuilder {
+    ghost use Rattle.std.specs.Prelude.{◌≡◌, ◌<◌, [], length, IfOk, IfErr, IfSome};
+    ghost use Rattle.zone_records.specs.Parsed.{version_of};
+    ghost use Rattle.zone_records.specs.Faults.{faults};
+    ghost use Rattle.zone_records.specs.Causes.{errors_in};
+
+    type Error = FileError<ContextError>;
+
+    ghost try_from_gives = { λ p r. IfOk r (λ b. (faults p ≡ []) × (b ≡ version_of p))
+        × IfErr r (λ e. IfSome (errors_in e) (λ errors. (errors ≡ faults p) × (0 < length errors))) };
+
+    fn try_from(file: Zonefile) -> Result<ZoneBuilder, FileError<ContextError>> {
+        let alloc = file.memory();
+        let version = file.into_version()?;
+        Ok(ZoneBuilder { alloc, version })
     }
 }

@@ -3,19 +3,18 @@
 
 mod apex;
 mod builder;
-mod building;
 mod child;
 mod edits;
-mod errors;
 mod node;
 mod read;
 mod write;
 
 pub use apex::ZoneApex;
 pub use builder::ZoneBuilder;
-pub use errors::{InsertCnameError, InsertCutError};
 pub use node::WriteNode;
 pub use read::ReadZone;
 pub use write::WriteZone;
-pub use zone_errors::{CommitError, InsertError, NodeError, UpdateError};
+pub use zone_errors::{
+    CommitError, InsertCnameError, InsertCutError, InsertError, NodeError, UpdateError,
+};
 pub use zone_versions::{EditError, RecordSet, RrsetIter, WalkItem};

@@ -1,5 +1,5 @@
 -- What single edits make of the set at a key (RFC 2136, 3.4.2; RFC 2181, 5.2).
-use Rattle.std.specs.Prelude.{ℕ, Bool, List, ◌++◌, ◌∷◌, [], Option, Some, None, min, not, ◌==◌, length, filter, if◌then◌else◌}
+use Rattle.std.specs.Prelude.{ℕ, Bool, List, ◌++◌, ◌∷◌, [], Option, Some, None, min, not, ◌==◌, length, filter, if◌then◌else◌, fold as fold_list}
 use Rattle.std.specs.Option.{option_map_or}
 use Rattle.std.specs.BTreeMap.{insert_entry}
 use Rattle.std.specs.Map.{remove_entry}
@@ -13,6 +13,10 @@ items_at sets k = option_map_or (λ (s : RecordSet). s.items) (set_in sets k) []
 -- the sets with a new one at a key, made of the one that stood there
 abbrev pub put_with : (Option RecordSet → RecordSet) → Key → Sets → Sets
 put_with make k sets = insert_entry key_cmp sets k (make (set_in sets k))
+
+-- the sets with those of others, each in place of the one at its key
+abbrev pub put_all : Sets → Sets → Sets
+put_all sets more = fold_list (λ (into : Sets) (e : Key × RecordSet). insert_entry key_cmp into e.0 e.1) sets more
 
 -- a set with data put last
 abbrev pub last_set : ℕ → List Field → Option RecordSet → RecordSet

@@ -10,7 +10,7 @@ ghost use Rattle.dns_rdata.specs.Records.{same_data};
 ghost use Rattle.dns_rdata.specs.ZoneData.{rtype_of, data_fields};
 ghost use Rattle.zone_model.specs.Version.{Key, key_cmp, has_key, set_in};
 ghost use Rattle.zone_sets.specs.TypedEntries.{entry_of, item_of, has_own_type, typed, typed_set_in};
-ghost use Rattle.zone_sets.specs.SetEdits.{items_at, put_with, last_set, opening_set, thinned, taken_out};
+ghost use Rattle.zone_sets.specs.SetEdits.{items_at, put_with, put_all, last_set, opening_set, thinned, taken_out};
 
 use crate::sets::{RecordSet, SetKey};
 use dns_name::Ttl;
@@ -128,6 +128,16 @@ impl KeyedSets {
         ensures ready { IsSome (set_in self.old key) → IsOk result }
     {
         drop(self.entries.insert(key, set)?);
+        Ok(())
+    }
+
+    /// Puts the RRsets of another map, each in place of the one at its key. They are moved. Without memory some of them may have been put.
+    pub fn put_all(&mut self, more: KeyedSets) -> Result<(), AllocError>
+        ensures { OnOk result (self.new ≡ put_all self.old more) }
+    {
+        for (key, set) in more.entries {
+            self.insert(key, set)?;
+        }
         Ok(())
     }
 

@@ -4,11 +4,13 @@
 //! the next.
 #![tactic(auto)]
 
+mod building;
 mod errors;
 mod nodes;
 mod version;
 mod walk;
 
+pub use building::{make_alias, make_cut, replace_set};
 pub use errors::EditError;
 pub use version::ZoneVersion;
 pub use walk::{RrsetIter, WalkItem};

@@ -73,6 +73,14 @@ impl ZoneVersion {
         }
     }
 
+    /// A version of RRsets that may stand together in one.
+    pub fn of_sets(apex: StoredName, class: Class, sets: KeyedSets) -> ZoneVersion
+        requires { IsSound (record { apex = apex; class = class; sets = sets }) }
+        ensures { result ≡ record { apex = apex; class = class; sets = sets } }
+    {
+        ZoneVersion { apex, class, sets }
+    }
+
     /// A version of the same apex and class without records.
     pub fn emptied(&self, alloc: Global) -> Result<ZoneVersion, AllocError>
         ensures { IfOk result (λ v. v ≡ with_sets self.now []) }

@@ -6,14 +6,15 @@ ghost use Rattle.zone_model.specs.Edits as edits;
 ghost use Rattle.zone_model.specs.Edits.{distinct_set};
 ghost use Rattle.zone_values.specs.TypedSets.{TypedSet};
 
+use crate::version::ZoneVersion;
 use dns_name::{KeyName, Rtype};
 use dns_rdata::StoredRecord;
 use std::alloc::{AllocError, Global};
+use zone_sets::RecordSet;
 use zone_values::{Rrset, SharedRr, SharedRrset};
-use zone_versions::{RecordSet, ZoneVersion};
 
 /// Puts the first of equal data of an RRset in place of the old one; an empty one removes that.
-pub(crate) fn replace_set(
+pub fn replace_set(
     version: &mut ZoneVersion,
     alloc: Global,
     owner: &KeyName,
@@ -30,7 +31,7 @@ pub(crate) fn replace_set(
 }
 
 /// Makes an owner an alias (RFC 1034, 3.6.2).
-pub(crate) fn make_alias(
+pub fn make_alias(
     version: &mut ZoneVersion,
     alloc: Global,
     owner: &KeyName,
@@ -48,7 +49,7 @@ pub(crate) fn make_alias(
 }
 
 /// Makes an owner a zone cut (RFC 1034, 4.2.1). So that all of it is done or nothing, the version is copied first.
-pub(crate) fn make_cut(
+pub fn make_cut(
     version: &mut ZoneVersion,
     alloc: Global,
     owner: &KeyName,

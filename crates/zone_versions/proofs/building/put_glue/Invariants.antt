@@ -1,6 +1,6 @@
 use Rattle.std.proofs.Common.{◌≡◌, take, fold}
 use Rattle.zone_model.specs.Edits.{add_glue}
-use Rattle.zone_sessions.proofs.building.put_glue.Given as goal
+use Rattle.zone_versions.proofs.building.put_glue.Given as goal
 
 -- The addresses so far are put.
 abbrev pub invariant-loop-added : goal.invariant-loop-added

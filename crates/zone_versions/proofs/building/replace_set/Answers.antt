@@ -2,7 +2,7 @@ use Rattle.std.proofs.Common.{ap, ◌∙◌}
 use Rattle.zone_model.specs.Edits.{is_bad_alias}
 use Rattle.zone_values.specs.TypedSets.{TypedSet}
 use Rattle.zone_versions.proofs.NodeEdits.{alias_first}
-use Rattle.zone_sessions.proofs.building.replace_set.Goals as goal
+use Rattle.zone_versions.proofs.building.replace_set.Goals as goal
 
 -- The first of equal data are as good an alias.
 pub put_set-requires-clause-alias : goal.put_set-requires-clause-alias
