@@ -30,7 +30,6 @@ impl OpeningZone {
     }
 
     /// Takes the record of a line, unless it is of another class or can't stand beside those before it (RFC 1034, 4.2.1; RFC 2181, 10.1).
-    #[tactic(auto, using(crate::proofs::Refused::line_refused))]
     pub(crate) fn take(&mut self, found: StoredRecord, number: u64) -> Result<(), ScriptError>
         ensures ok { OnOk result (keeping.take_record self.old number found ≡ Ok self.new) }
         ensures bad { IfErr result (λ e. IfSome (line_in e) (λ n. keeping.take_record self.old number found ≡ Err n)) }

@@ -3,7 +3,7 @@ use Rattle.zone_script.proofs.FileLaws.{FileLaws}
 use Rattle.zone_script.proofs.Parsing.{Tells, said, reads, names, only_names, tells_at_end, tells_at_line}
 use Rattle.zone_script.proofs.script.parse.Goals as goal
 
-at_line : (c : goal.After-drop-reading-in_err-read-4) → Tells c.from_residual.result (said c.args.text.now)
+at_line : (c : goal.After-drop-reading-in_err-read-10) → Tells c.from_residual.result (said c.args.text.now)
 at_line c =
     let p = err_from_is_err_and c.from_residual.result c.from_residual.ensures.1 in
     rw (p.1, p.2) (tells_at_line c.in_err-read.field-0.0 c.lines.reading c.lines.number c.in-Some.line.now c.lines.rest.now c.in-Some.behind.now c.args.text.now c.in_err-read.ensures.bad c.in-Some.ensures.found c.lines.invariant.0)
@@ -11,7 +11,7 @@ at_line c =
 at_end : (c : goal.After-finish) → Tells c.finish.result (said c.args.text.now)
 at_end c = tells_at_end c.finish.result c.lines.reading c.lines.number c.lines.rest.now c.args.text.now c.finish.ensures.ok c.finish.ensures.bad c.in_default.ensures.none c.lines.invariant.0
 
-laws_at_line : (c : goal.After-drop-reading-in_err-read-4) → FileLaws
+laws_at_line : (c : goal.After-drop-reading-in_err-read-10) → FileLaws
 laws_at_line c = record { takes = c.zone_files_open.ensures.takes; whole = c.zone_files_open.ensures.whole; opens = c.zone_files_open.ensures.opens }
 
 laws_at_end : (c : goal.After-finish) → FileLaws
