@@ -1,20 +1,19 @@
 -- What the code keeps as it reads a script, and what the definition says of it.
-use Rattle.std.proofs.Common.{◌≡◌, ℕ, ◌+◌, ◌==◌, Bool, true, false, ◌&&◌, ◌||◌, not, nat_le, nat_lt, if◌then◌else◌, List, [], ◌∷◌, ◌++◌, filter, fold as fold_list, refl, sym, ap, ◌∙◌, subst, true≢false, Option, Some, None, is_some, Result, Ok, Err}
+use Rattle.std.proofs.Common.{◌≡◌, ℕ, ◌+◌, ◌==◌, Bool, true, false, ◌&&◌, ◌||◌, not, nat_le, nat_lt, if◌then◌else◌, List, [], ◌∷◌, ◌++◌, refl, sym, ap, ◌∙◌, subst, true≢false, Option, Some, None, is_some, Result, Ok, Err}
 use Rattle.std.specs.Prelude.{option_map}
 use Rattle.std.specs.Option.{option_or}
-use Rattle.dns_name.specs.Names.{Name, under}
+use Rattle.dns_name.specs.Names.{Name}
 use Rattle.dns_rdata.specs.Records.{Record}
 use Rattle.tsig_port.specs.Tsig.{TsigKey}
-use Rattle.zone_model.specs.Version.{Version}
 use Rattle.zone_model.specs.Edits.{close}
-use Rattle.zone_model.specs.Classify.{ZoneFile, RecordVerdict, Accepted, Rejected, BadRecord, classify, opened_with, opened}
-use Rattle.zone_records.specs.Parsed.{Parsed, kept, version_of}
+use Rattle.zone_model.specs.Classify.{ZoneFile, RecordVerdict, Accepted, Rejected, classify, opened}
+use Rattle.zone_records.specs.Parsed.{kept, version_of}
 use Rattle.zone_records.specs.Taking.{take, taken_as}
 use Rattle.zone_records.specs.Faults.{is_whole, makes_zone}
 use Rattle.zone_script.specs.Script as scripts
 use Rattle.zone_script.specs.Script.{Line, ZoneLine, KeyLine, AtLine, PrimaryLine, SecondaryLine, ChangeLine, QueryLine, stage_of, is_skipped, read_line, read_lines, read_next, next_line, take_from, or_line, script_of, script_lines, no_script, at_end, accept, begun, begin_edits, opening_fault}
 use Rattle.zone_script.specs.ScriptReaders.{readers_so_far}
-use Rattle.zone_script.specs.Keeping.{empty_zone, with_file, take_record, refusal, nothing_read, may_come, and_zones, into_primary, into_secondary, with_zones, put_line, zones_refusal, refused_before, refused_at, unless, take_line, take_read, take_text, commit_of, script_with, script_from, finished, take_lines, Gives}
+use Rattle.zone_script.specs.Keeping.{empty_zone, with_file, nothing_read, may_come, and_zones, into_primary, into_secondary, with_zones, put_line, zones_refusal, refused_before, refused_at, unless, take_line, take_read, take_text, script_with, script_from, finished, take_lines, Gives}
 use Rattle.zone_script.specs.declared.opening.OpeningZone.{OpeningZone}
 use Rattle.zone_script.specs.declared.reading.Zones.{Zones}
 use Rattle.zone_script.specs.declared.reading.Reading.{Reading}

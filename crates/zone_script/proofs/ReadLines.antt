@@ -6,7 +6,7 @@ use Rattle.std.specs.List.{slice_split}
 use Rattle.dns_name.specs.Names.{Name}
 use Rattle.dns_rdata.specs.Records.{Record}
 use Rattle.tsig_port.specs.Tsig.{TsigKey}
-use Rattle.zone_script.specs.Script.{Line, ZoneLine, KeyLine, AtLine, PrimaryLine, SecondaryLine, ChangeLine, QueryLine, Change, Plus, Minus, Commit, hex_of, number_below, both, no_fields, one_field, two_fields, at_line, zone_line, query_line, record_line, record_field, name_field, of_stage, read_word, read_fields, read_line}
+use Rattle.zone_script.specs.Script.{Line, ZoneLine, KeyLine, AtLine, PrimaryLine, SecondaryLine, ChangeLine, QueryLine, Change, Plus, Minus, Commit, number_below, both, no_fields, one_field, two_fields, at_line, zone_line, query_line, record_line, record_field, name_field, of_stage, read_word, read_fields, read_line}
 use Rattle.zone_script.specs.ScriptReaders.{readers_so_far, key_of}
 
 abbrev pub IsReadLine : Line TsigKey → Type 0

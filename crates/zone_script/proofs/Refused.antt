@@ -1,5 +1,5 @@
 -- A record that its zone file refuses is refused at its line.
-use Rattle.std.proofs.Common.{◌≡◌, ℕ, refl, sym, subst, Result, Ok, Err, IfSome}
+use Rattle.std.proofs.Common.{◌≡◌, ℕ, refl, sym, subst, Err, IfSome}
 use Rattle.dns_rdata.specs.Records.{Record}
 use Rattle.zone_model.specs.Classify.{RecordVerdict, Accepted, Rejected, ClassMismatch, IllegalZoneCut, IllegalRecord, IllegalCname, MultipleCnames}
 use Rattle.zone_errors.specs.declared.errors.RecordError.{RecordError}
