@@ -6,6 +6,6 @@
 //! in the crate that it comes from.
 #![tactic(auto)]
 
-pub use zone_records::{FileError, Owners, Zonefile, ZonefileParts};
+pub use zone_records::{FileError, Owners, Zonefile};
 pub use zone_sessions::{InsertCnameError, InsertCutError, ZoneBuilder};
 pub use zone_tree::{AtApex, InsertZoneError, ZoneSetIter, ZoneTree};

@@ -1,14 +1,13 @@
 -- What a call answers for a verdict, and for a zone file.
 use Rattle.std.proofs.Common.{◌≡◌, ℕ, ◌==◌, Bool, true, false, not, if◌then◌else◌, sym, ap, ◌∙◌, Option, Some, None, Result, Ok, Err}
 use Rattle.dns_name.specs.Records.{Record}
-use Rattle.zone_model.specs.Classify.{ZoneFile, Kind, BadRecord, RecordVerdict, ClassMismatch, Accepted, Rejected, refuse_if, classify, opened}
+use Rattle.zone_model.specs.Classify.{ZoneFile, Kind, BadRecord, RecordVerdict, ClassMismatch, Accepted, Rejected, refuse_if, classify}
 use Rattle.zone_errors.specs.declared.errors.RecordError.{RecordError}
 use Rattle.zone_errors.specs.declared.errors.RecordError.TheVariants as errors
-use Rattle.zone_records.specs.Parsed.{Parsed, kept, with_record, joined}
+use Rattle.zone_records.specs.Parsed.{Parsed, kept, with_record}
 use Rattle.zone_records.specs.Taking.{kind_in, verdict_as, verdict_in, taken_in, taken_by, take}
 use Rattle.zone_records.specs.Refusals.{error_of, refusal_by, refusal}
 use Rattle.zone_records.proofs.KeptFiles.{verdict_kept, take_kept}
-use Rattle.zone_records.proofs.Joined.{joined_is_opened}
 
 pub took : (p q : Parsed) (r : Record) (kind : Kind) → Accepted kind ≡ verdict_in p r → q ≡ taken_in p r kind → take p r ≡ Ok q
 took p q r kind h e = ap (taken_by p r) (sym h) ∙ ap Ok (sym e)
@@ -38,7 +37,3 @@ in_the_way why o t v h = ap (λ x. refuse_if why x v) h
 
 pub free : (why : ℕ → BadRecord) (o : Option ℕ) (v w : RecordVerdict) → ◌≡◌ {A = Option ℕ} None o → w ≡ v → w ≡ refuse_if why o v
 free why o v w h e = e ∙ ap (λ x. refuse_if why x v) h
-
--- the sets put together
-pub joined_for : (p : Parsed) (f : ZoneFile) → p ≡ kept f → joined p ≡ (opened f).sets
-joined_for p f h = ap joined h ∙ joined_is_opened f

@@ -8,3 +8,5 @@ pub mod Answering
 pub mod Faulty
 pub mod ReadRecords
 pub mod Whole
+pub mod ByKind
+pub mod SoundFiles

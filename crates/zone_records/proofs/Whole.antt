@@ -49,7 +49,7 @@ all_alike : {X : Type 0} (p q : X → Bool) (xs : List X) → ((x : X) → p x �
 all_alike p q [] h = refl
 all_alike p q (x ∷ xs) h = λ i. h x i && all_alike p q xs h i
 
-abbrev passes : Parsed → Kind → Key → Bool
+abbrev pub passes : Parsed → Kind → Key → Bool
 passes p kind k = is_none (fault_at p kind k)
 
 none_of : (p : Parsed) (kind : Kind) (ks : List Key) → (length (faults_at p kind ks) == 0) ≡ list_all (passes p kind) ks
@@ -113,7 +113,7 @@ module _ (q : Key → Bool) (respects : (k l : Key) → key_cmp k l ≡ Equal �
       by false = refl
 
 -- a fault is told of equal keys alike
-passes_alike : (p : Parsed) (kind : Kind) (k l : Key) → key_cmp k l ≡ Equal → passes p kind k ≡ passes p kind l
+pub passes_alike : (p : Parsed) (kind : Kind) (k l : Key) → key_cmp k l ≡ Equal → passes p kind k ≡ passes p kind l
 passes_alike p kind k l h = by kind (key_from_tie k l h)
   where
     by : (kind : Kind) → (fold k.0 ≡ fold l.0) × (k.1 ≡ l.1) → passes p kind k ≡ passes p kind l

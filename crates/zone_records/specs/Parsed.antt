@@ -1,12 +1,13 @@
 -- What a zone file holds: the sets of the records that were taken, by kind (RFC 1034, 4.2.1; RFC 2181, 5 and 10.1).
-use Rattle.std.specs.Prelude.{ℕ, Bool, ◌&&◌, ◌++◌, ◌∷◌, [], List, filter, map, length, nat_le, IsTrue, fold as fold_list}
+use Rattle.std.specs.Prelude.{ℕ, Bool, ◌==◌, ◌&&◌, not, ◌++◌, ◌∷◌, [], List, filter, map, length, nat_le, IsTrue, fold as fold_list}
 use Rattle.std.specs.List.{list_all}
-use Rattle.std.specs.BTreeMap.{insert_entry}
 use Rattle.std.specs.List.Sorted.{IsStrictlySortedBy}
 use Rattle.std.specs.Map.{keys_of}
 use Rattle.dns_name.specs.Names.{Name, fold, labels_eq}
 use Rattle.dns_name.specs.Records.{Record}
+use Rattle.dns_name.specs.Codes.{type_cname}
 use Rattle.zone_model.specs.Version.{RecordSet, Key, Sets, Version, key_cmp, all_differ}
+use Rattle.zone_sets.specs.SetEdits.{put_all}
 use Rattle.zone_model.specs.Classify.{ZoneFile, Kind, Normal, Cut, Alias, Outside, kind_of, same_kind, opened_with}
 
 -- an origin, a class, and sets of records by kind: normal ones, those of zone cuts, CNAMEs, and those outside the origin
@@ -41,10 +42,7 @@ kept f = record { origin = f.apex; class = f.class; normal = sets_of f Normal; c
 abbrev pub with_record : ZoneFile → Record → ZoneFile
 with_record f r = record f { accepted = f.accepted ++ r ∷ [] }
 
--- the sets with those of cuts and aliases put among the normal ones
-abbrev pub put_all : Sets → Sets → Sets
-put_all sets more = fold_list (λ (into : Sets) (e : Key × RecordSet). insert_entry key_cmp into e.0 e.1) sets more
-
+-- the sets of cuts and aliases put among the normal ones
 abbrev pub joined : Parsed → Sets
 joined p = put_all (put_all p.normal p.cuts) p.aliases
 
@@ -59,3 +57,13 @@ is_tidy_at e = labels_eq e.0.0 (fold e.0.0) && nat_le 1 (length e.1.items) && al
 pub record IsTidy (sets : Sets) : Type 0 where
   pub ordered : IsStrictlySortedBy key_cmp (keys_of sets)
   pub each : IsTrue (list_all is_tidy_at sets)
+
+-- CNAMEs are the aliases, each of one record, and no others (RFC 2181, 10.1)
+abbrev pub is_no_alias : Key × RecordSet → Bool
+is_no_alias e = not (e.0.1 == type_cname)
+
+abbrev pub is_one_alias : Key × RecordSet → Bool
+is_one_alias e = (e.0.1 == type_cname) && (length e.1.items == 1)
+
+abbrev pub IsByKind : Sets → Sets → Sets → Type 0
+IsByKind normal cuts aliases = IsTrue (list_all is_no_alias normal) × IsTrue (list_all is_no_alias cuts) × IsTrue (list_all is_one_alias aliases)

@@ -15,4 +15,4 @@ mod zonefile;
 pub use errors::FileError;
 pub use laws::zone_files_open;
 pub use owners::Owners;
-pub use zonefile::{Zonefile, ZonefileParts};
+pub use zonefile::Zonefile;

@@ -164,7 +164,7 @@ impl Owners {
     }
 
     /// The RRsets themselves.
-    pub fn into_sets(self) -> KeyedSets
+    pub(crate) fn into_sets(self) -> KeyedSets
         ensures is { result ≡ self }
         ensures tidy { IsTidy self }
     {

@@ -1,21 +1,24 @@
 // The records of a zone file.
-ghost use Rattle.std.specs.Prelude.{◌≡◌, ◌==◌, ◌&&◌, ◌||◌, not, None, Ok, OnOk, OnErr, IfErr, if◌then◌else◌};
+ghost use Rattle.std.specs.Prelude.{◌≡◌, ◌==◌, ◌&&◌, ◌||◌, ◌<◌, [], length, not, None, Ok, OnOk, OnErr, IfOk, IfErr, IfSome, if◌then◌else◌};
 ghost use Rattle.dns_name.specs.Names.{same_name, under};
 ghost use Rattle.dns_name.specs.Codes.{type_ns, type_ds};
-ghost use Rattle.zone_model.specs.Classify.{ZoneFile, is_address, classify, opened};
-ghost use Rattle.zone_records.specs.Parsed.{kept, with_record, empty_file, joined, sets_for, IsTidy};
+ghost use Rattle.zone_model.specs.Classify.{ZoneFile, Accepted, is_address, classify};
+ghost use Rattle.zone_records.specs.Parsed.{kept, with_record, empty_file, version_of, sets_for};
 ghost use Rattle.zone_records.specs.Taking.{cut_in, verdict_in, verdict_as, cut_verdict, alias_verdict, normal_verdict, kind_in, taken_in, take};
 ghost use Rattle.zone_records.specs.Seen.{kind_seen, verdict_seen};
 ghost use Rattle.zone_records.specs.Refusals.{refusal};
+ghost use Rattle.zone_records.specs.Faults.{faults};
+ghost use Rattle.zone_records.specs.Causes.{errors_in};
 
+use crate::errors::FileError;
 use crate::kinds::{Obstacle, RecordKind};
 use crate::owners::Owners;
 use dns_name::{Class, Rtype, StoredName, ToName};
 use dns_rdata::StoredRecord;
 use std::alloc::{AllocError, Global};
 use std::marker::Model;
-use zone_errors::RecordError;
-use zone_sets::KeyedSets;
+use zone_errors::{ContextError, RecordError};
+use zone_versions::ZoneVersion;
 
 /// The records of a zone file by kind (RFC 1034, 4.2.1), under an origin and a class.
 #[derive(Drop)]
@@ -30,26 +33,18 @@ pub struct Zonefile {
 }
 
 impl Model for Zonefile {
-    ghost use Rattle.zone_records.specs.Parsed.{Parsed};
+    ghost use Rattle.zone_records.specs.Parsed.{Parsed, IsByKind};
 
     ghost Value = { Parsed };
 
     ghost view = { λ z. record { origin = z.origin; class = z.class; normal = z.normal; cuts = z.zone_cuts; aliases = z.cnames; outside = z.out_of_zone } };
-}
 
-/// The parts of a zone file, RRsets by kind.
-#[derive(Drop)]
-pub struct ZonefileParts {
-    pub origin: StoredName,
-    pub class: Class,
-    pub normal: KeyedSets,
-    pub zone_cuts: KeyedSets,
-    pub cnames: KeyedSets,
-    pub out_of_zone: KeyedSets,
+    ghost invariant = { λ z. IsByKind z.normal z.zone_cuts z.cnames };
 }
 
 impl Zonefile {
     /// A zone file of this origin and class without records.
+    #[tactic(auto, using(crate::proofs::ByKind::none_by_kind))]
     pub fn new(alloc: Global, origin: StoredName, class: Class) -> Zonefile
         ensures { result ≡ empty_file origin class }
     {
@@ -76,6 +71,11 @@ impl Zonefile {
         ensures { result ≡ self.now.class }
     {
         self.class
+    }
+
+    /// Where its memory comes from.
+    pub fn memory(&self) -> Global {
+        self.alloc
     }
 
     /// Changes the origin. Records that were taken stay of their kind.
@@ -263,8 +263,9 @@ impl Zonefile {
         }
     }
 
-    /// Puts a record to the RRsets of one kind.
+    /// Puts a record to the RRsets of its kind.
     pub(crate) fn put(&mut self, kind: RecordKind, found: StoredRecord) -> Result<(), AllocError>
+        requires { Accepted (kind_seen kind) ≡ verdict_in self.old found }
         ensures ok { OnOk result (self.new ≡ taken_in self.old found (kind_seen kind)) }
         ensures err { OnErr result (self.new ≡ self.old) }
     {
@@ -277,25 +278,35 @@ impl Zonefile {
         }
     }
 
-    /// The parts. Those of a zone file whose origin wasn't changed, but what is outside, make the RRsets that the file opens with (`joined`).
-    #[tactic(auto, using(crate::proofs::Answering::joined_for))]
-    pub fn into_parts(self) -> ZonefileParts
-        ensures origin { result.origin ≡ self.origin }
-        ensures class { result.class ≡ self.class }
-        ensures normal { (result.normal ≡ self.normal) × IsTidy self.normal }
-        ensures zone_cuts { (result.zone_cuts ≡ self.cuts) × IsTidy self.cuts }
-        ensures cnames { (result.cnames ≡ self.aliases) × IsTidy self.aliases }
-        ensures out_of_zone { (result.out_of_zone ≡ self.outside) × IsTidy self.outside }
-        ensures opened { (f : ZoneFile) → self ≡ kept f → joined self ≡ (opened f).sets }
+    /// The version that the records make, or all that keeps them from making one (`faults`).
+    #[tactic(auto, using(crate::proofs::SoundFiles::no_faults))]
+    pub fn into_version(self) -> Result<ZoneVersion, FileError<ContextError>>
+        ensures ok { IfOk result (λ v. (faults self ≡ []) × (v ≡ version_of self)) }
+        ensures refused { IfErr result (λ e. IfSome (errors_in e) (λ errors. (errors ≡ faults self) × (0 < length errors))) }
     {
-        ZonefileParts {
-            origin: self.origin,
-            class: self.class,
-            normal: self.normal.into_sets(),
-            zone_cuts: self.zone_cuts.into_sets(),
-            cnames: self.cnames.into_sets(),
-            out_of_zone: self.out_of_zone.into_sets(),
+        let found = self.faults(self.alloc)?;
+        match found.unwrap() {
+            Ok(()) => Ok(self.joined()?),
+            Err(errors) => {
+                drop(self);
+                Err(FileError::Errors(errors))
+            }
         }
+    }
+
+    /// The version that the records make.
+    #[tactic(auto, using(crate::proofs::SoundFiles::makes_sound))]
+    fn joined(self) -> Result<ZoneVersion, AllocError>
+        requires { faults self ≡ [] }
+        ensures { IfOk result (λ v. v ≡ version_of self) }
+    {
+        drop(self.out_of_zone);
+        let cuts = self.zone_cuts.into_sets();
+        let aliases = self.cnames.into_sets();
+        let mut sets = self.normal.into_sets();
+        sets.put_all(cuts)?;
+        sets.put_all(aliases)?;
+        Ok(ZoneVersion::of_sets(self.origin, self.class, sets))
     }
 }
 

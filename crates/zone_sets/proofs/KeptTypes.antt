@@ -40,10 +40,10 @@ length_seen (e ∷ es) = ap (λ n. suc n) (length_seen es)
 pub typed_is : (s : TypedSet) (k : ℕ) → s.rtype ≡ k → s ≡ typed k s.contents
 typed_is s k e = ap (λ n. typed n s.contents) e
 
-first_own : (e : Key × TypedSet) (es : TypedEntries) → list_all has_own_type (e ∷ es) ≡ true → e.1.rtype ≡ e.0.1
+pub first_own : (e : Key × TypedSet) (es : TypedEntries) → list_all has_own_type (e ∷ es) ≡ true → e.1.rtype ≡ e.0.1
 first_own e es h = eqb-true e.1.rtype e.0.1 (first_so (has_own_type e) (list_all has_own_type es) h)
 
-rest_own : (e : Key × TypedSet) (es : TypedEntries) → list_all has_own_type (e ∷ es) ≡ true → list_all has_own_type es ≡ true
+pub rest_own : (e : Key × TypedSet) (es : TypedEntries) → list_all has_own_type (e ∷ es) ≡ true → list_all has_own_type es ≡ true
 rest_own e es h = second_so (has_own_type e) (list_all has_own_type es) h
 
 item_is : (e : Key × TypedSet) → e.1.rtype ≡ e.0.1 → e ≡ item_of (entry_of e)
