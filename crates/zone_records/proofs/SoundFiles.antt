@@ -1,5 +1,5 @@
 -- A zone file without faults makes a sound version.
-use Rattle.std.proofs.Common.{◌≡◌, ℕ, ◌==◌, Bool, true, false, cond, ◌&&◌, ◌||◌, not, if◌then◌else◌, List, [], ◌∷◌, length, nat_le, refl, sym, ap, subst, ◌∙◌, true≢false, Ordering, Equal, Option, Some, None, is_some, is_eq, bytes_eq}
+use Rattle.std.proofs.Common.{◌≡◌, ◌==◌, Bool, true, false, cond, ◌&&◌, ◌||◌, not, if◌then◌else◌, List, [], ◌∷◌, length, nat_le, refl, sym, ap, subst, ◌∙◌, true≢false, Equal, Some, None, is_some, bytes_eq}
 use Rattle.std.specs.Prelude.{is_none}
 use Rattle.std.specs.List.{list_all}
 use Rattle.std.specs.List.Sorted.{IsStrictlySortedBy}
@@ -10,8 +10,8 @@ use Rattle.std.specs.BTreeMap.{insert_entry}
 use Rattle.std.specs.Map.{keys_of}
 use Rattle.dns_name.specs.Names.{Name, fold, same_name, under}
 use Rattle.dns_name.specs.Codes.{type_ns, type_cname, type_ds}
-use Rattle.zone_model.specs.Version.{RecordSet, Key, Sets, Version, key_cmp, has_key, set_in, below_apex, all_differ}
-use Rattle.zone_model.specs.Classify.{Kind, Normal, Cut, Alias, Outside}
+use Rattle.zone_model.specs.Version.{RecordSet, Key, Sets, key_cmp, has_key, set_in, below_apex, all_differ}
+use Rattle.zone_model.specs.Classify.{Normal, Cut, Alias, Outside}
 use Rattle.zone_model.proofs.Folded.{key_total, same_key, IsFolded, fold-fold, under_alike}
 use Rattle.zone_model.proofs.Ordered.{sorted-insert_entry}
 use Rattle.zone_errors.specs.declared.errors.ContextError.{ContextError}
@@ -21,8 +21,8 @@ use Rattle.zone_values.specs.declared.errors.CnameError.TheVariants as bad_alias
 use Rattle.zone_sets.specs.SetEdits.{put_all}
 use Rattle.zone_sets.proofs.KeptTypes.{all_insert}
 use Rattle.zone_versions.specs.Sound.{is_sound_at, IsSound}
-use Rattle.zone_records.specs.Parsed.{Parsed, sets_for, version_of, is_tidy_at, IsTidy, is_no_alias, is_one_alias, IsByKind}
-use Rattle.zone_records.specs.Faults.{cut_fault, fault_at, faults, is_whole}
+use Rattle.zone_records.specs.Parsed.{Parsed, version_of, is_tidy_at, IsTidy, is_no_alias, is_one_alias, IsByKind}
+use Rattle.zone_records.specs.Faults.{faults}
 use Rattle.zone_records.proofs.Whole.{passes, whole_in_parts, passes_alike}
 
 -- ---- sets put together

@@ -1,4 +1,4 @@
-use Rattle.std.proofs.Common.{◌≡◌, ap, sym, ◌∙◌}
+use Rattle.std.proofs.Common.{ap, sym, ◌∙◌}
 use Rattle.zone_model.specs.Version.{Sets}
 use Rattle.zone_model.specs.Classify.{Normal, Cut, Alias, Accepted}
 use Rattle.zone_records.specs.declared.kinds.RecordKind.{RecordKind}
