@@ -2,6 +2,8 @@
 #![tactic(auto)]
 
 #[cfg(test)]
+mod builder_tests;
+#[cfg(test)]
 mod commit_tests;
 #[cfg(test)]
 mod common;

@@ -1,8 +1,8 @@
 // Zone files: which records are taken, and what is told of the others and of files that make no zone.
 
-use crate::common::{APEX, HOST, SERVER, address, alias, is, name, says, server, soa};
-use dns_name::{Class, Rtype, StoredName, ToName, Ttl};
-use dns_rdata::{Ds, Record, StoredRecord, StoredRecordData, Txt, ZoneRecordData};
+use crate::common::{APEX, HOST, SERVER, address, alias, is, name, says, server, signer, soa};
+use dns_name::{Class, Rtype, ToName, Ttl};
+use dns_rdata::{Record, StoredRecord, StoredRecordData, Txt, ZoneRecordData};
 use std::alloc::Global;
 use std::process::Abort;
 use zone_file::Zonefile;
@@ -20,16 +20,6 @@ fn of_class<R: Abort>(
 ) -> StoredRecord {
     let owner = name(rt, alloc, owner);
     Record::new(owner, Class::from_int(class), Ttl::from_int(60), data)
-}
-
-/// A DS record.
-fn signer<R: Abort>(rt: &R, alloc: Global, owner: &[u8]) -> StoredRecord {
-    let digest = Ds::new(1, 8, 2, b"digest".as_slice());
-    let data: ZoneRecordData<&[u8], StoredName> = ZoneRecordData::Ds(
-        digest.ok().expect(rt, "short data"),
-    );
-    let data = data.flatten(alloc).expect(rt, "memory");
-    of_class(rt, alloc, owner, 1, data)
 }
 
 /// A TXT record of a class.
