@@ -18,6 +18,8 @@ mod error_tests;
 #[cfg(test)]
 mod node_tests;
 #[cfg(test)]
+mod opening_tests;
+#[cfg(test)]
 mod session_tests;
 #[cfg(test)]
 mod value_tests;

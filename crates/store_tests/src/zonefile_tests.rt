@@ -7,11 +7,11 @@ use std::alloc::Global;
 use std::process::Abort;
 use zone_file::Zonefile;
 
-const CUT: &[u8] = b"\x01c\x07example\x00";
+pub(crate) const CUT: &[u8] = b"\x01c\x07example\x00";
 
-const OTHER: &[u8] = b"\x01d\x07EXAMPLE\x00";
+pub(crate) const OTHER: &[u8] = b"\x01d\x07EXAMPLE\x00";
 
-fn of_class<R: Abort>(
+pub(crate) fn of_class<R: Abort>(
     rt: &R,
     alloc: Global,
     owner: &[u8],
@@ -23,18 +23,18 @@ fn of_class<R: Abort>(
 }
 
 /// A TXT record of a class.
-fn text<R: Abort>(rt: &R, alloc: Global, owner: &[u8], class: u16) -> StoredRecord {
+pub(crate) fn text<R: Abort>(rt: &R, alloc: Global, owner: &[u8], class: u16) -> StoredRecord {
     let data = Txt::build_from_slice(alloc, b"text").ok();
     let data = ZoneRecordData::Txt(data.expect(rt, "short data"));
     of_class(rt, alloc, owner, class, data)
 }
 
 /// A file of the zone `example.` without records.
-fn file<R: Abort>(rt: &R, alloc: Global) -> Zonefile {
+pub(crate) fn file<R: Abort>(rt: &R, alloc: Global) -> Zonefile {
     Zonefile::new(alloc, name(rt, alloc, APEX), Class::IN)
 }
 
-fn takes<R: Abort>(rt: &R, file: &mut Zonefile, found: StoredRecord) {
+pub(crate) fn takes<R: Abort>(rt: &R, file: &mut Zonefile, found: StoredRecord) {
     file.insert(found).expect(rt, "a record that is taken");
 }
 
