@@ -2,7 +2,7 @@
 
 use dns_name::{Class, NameRef, Rtype, Serial, StoredName, Ttl};
 use dns_rdata::{
-    A, Cname, Ns, Record, RecordData, Soa, StoredRecord, StoredRecordData, ZoneRecordData,
+    A, Cname, Ds, Ns, Record, RecordData, Soa, StoredRecord, StoredRecordData, ZoneRecordData,
 };
 use std::alloc::Global;
 use std::fmt::{self, Debug, Write};
@@ -81,6 +81,16 @@ pub(crate) fn server<R: Abort>(
     record_of(rt, alloc, owner, ttl, data)
 }
 
+/// A DS record.
+pub(crate) fn signer<R: Abort>(rt: &R, alloc: Global, owner: &[u8]) -> StoredRecord {
+    let digest = Ds::new(1, 8, 2, b"digest".as_slice());
+    let data: ZoneRecordData<&[u8], StoredName> = ZoneRecordData::Ds(
+        digest.ok().expect(rt, "short data"),
+    );
+    let data = data.flatten(alloc).expect(rt, "memory");
+    record_of(rt, alloc, owner, 60, data)
+}
+
 pub(crate) fn soa<R: Abort>(rt: &R, alloc: Global, serial: u32) -> Soa<StoredName> {
     let primary = name(rt, alloc, SERVER);
     let mailbox = name(rt, alloc, b"\x04host\x07example\x00");
@@ -113,6 +123,14 @@ pub(crate) fn three<R: Abort>(rt: &R, alloc: Global, ttl: u32) -> SharedRrset {
     push(rt, &mut set, host(1));
     push(rt, &mut set, host(2));
     push(rt, &mut set, host(3));
+    set.into_shared(alloc).expect(rt, "memory")
+}
+
+/// Two aliases of one name.
+pub(crate) fn aliases<R: Abort>(rt: &R, alloc: Global, first: &[u8], second: &[u8]) -> SharedRrset {
+    let mut set = Rrset::new(alloc, Rtype::CNAME, Ttl::from_int(30));
+    push(rt, &mut set, target(rt, alloc, first));
+    push(rt, &mut set, target(rt, alloc, second));
     set.into_shared(alloc).expect(rt, "memory")
 }
 
