@@ -1,7 +1,7 @@
 mod NumberSteps
 mod CutSteps
-mod FileLookups
-mod FileVerdicts
+mod FileLaws
+mod Refused
 mod ReadLines
 mod KeyFields
 mod Agreement

@@ -11,6 +11,7 @@ use Rattle.zone_script.specs.declared.script.Script.{Script}
 use Rattle.zone_script.specs.declared.script.ScriptError.{ScriptError}
 use Rattle.zone_script.specs.declared.script.ScriptError.TheVariants.{Line, Memory}
 use Rattle.zone_script.proofs.Agreement.{GivesAlike, script_alike}
+use Rattle.zone_script.proofs.FileLaws.{FileLaws}
 
 -- what a result says of the lines: the script that they give, or the line that they name
 pub record Tells (r : Result Script ScriptError) (x : Result Script ℕ) : Type 0 where
@@ -34,26 +35,26 @@ named_so x y n h e = at_err y (subst (λ z. GivesAlike z y) e h)
     at_err (Ok t) a = absurd a
     at_err (Err m) a = ap Err (sym a)
 
-pub reads : (r : Result Script ScriptError) (text : List ℕ) → Tells r (said text) → IfOk r (λ g. (t : scripts.Script TsigKey) × (script_of readers_so_far text ≡ Ok t) × Gives t g)
-reads (Ok g) text h = read_so (said text) (script_of readers_so_far text) g (script_alike text) h.ok
-reads (Err e) text h = tt
+pub reads : (laws : FileLaws) (r : Result Script ScriptError) (text : List ℕ) → Tells r (said text) → IfOk r (λ g. (t : scripts.Script TsigKey) × (script_of readers_so_far text ≡ Ok t) × Gives t g)
+reads laws (Ok g) text h = read_so (said text) (script_of readers_so_far text) g (script_alike laws text) h.ok
+reads laws (Err e) text h = tt
 
-pub names : (r : Result Script ScriptError) (text : List ℕ) → Tells r (said text) → IfErr r (λ e. IfSome (line_in e) (λ n. script_of readers_so_far text ≡ Err n))
-names (Ok g) text h = tt
-names (Err (Line n)) text h = named_so (said text) (script_of readers_so_far text) n (script_alike text) h.bad
-names (Err Memory) text h = tt
+pub names : (laws : FileLaws) (r : Result Script ScriptError) (text : List ℕ) → Tells r (said text) → IfErr r (λ e. IfSome (line_in e) (λ n. script_of readers_so_far text ≡ Err n))
+names laws (Ok g) text h = tt
+names laws (Err (Line n)) text h = named_so (said text) (script_of readers_so_far text) n (script_alike laws text) h.bad
+names laws (Err Memory) text h = tt
 
 same_line : (y : Result (scripts.Script TsigKey) ℕ) (m n : ℕ) → y ≡ Err m → y ≡ Err n → m ≡ n
 same_line y m n p q = cc
 
-pub only_names : (r : Result Script ScriptError) (text : List ℕ) → Tells r (said text) → (n : ℕ) → script_of readers_so_far text ≡ Err n → (r ≡ Err (Line n)) ⊎ (r ≡ Err Memory)
-only_names (Ok g) text h n e =
-    let found = read_so (said text) (script_of readers_so_far text) g (script_alike text) h.ok in
+pub only_names : (laws : FileLaws) (r : Result Script ScriptError) (text : List ℕ) → Tells r (said text) → (n : ℕ) → script_of readers_so_far text ≡ Err n → (r ≡ Err (Line n)) ⊎ (r ≡ Err Memory)
+only_names laws (Ok g) text h n e =
+    let found = read_so (said text) (script_of readers_so_far text) g (script_alike laws text) h.ok in
     let clash : Ok found.0 ≡ Err n = sym found.1 ∙ e in
     absurd cc
-only_names (Err (Line m)) text h n e =
-    inl (ap (λ k. Err (Line k)) (same_line (script_of readers_so_far text) m n (named_so (said text) (script_of readers_so_far text) m (script_alike text) h.bad) e))
-only_names (Err Memory) text h n e = inr refl
+only_names laws (Err (Line m)) text h n e =
+    inl (ap (λ k. Err (Line k)) (same_line (script_of readers_so_far text) m n (named_so (said text) (script_of readers_so_far text) m (script_alike laws text) h.bad) e))
+only_names laws (Err Memory) text h n e = inr refl
 
 -- at the end
 pub tells_at_end : (r : Result Script ScriptError) (k : Reading) (n : ℕ) (rest text : List ℕ) → IfOk r (λ g. finished k n ≡ Ok g) → IfErr r (λ e. IfSome (line_in e) (λ m. finished k n ≡ Err m)) → rest ≡ []

@@ -1,8 +1,15 @@
 -- The line that a refusal of a script names.
 use Rattle.std.specs.Prelude.{ℕ, Option, Some, None}
+use Rattle.zone_errors.specs.declared.errors.RecordError.{RecordError}
+use Rattle.zone_errors.specs.declared.errors.RecordError.TheVariants as refused
 use Rattle.zone_script.specs.declared.script.ScriptError.{ScriptError}
 use Rattle.zone_script.specs.declared.script.ScriptError.TheVariants.{Line, Memory}
 
 abbrev pub line_in : ScriptError → Option ℕ
 line_in (Line n) = Some n
 line_in Memory = None
+
+-- what the refusal of a line's record says of the script: its line, but want of memory stays that
+abbrev pub cause_of : ℕ → RecordError → ScriptError
+cause_of n refused.Memory = Memory
+cause_of n _ = Line n

@@ -1,16 +1,18 @@
 -- What the code keeps of a script as it reads it, and what it makes of each line.
-use Rattle.std.specs.Prelude.{◌≡◌, ℕ, ◌+◌, Bool, false, ◌&&◌, ◌||◌, not, ◌==◌, nat_le, nat_lt, if◌then◌else◌, List, [], ◌∷◌, ◌++◌, Option, Some, None, is_some, Result, Ok, Err}
+use Rattle.std.specs.Prelude.{◌≡◌, ℕ, ◌+◌, Bool, ◌&&◌, ◌||◌, not, ◌==◌, nat_le, nat_lt, if◌then◌else◌, List, [], ◌∷◌, ◌++◌, Option, Some, None, is_some, Result, Ok, Err}
 use Rattle.std.specs.Option.{option_or}
-use Rattle.dns_name.specs.Names.{Name, under}
+use Rattle.dns_name.specs.Names.{Name}
 use Rattle.dns_rdata.specs.Records.{Record}
 use Rattle.tsig_port.specs.Tsig.{TsigKey}
 use Rattle.zone_model.specs.Edits.{close}
 use Rattle.zone_model.specs.Commits.{Commit}
-use Rattle.zone_model.specs.Classify.{opened_with, opened}
+use Rattle.zone_model.specs.Classify.{BadRecord, opened}
+use Rattle.zone_records.specs.Parsed.{Parsed, empty_file, version_of}
+use Rattle.zone_records.specs.Taking.{take}
+use Rattle.zone_records.specs.Faults.{is_whole}
 use Rattle.zone_script.specs.Script as scripts
 use Rattle.zone_script.specs.Script.{script_lines, stage_of, is_once, is_skipped, read_line}
 use Rattle.zone_script.specs.ScriptReaders.{readers_so_far}
-use Rattle.zone_script.specs.ZoneFiles.{is_taken}
 use Rattle.zone_script.specs.declared.opening.OpeningZone.{OpeningZone}
 use Rattle.zone_script.specs.declared.reading.Zones.{Zones}
 use Rattle.zone_script.specs.declared.reading.Reading.{Reading}
@@ -18,25 +20,22 @@ use Rattle.zone_script.specs.declared.script.Script.{Script}
 
 -- a zone that opens without records
 abbrev pub empty_zone : Name → ℕ → OpeningZone
-empty_zone apex class = record { builder = record { apex = apex; class = class; sets = [] }; has_outside = false; last_line = 0 }
+empty_zone apex class = record { file = empty_file apex class; last_line = 0 }
 
 abbrev pub empty_zones : Name → ℕ → Zones
 empty_zones apex class = record { primary = empty_zone apex class; secondary = empty_zone apex class }
 
--- .. with one record more, at a line
-abbrev pub with_record : OpeningZone → ℕ → Record → OpeningZone
-with_record z n r = record {
-  builder = if under r.owner z.builder.apex then opened_with z.builder r else z.builder;
-  has_outside = z.has_outside || not (under r.owner z.builder.apex);
-  last_line = n;
-}
+-- .. with what its file is after a record, at a line
+abbrev pub with_file : ℕ → Result Parsed BadRecord → Result OpeningZone ℕ
+with_file n (Ok file) = Ok (record { file = file; last_line = n })
+with_file n (Err why) = Err n
 
 abbrev pub take_record : OpeningZone → ℕ → Record → Result OpeningZone ℕ
-take_record z n r = if is_taken z.builder r then Ok (with_record z n r) else Err n
+take_record z n r = with_file n (take z.file r)
 
--- the line that refuses the zone at its end, where an owner is outside
+-- the line that refuses a zone whose records make none
 abbrev pub refusal : OpeningZone → Option ℕ
-refusal z = if z.has_outside then Some z.last_line else None
+refusal z = if is_whole z.file then None else Some z.last_line
 
 abbrev pub zones_refusal : Option Zones → Option ℕ
 zones_refusal None = None
@@ -98,13 +97,13 @@ take_text k n text = if is_skipped text then Ok k else take_read k n (read_line 
 
 -- at the end
 abbrev pub commit_of : OpeningZone → Commit
-commit_of z = record { number = 0; version = close z.builder }
+commit_of z = record { number = 0; version = close (version_of z.file) }
 
 abbrev pub script_with : Reading → Zones → TsigKey → Script
 script_with k z key = record { key = key; at_primary = k.at_primary; at_secondary = k.at_secondary; primary = commit_of z.primary; secondary = commit_of z.secondary; queries = k.queries }
 
 abbrev pub script_from : Reading → ℕ → Option Zones → Option TsigKey → Result Script ℕ
-script_from k n (Some z) (Some key) = unless (refused_before k 7) (Ok (script_with k z key))
+script_from k n (Some z) (Some key) = unless (zones_refusal (Some z)) (Ok (script_with k z key))
 script_from k n _ _ = Err n
 
 abbrev pub finished : Reading → ℕ → Result Script ℕ

@@ -5,5 +5,4 @@ pub mod Words
 pub mod Generated
 pub mod Lines
 pub mod Causes
-pub mod ZoneFiles
 pub mod Keeping

@@ -1,10 +1,8 @@
 -- How the program's script reads names, records and keys: whole octets, without pointers.
-use Rattle.std.specs.Prelude.{ℕ, ◌==◌, ◌||◌, not, Bool, true, List, [], ◌∷◌, Option, Some, None, option_map, option_and_then, codes, bytes_eq, if◌then◌else◌}
+use Rattle.std.specs.Prelude.{ℕ, ◌==◌, not, true, List, [], ◌∷◌, Option, Some, None, option_map, option_and_then, codes, bytes_eq, if◌then◌else◌}
 use Rattle.std.specs.Result.{result_ok}
 use Rattle.dns_name.specs.Octets.{◌>>=◌}
 use Rattle.dns_name.specs.Compression.{name_in}
-use Rattle.dns_name.specs.Codes.{type_a, type_ns, type_soa}
-use Rattle.dns_rdata.specs.Records.{Record}
 use Rattle.dns_rdata.specs.Heads.{record_in}
 use Rattle.tsig_keys.specs.declared.algorithms.Algorithm.{Algorithm}
 use Rattle.tsig_keys.specs.declared.algorithms.Algorithm.TheVariants.{Sha1, Sha256, Sha384, Sha512}
@@ -41,12 +39,6 @@ key_of _ = None
 abbrev pub wire_readers : Readers TsigKey
 wire_readers = record { name = name_in; found = record_in; key = key_of; reads = λ stage. true }
 
--- ---- what is read so far: no edits; records of three types, A, NS and SOA
-abbrev pub is_read_type : ℕ → Bool
-is_read_type rtype = (rtype == type_a) || (rtype == type_ns) || (rtype == type_soa)
-
-abbrev pub record_so_far : List ℕ → Option Record
-record_so_far octets = option_and_then (λ (r : Record). if is_read_type r.rtype then Some r else None) (record_in octets)
-
+-- ---- what is read so far: no edits
 abbrev pub readers_so_far : Readers TsigKey
-readers_so_far = record { name = name_in; found = record_so_far; key = key_of; reads = λ stage. not (stage == 6) }
+readers_so_far = record wire_readers { reads = λ stage. not (stage == 6) }

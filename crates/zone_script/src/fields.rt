@@ -2,9 +2,10 @@
 ghost use Rattle.std.specs.Prelude.{◌≡◌, ◌^◌, ◌∷◌, [], ℕ, List, IfOk, IfSome, IfNone, option_map, option_and_then};
 ghost use Rattle.std.specs.Result.{result_ok};
 ghost use Rattle.dns_name.specs.Compression.{name_in};
+ghost use Rattle.dns_rdata.specs.Heads.{record_in};
 ghost use Rattle.tsig_port.specs.Tsig.{new_key};
 ghost use Rattle.zone_script.specs.Script as scripts;
-ghost use Rattle.zone_script.specs.ScriptReaders.{readers_so_far, record_so_far, key_of, algorithm_word, is_read_type as is_type_so_far, or_none};
+ghost use Rattle.zone_script.specs.ScriptReaders.{readers_so_far, key_of, algorithm_word, or_none};
 ghost use Rattle.zone_script.specs.Lines.{line_of, key_from, mac_len_field};
 
 use crate::lines::cut;
@@ -221,24 +222,18 @@ fn record_of_hex(alloc: Global, field: &[u8]) -> Result<Option<StoredRecord>, Al
     }
 }
 
-/// The record of a type read so far that the octets spell.
+/// The record that the octets spell, unless its type is one of questions or signatures alone, 250 to 255 (RFC 6895, 3.1).
 fn record_of_octets(alloc: Global, octets: &[u8]) -> Result<Option<StoredRecord>, AllocError>
-    ensures { IfOk result (λ r. r ≡ record_so_far octets.now) }
+    ensures { IfOk result (λ r. r ≡ option_and_then scripts.data_only (record_in octets.now)) }
 {
     let Ok(found) = record_from_octets(octets) else {
         return Ok(None);
     };
-    if !is_read_type(found.rtype()) {
+    let number = found.rtype().to_int();
+    if 250 <= number && number <= 255 {
         return Ok(None);
     }
     Ok(Some(found.flatten(alloc)?))
-}
-
-/// Whether records of a type are read so far.
-fn is_read_type(rtype: Rtype) -> bool
-    ensures { result ≡ is_type_so_far rtype }
-{
-    rtype == Rtype::A || rtype == Rtype::NS || rtype == Rtype::SOA
 }
 
 /// A name in wire form without pointers, as hexadecimal digits.

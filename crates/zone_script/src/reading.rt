@@ -33,7 +33,7 @@ impl Zones {
         })
     }
 
-    /// The line that refuses one of them, where an owner is outside; the primary's before the secondary's.
+    /// The line that refuses one of them, where its records make no zone; the primary's before the secondary's.
     fn refusal(&self) -> Option<u64>
         ensures { result ≡ keeping.zones_refusal (Some self.now) }
     {
@@ -162,18 +162,15 @@ impl Reading {
         ensures ok { IfOk result (λ s. keeping.finished self number ≡ Ok s) }
         ensures bad { IfErr result (λ e. IfSome (line_in e) (λ n. keeping.finished self number ≡ Err n)) }
     {
-        let refused = self.refused_before(7);
         let (Some(zones), Some(key)) = (self.zones, self.key) else {
             return Err(ScriptError::Line(number));
         };
-        if let Some(line) = refused {
-            return Err(ScriptError::Line(line));
-        }
+        let primary = zones.primary.build()?;
         Ok(Script {
             key,
             at_primary: self.at_primary,
             at_secondary: self.at_secondary,
-            primary: zones.primary.build()?,
+            primary,
             secondary: zones.secondary.build()?,
             queries: self.queries,
         })

@@ -12,6 +12,7 @@ use crate::reading::Reading;
 use std::alloc::{AllocError, Global};
 use thiserror::Error;
 use tsig_port::{Key, Time48};
+use zone_records::zone_files_open;
 use zone_sessions::ZoneApex;
 
 /// What a script says.
@@ -61,6 +62,8 @@ pub fn parse(alloc: Global, text: &[u8]) -> Result<Script, ScriptError>
     ensures bad { IfErr result (λ e. IfSome (line_in e) (λ n. scripts.script_of readers_so_far text.now ≡ Err n)) }
     ensures only_bad { (n : ℕ) → scripts.script_of readers_so_far text.now ≡ Err n → (result ≡ Err (ScriptError.Line n)) ⊎ (result ≡ Err ScriptError.Memory) }
 {
+    // For the proof: what is held of a zone file takes, refuses and makes what the file does.
+    zone_files_open();
     let mut reading = Reading::new(alloc);
     let mut rest = text;
     let mut number = 1u64;
