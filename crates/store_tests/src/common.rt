@@ -8,7 +8,7 @@ use std::alloc::Global;
 use std::fmt::{self, Debug, Write};
 use std::process::Abort;
 use zone_store::{WriteZone, ZoneApex};
-use zone_types::{InMemoryZoneDiff, Rrset, SharedRrset, ZoneDiff, ZoneDiffItem};
+use zone_types::{AnswerRecords, InMemoryZoneDiff, Rrset, SharedRrset, ZoneDiff, ZoneDiffItem};
 
 pub(crate) const APEX: &[u8] = b"\x07example\x00";
 
@@ -97,6 +97,16 @@ pub(crate) fn soa<R: Abort>(rt: &R, alloc: Global, serial: u32) -> Soa<StoredNam
     let serial = Serial::from(serial);
     let time = Ttl::from_int(1);
     Soa::new(primary, mailbox, serial, time, time, time, time)
+}
+
+/// How many records a section of an answer has.
+pub(crate) fn count_records(section: AnswerRecords<'_>) -> usize {
+    let mut number = 0_usize;
+    for record in section {
+        number = number.saturating_add(1);
+        drop(record);
+    }
+    number
 }
 
 /// The set of one record.
