@@ -1,19 +1,22 @@
 #!/usr/bin/python3
 """Turns a zone's master file into a script for zonesync, and a report of zonesync back into master-file text.
 
-usage: tools/zone_text.py script ORIGIN MASTER [SECONDARY] > script
+usage: tools/zone_text.py script ORIGIN MASTER [SECONDARY] [--query NAME TYPE].. > script
        tools/zone_text.py zone < report
 
 It needs dnspython, by Debian's package for Debian's own Python: apt-get update && apt-get install -y python3-dnspython
 
 `script` reads a master file (RFC 1035, 5) of the zone ORIGIN, in class IN, whose records the primary has, and where it is named one whose records the
-secondary begins with. The SOA record comes first, the others in canonical order. The key is a sample key. `zone` prints each record that the
-report shows in the text form of its type (RFC 1035, 5.1), types without one as RFC 3597, 5 has them, and the report's other lines as
-comments. docs/SCRIPT.md says what script and report are.
+secondary begins with. The SOA record comes first, the others in canonical order. The key is a sample key. Each `--query` is a question to the
+secondary, a name below ORIGIN or one that ends with a dot. `zone` prints each record that the report shows in the text form of its type
+(RFC 1035, 5.1), types and data without one as RFC 3597, 5 has them, and the report's other lines as comments. docs/SCRIPT.md says what script
+and report are, docs/example.zone is a master file.
 """
 
+import argparse
 import sys
 
+import dns.exception
 import dns.name
 import dns.rdata
 import dns.rdataclass
@@ -38,20 +41,30 @@ def lines_of(word, origin, path):
     return [f"{word} {wire(*it).hex()}" for it in found]
 
 
-def print_script(origin, primary, secondary=None):
+def print_script(origin, primary, secondary, questions):
     name = dns.name.from_text(origin)
     print(f"zone {name.to_wire().hex()} 1", KEY, sep="\n")
     print(*lines_of("p", name, primary), sep="\n")
     if secondary:
         print(*lines_of("s", name, secondary), sep="\n")
+    for qname, qtype in questions:
+        print(f"query {dns.name.from_text(qname, name).to_wire().hex()} {int(dns.rdatatype.from_text(qtype))}")
+
+
+def data_of(rclass, rtype, octets):
+    """Data of a type, or as they are where they don't fit the type."""
+    try:
+        return dns.rdata.from_wire(rclass, rtype, octets, 0, len(octets))
+    except dns.exception.DNSException:
+        return dns.rdata.GenericRdata(rclass, rtype, octets)
 
 
 def text_of(octets):
     """One record as text."""
     owner, used = dns.name.from_wire(octets, 0)
     rtype, rclass, ttl, length = (int.from_bytes(octets[used + at : used + at + size], "big") for at, size in ((0, 2), (2, 2), (4, 4), (8, 2)))
-    data = dns.rdata.from_wire(rclass, rtype, octets, used + 10, length)
-    return f"{owner}\t{ttl}\t{dns.rdataclass.to_text(rclass)}\t{dns.rdatatype.to_text(rtype)}\t{data}"
+    data = data_of(rclass, rtype, octets[used + 10 : used + 10 + length])
+    return f"{owner} {ttl} {dns.rdataclass.to_text(rclass)} {dns.rdatatype.to_text(rtype)} {data}"
 
 
 def print_zone(report):
@@ -65,16 +78,21 @@ def print_zone(report):
             print(f"; {line.rstrip()}")
 
 
-def main(words):
-    if words == ["zone"]:
+def main():
+    parser = argparse.ArgumentParser(description=__doc__, formatter_class=argparse.RawDescriptionHelpFormatter)
+    ways = parser.add_subparsers(dest="way", required=True)
+    script = ways.add_parser("script")
+    script.add_argument("origin")
+    script.add_argument("master")
+    script.add_argument("secondary", nargs="?")
+    script.add_argument("--query", nargs=2, action="append", default=[], metavar=("NAME", "TYPE"))
+    ways.add_parser("zone")
+    words = parser.parse_args()
+    if words.way == "zone":
         print_zone(sys.stdin)
-    elif words[:1] == ["script"] and 3 <= len(words) <= 4:
-        print_script(*words[1:])
     else:
-        print(__doc__, file=sys.stderr)
-        return 2
-    return 0
+        print_script(words.origin, words.master, words.secondary, words.query)
 
 
 if __name__ == "__main__":
-    sys.exit(main(sys.argv[1:]))
+    main()

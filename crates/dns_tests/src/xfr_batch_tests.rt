@@ -149,6 +149,33 @@ fn a_thousand_short_texts_are_one_message(rt: HostRuntime) {
     drop(batcher);
 }
 
+/// Id 1000, opcode 0, RD, and two questions: for `a` and for `example`, each of type AXFR in class IN.
+const TWO_QUESTIONS: &[u8] = b"\x03\xe8\x01\x00\x00\x02\x00\x00\x00\x00\x00\x00\
+\x01a\x00\x00\xfc\x00\x01\x07example\x00\x00\xfc\x00\x01";
+
+/// The same with QR.
+const BEGUN: &[u8] = b"\x03\xe8\x81\x00\x00\x02\x00\x00\x00\x00\x00\x00\
+\x01a\x00\x00\xfc\x00\x01\x07example\x00\x00\xfc\x00\x01";
+
+#[test]
+fn a_message_begins_with_its_request(rt: HostRuntime) {
+    let batcher = new_counter(&rt, rt.alloc());
+    let request = Message::from_octets(TWO_QUESTIONS).expect(&rt, "a header");
+    let begun = batcher.mk_answer_builder(&request);
+    let begun = begun.expect(&rt, "an answer");
+    let header = begun.header();
+    is(&rt, (header.id, header.qr), (1000, true));
+    is(
+        &rt,
+        (begun.counts().qdcount, begun.counts().ancount),
+        (2, 0),
+    );
+    is(&rt, begun.as_slice(), BEGUN);
+    drop(begun);
+    has_counted(&rt, &batcher, 0, (0, 0));
+    drop(batcher);
+}
+
 /// Pushes such a record to a transfer's batcher, and tells what refused it.
 fn refusal<R: Abort>(
     rt: &R,

@@ -2,13 +2,13 @@
 
 use dns_name::{Class, NameRef, Rtype, Serial, StoredName, Ttl};
 use dns_rdata::{
-    A, Cname, Ns, Record, RecordData, Soa, StoredRecord, StoredRecordData, ZoneRecordData,
+    A, Cname, Ds, Ns, Record, RecordData, Soa, StoredRecord, StoredRecordData, ZoneRecordData,
 };
 use std::alloc::Global;
 use std::fmt::{self, Debug, Write};
 use std::process::Abort;
 use zone_store::{WriteZone, ZoneApex};
-use zone_types::{InMemoryZoneDiff, Rrset, SharedRrset, ZoneDiff, ZoneDiffItem};
+use zone_types::{AnswerRecords, InMemoryZoneDiff, Rrset, SharedRrset, ZoneDiff, ZoneDiffItem};
 
 pub(crate) const APEX: &[u8] = b"\x07example\x00";
 
@@ -81,12 +81,32 @@ pub(crate) fn server<R: Abort>(
     record_of(rt, alloc, owner, ttl, data)
 }
 
+/// A DS record.
+pub(crate) fn signer<R: Abort>(rt: &R, alloc: Global, owner: &[u8]) -> StoredRecord {
+    let digest = Ds::new(1, 8, 2, b"digest".as_slice());
+    let data: ZoneRecordData<&[u8], StoredName> = ZoneRecordData::Ds(
+        digest.ok().expect(rt, "short data"),
+    );
+    let data = data.flatten(alloc).expect(rt, "memory");
+    record_of(rt, alloc, owner, 60, data)
+}
+
 pub(crate) fn soa<R: Abort>(rt: &R, alloc: Global, serial: u32) -> Soa<StoredName> {
     let primary = name(rt, alloc, SERVER);
     let mailbox = name(rt, alloc, b"\x04host\x07example\x00");
     let serial = Serial::from(serial);
     let time = Ttl::from_int(1);
     Soa::new(primary, mailbox, serial, time, time, time, time)
+}
+
+/// How many records a section of an answer has.
+pub(crate) fn count_records(section: AnswerRecords<'_>) -> usize {
+    let mut number = 0_usize;
+    for record in section {
+        number = number.saturating_add(1);
+        drop(record);
+    }
+    number
 }
 
 /// The set of one record.
@@ -113,6 +133,14 @@ pub(crate) fn three<R: Abort>(rt: &R, alloc: Global, ttl: u32) -> SharedRrset {
     push(rt, &mut set, host(1));
     push(rt, &mut set, host(2));
     push(rt, &mut set, host(3));
+    set.into_shared(alloc).expect(rt, "memory")
+}
+
+/// Two aliases of one name.
+pub(crate) fn aliases<R: Abort>(rt: &R, alloc: Global, first: &[u8], second: &[u8]) -> SharedRrset {
+    let mut set = Rrset::new(alloc, Rtype::CNAME, Ttl::from_int(30));
+    push(rt, &mut set, target(rt, alloc, first));
+    push(rt, &mut set, target(rt, alloc, second));
     set.into_shared(alloc).expect(rt, "memory")
 }
 

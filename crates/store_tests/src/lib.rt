@@ -2,6 +2,8 @@
 #![tactic(auto)]
 
 #[cfg(test)]
+mod builder_tests;
+#[cfg(test)]
 mod commit_tests;
 #[cfg(test)]
 mod common;
@@ -15,6 +17,8 @@ mod draft_tests;
 mod error_tests;
 #[cfg(test)]
 mod node_tests;
+#[cfg(test)]
+mod opening_tests;
 #[cfg(test)]
 mod session_tests;
 #[cfg(test)]

@@ -1,6 +1,6 @@
 // Node calls on one zone.
 
-use crate::common::{address, commit, filled, host, is, name, push, target};
+use crate::common::{address, aliases, commit, filled, host, is, name, push, target};
 use dns_name::{Label, NameRef, Rtype, Ttl};
 use dns_rdata::{Ns, ZoneRecordData};
 use std::alloc::Global;
@@ -19,13 +19,6 @@ fn hosts<R: Abort>(rt: &R, alloc: Global, first: u8, second: u8) -> SharedRrset 
     let mut set = Rrset::new(alloc, Rtype::A, Ttl::from_int(30));
     push(rt, &mut set, host(first));
     push(rt, &mut set, host(second));
-    set.into_shared(alloc).expect(rt, "memory")
-}
-
-fn aliases<R: Abort>(rt: &R, alloc: Global, first: &[u8], second: &[u8]) -> SharedRrset {
-    let mut set = Rrset::new(alloc, Rtype::CNAME, Ttl::from_int(30));
-    push(rt, &mut set, target(rt, alloc, first));
-    push(rt, &mut set, target(rt, alloc, second));
     set.into_shared(alloc).expect(rt, "memory")
 }
 

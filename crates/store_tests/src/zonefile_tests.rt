@@ -1,17 +1,17 @@
 // Zone files: which records are taken, and what is told of the others and of files that make no zone.
 
-use crate::common::{APEX, HOST, SERVER, address, alias, is, name, says, server, soa};
-use dns_name::{Class, Rtype, StoredName, ToName, Ttl};
-use dns_rdata::{Ds, Record, StoredRecord, StoredRecordData, Txt, ZoneRecordData};
+use crate::common::{APEX, HOST, SERVER, address, alias, is, name, says, server, signer, soa};
+use dns_name::{Class, Rtype, ToName, Ttl};
+use dns_rdata::{Record, StoredRecord, StoredRecordData, Txt, ZoneRecordData};
 use std::alloc::Global;
 use std::process::Abort;
 use zone_file::Zonefile;
 
-const CUT: &[u8] = b"\x01c\x07example\x00";
+pub(crate) const CUT: &[u8] = b"\x01c\x07example\x00";
 
-const OTHER: &[u8] = b"\x01d\x07EXAMPLE\x00";
+pub(crate) const OTHER: &[u8] = b"\x01d\x07EXAMPLE\x00";
 
-fn of_class<R: Abort>(
+pub(crate) fn of_class<R: Abort>(
     rt: &R,
     alloc: Global,
     owner: &[u8],
@@ -22,29 +22,19 @@ fn of_class<R: Abort>(
     Record::new(owner, Class::from_int(class), Ttl::from_int(60), data)
 }
 
-/// A DS record.
-fn signer<R: Abort>(rt: &R, alloc: Global, owner: &[u8]) -> StoredRecord {
-    let digest = Ds::new(1, 8, 2, b"digest".as_slice());
-    let data: ZoneRecordData<&[u8], StoredName> = ZoneRecordData::Ds(
-        digest.ok().expect(rt, "short data"),
-    );
-    let data = data.flatten(alloc).expect(rt, "memory");
-    of_class(rt, alloc, owner, 1, data)
-}
-
 /// A TXT record of a class.
-fn text<R: Abort>(rt: &R, alloc: Global, owner: &[u8], class: u16) -> StoredRecord {
+pub(crate) fn text<R: Abort>(rt: &R, alloc: Global, owner: &[u8], class: u16) -> StoredRecord {
     let data = Txt::build_from_slice(alloc, b"text").ok();
     let data = ZoneRecordData::Txt(data.expect(rt, "short data"));
     of_class(rt, alloc, owner, class, data)
 }
 
 /// A file of the zone `example.` without records.
-fn file<R: Abort>(rt: &R, alloc: Global) -> Zonefile {
+pub(crate) fn file<R: Abort>(rt: &R, alloc: Global) -> Zonefile {
     Zonefile::new(alloc, name(rt, alloc, APEX), Class::IN)
 }
 
-fn takes<R: Abort>(rt: &R, file: &mut Zonefile, found: StoredRecord) {
+pub(crate) fn takes<R: Abort>(rt: &R, file: &mut Zonefile, found: StoredRecord) {
     file.insert(found).expect(rt, "a record that is taken");
 }
 

@@ -11,7 +11,7 @@ use Rattle.std.proofs.lemmas.List.Elements.{All-nil, All-cons, All-head, All-tai
 use Rattle.dns_name.specs.Names.{Name, fold}
 use Rattle.zone_model.specs.Zones.{ZoneKey, Zones, zone_key_cmp, zone_of}
 use Rattle.zone_model.proofs.Folded.{fold-fold}
-use Rattle.zone_tree.specs.KeyOrder.{zone_key_total}
+use Rattle.zone_tree.proofs.KeyOrder.{zone_key_total}
 use Rattle.zone_tree.specs.Trees.{SameElsewhere}
 use Rattle.zone_tree.proofs.Keys.{keys_tie, IsPlaced, apart_is, apart_back}
 

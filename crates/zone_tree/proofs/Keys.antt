@@ -10,7 +10,7 @@ use Rattle.dns_name.specs.NameOrder.{canonical_ties}
 use Rattle.dns_name.proofs.FoldedLabels.{equal_names}
 use Rattle.zone_model.specs.Zones.{ZoneKey, Zones, zone_key_cmp, zone_of}
 use Rattle.zone_model.proofs.Folded.{fold-fold}
-use Rattle.zone_tree.specs.KeyOrder.{zone_key_total}
+use Rattle.zone_tree.proofs.KeyOrder.{zone_key_total}
 use Rattle.zone_tree.specs.Trees.{key_of}
 
 -- ---- keys that tie

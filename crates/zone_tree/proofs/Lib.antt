@@ -1,3 +1,4 @@
+pub mod KeyOrder
 pub mod Keys
 pub mod Nearest
 pub mod Edited

@@ -1,3 +1,2 @@
-pub mod KeyOrder
 pub mod Trees
 pub mod Refusals

@@ -13,7 +13,7 @@ ghost use Rattle.zone_values.specs.declared.errors.ZoneTreeModificationError.The
 use crate::at_apex::AtApex;
 use crate::errors::InsertZoneError;
 use crate::iter::ZoneSetIter;
-use crate::zone_key::ZoneKey;
+use crate::zone_key::{ZoneKey, zone_key};
 use dns_name::{Class, KeyName, Labelled};
 use std::alloc::Global;
 use std::collections::BTreeMap;
@@ -52,7 +52,7 @@ impl<Z: AtApex> ZoneTree<Z> {
         ensures is { option_copied result ≡ zone_of self.now class (N.labels apex_name.now) }
         ensures tree { IsZoneTree Z.class_of Z.apex_of self.now }
     {
-        self.entries.get(&ZoneKey::new(class, apex_name))
+        self.entries.get(&zone_key(class, apex_name))
     }
 
     /// The zone of a class that a name lies in: of those whose apex is the name or above it, the one whose apex is nearest to the name
@@ -116,7 +116,7 @@ impl<Z: AtApex + Drop> ZoneTree<Z> {
     fn is_taken(&self, zone: &Z) -> bool
         ensures { result ≡ is_some (zone_of self.now (Z.class_of zone.now) (Z.apex_of zone.now)) }
     {
-        let key = ZoneKey::new(zone.class(), zone.apex_name());
+        let key = zone_key(zone.class(), zone.apex_name());
         self.entries.contains_key(&key)
     }
 
@@ -129,7 +129,7 @@ impl<Z: AtApex + Drop> ZoneTree<Z> {
         ensures err { OnErr result (self.new ≡ self.old) }
         ensures returned { IfErr result (λ z. z ≡ zone) }
     {
-        let key = ZoneKey::new(zone.class(), zone.apex_name());
+        let key = zone_key(zone.class(), zone.apex_name());
         put_at(&mut self.entries, key, zone)
     }
 
@@ -162,7 +162,7 @@ impl<Z: AtApex + Drop> ZoneTree<Z> {
         ensures others { SameElsewhere class (N.labels apex_name.now) self.old self.new }
         ensures none { IfNone result (self.new ≡ self.old) }
     {
-        let key = ZoneKey::new(class, apex_name);
+        let key = zone_key(class, apex_name);
         self.entries.remove(&key)
     }
 }

@@ -12,11 +12,11 @@ pub invariant_of-self : goal.invariant_of-self
 invariant_of-self g c =
     let z = g.Z.AtApex in
     let zone = c.args.zone in
-    let key : c.new-key.result ≡ key_of z.class_of z.apex_of zone = c.new-key.ensures ∙ (λ i. (c.class.ensures i, fold (c.apex_name.ensures i))) in
+    let key : c.zone_key-key.result ≡ key_of z.class_of z.apex_of zone = c.zone_key-key.ensures ∙ (λ i. (c.class.ensures i, fold (c.apex_name.ensures i))) in
     record {
       ordered = c.put_at.ensures.ordered;
       placed = of_both c.put_at.result _ _ (All (IsPlaced z.class_of z.apex_of) c.put_at.new.entries.entries) c.put_at.ensures.ok c.put_at.ensures.err
-          (λ e. subst (All (IsPlaced z.class_of z.apex_of)) (sym e) (placed_inserted z.class_of z.apex_of c.self.inside.entries.entries c.new-key.result zone key c.self.invariant.placed))
+          (λ e. subst (All (IsPlaced z.class_of z.apex_of)) (sym e) (placed_inserted z.class_of z.apex_of c.self.inside.entries.entries c.zone_key-key.result zone key c.self.invariant.placed))
           (λ e. subst (All (IsPlaced z.class_of z.apex_of)) (sym e) c.self.invariant.placed);
     }
 
@@ -24,7 +24,7 @@ pub returns-clause-ok : goal.returns-clause-ok
 returns-clause-ok g c =
     let z = g.Z.AtApex in
     let zone = c.args.zone in
-    let key : c.new-key.result ≡ key_of z.class_of z.apex_of zone = c.new-key.ensures ∙ (λ i. (c.class.ensures i, fold (c.apex_name.ensures i))) in
+    let key : c.zone_key-key.result ≡ key_of z.class_of z.apex_of zone = c.zone_key-key.ensures ∙ (λ i. (c.class.ensures i, fold (c.apex_name.ensures i))) in
     on_ok c.put_at.result _ _ c.put_at.ensures.ok
     (λ e. e ∙ ap (λ k. insert_entry zone_key_cmp c.self.inside.entries.entries k zone) key ∙ ap (λ es. insert_entry zone_key_cmp es (key_of z.class_of z.apex_of zone) zone) c.self.view_is)
 
@@ -33,7 +33,7 @@ pub returns-clause-stands : goal.returns-clause-stands
 returns-clause-stands g c =
     let z = g.Z.AtApex in
     let zone = c.args.zone in
-    let key : c.new-key.result ≡ key_of z.class_of z.apex_of zone = c.new-key.ensures ∙ (λ i. (c.class.ensures i, fold (c.apex_name.ensures i))) in
+    let key : c.zone_key-key.result ≡ key_of z.class_of z.apex_of zone = c.zone_key-key.ensures ∙ (λ i. (c.class.ensures i, fold (c.apex_name.ensures i))) in
     on_ok c.put_at.result _ _ c.put_at.ensures.ok
     (λ e. ap (λ es. zone_of es (z.class_of zone) (z.apex_of zone)) (e ∙ ap (λ k. insert_entry zone_key_cmp c.self.inside.entries.entries k zone) key)
     ∙ inserted_there c.self.inside.entries.entries (key_of z.class_of z.apex_of zone) zone)
@@ -43,7 +43,7 @@ pub returns-clause-others : goal.returns-clause-others
 returns-clause-others g c = λ q n apart.
     let z = g.Z.AtApex in
     let zone = c.args.zone in
-    let key : c.new-key.result ≡ key_of z.class_of z.apex_of zone = c.new-key.ensures ∙ (λ i. (c.class.ensures i, fold (c.apex_name.ensures i))) in
+    let key : c.zone_key-key.result ≡ key_of z.class_of z.apex_of zone = c.zone_key-key.ensures ∙ (λ i. (c.class.ensures i, fold (c.apex_name.ensures i))) in
     of_both c.put_at.result _ _ (zone_of c.put_at.new.entries.entries q n ≡ zone_of c.self.inside.entries.entries q n) c.put_at.ensures.ok c.put_at.ensures.err
     (λ e. ap (λ es. zone_of es q n) (e ∙ ap (λ k. insert_entry zone_key_cmp c.self.inside.entries.entries k zone) key) ∙ inserted_others c.self.inside.entries.entries (z.class_of zone) (z.apex_of zone) zone q n apart)
     (λ e. ap (λ es. zone_of es q n) e)
