@@ -96,8 +96,6 @@ fn a_whole_file_opens_as_a_builder(rt: HostRuntime) {
     let apex = name(&rt, alloc, APEX);
     is(&rt, builder.apex().name_eq(&apex), true);
     is(&rt, builder.class(), Class::IN);
-    is(&rt, builder.has_set(&apex, Rtype::SOA), true);
-    is(&rt, builder.has_set(&apex, Rtype::MX), false);
     drop(apex);
     let again = builder.insert(address(&rt, alloc, HOST, 900, 2));
     is(&rt, again, Ok(()));

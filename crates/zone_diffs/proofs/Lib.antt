@@ -1,3 +1,4 @@
 mod Data
 mod Entries
 mod Finding
+mod Cancelling

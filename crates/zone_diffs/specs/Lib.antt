@@ -1,3 +1,4 @@
 pub mod Building
 pub mod Kept
 pub mod DiffRows
+pub mod Sided

@@ -22,10 +22,12 @@ pub fn cancelled_records()
     ensures any_case { removed_from (added_to nothing www_alias (set 60 (alias (codes "ns") ∷ []))) www_alias (set 60 (alias (codes "NS") ∷ [])) ≡ nothing }
 {}
 
-/// One side.
+/// Each side keeps the TTL that its set began with: where an RRset comes with another one, a record may then be on both.
 pub fn sides()
     ensures first_ttl { (added_to (added_to nothing host_a (set 60 (host 1 ∷ []))) host_a (set 90 (host 1 ∷ host 2 ∷ []))).added ≡ (host_a, set 60 (host 1 ∷ host 2 ∷ [])) ∷ [] }
     ensures once { (removed_from nothing host_a (set 60 (host 1 ∷ host 2 ∷ host 1 ∷ []))).removed ≡ (host_a, set 60 (host 1 ∷ host 2 ∷ [])) ∷ [] }
+    ensures on_one_side { added_to (added_to (removed_from nothing host_a (set 60 (host 1 ∷ []))) host_a (set 60 (host 2 ∷ []))) host_a (set 60 (host 1 ∷ [])) ≡ record { removed = []; added = (host_a, set 60 (host 2 ∷ [])) ∷ [] } }
+    ensures on_both_sides { added_to (added_to (removed_from nothing host_a (set 60 (host 1 ∷ []))) host_a (set 60 (host 2 ∷ []))) host_a (set 90 (host 1 ∷ [])) ≡ record { removed = (host_a, set 60 (host 1 ∷ [])) ∷ []; added = (host_a, set 60 (host 2 ∷ host 1 ∷ [])) ∷ [] } }
     ensures empty { added_to nothing host_a (set 60 []) ≡ nothing }
     ensures found { typed_set_in (added_to nothing host_a (hosts 60)).added host_a ≡ Some (typed 1 (hosts 60)) }
     ensures lacking { typed_set_in (added_to nothing host_a (hosts 60)).added apex_soa ≡ None }

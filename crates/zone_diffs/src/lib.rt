@@ -5,6 +5,7 @@ mod builder;
 mod diff;
 mod errors;
 mod examples;
+mod laws;
 mod rrsets;
 mod sets;
 mod traits;

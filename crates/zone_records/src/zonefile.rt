@@ -278,7 +278,8 @@ impl Zonefile {
         }
     }
 
-    /// The version that the records make, or all that keeps them from making one (`faults`).
+    /// The version that the records make, which is sound; or all that keeps them from making one, in the order of `faults` and at least one,
+    /// or want of memory. The file is gone either way; the RRsets move, and none is copied.
     #[tactic(auto, using(crate::proofs::SoundFiles::no_faults))]
     pub fn into_version(self) -> Result<ZoneVersion, FileError<ContextError>>
         ensures ok { IfOk result (λ v. (faults self ≡ []) × (v ≡ version_of self)) }
@@ -295,7 +296,6 @@ impl Zonefile {
     }
 
     /// The version that the records make.
-    #[tactic(auto, using(crate::proofs::SoundFiles::makes_sound))]
     fn joined(self) -> Result<ZoneVersion, AllocError>
         requires { faults self ≡ [] }
         ensures { IfOk result (λ v. v ≡ version_of self) }

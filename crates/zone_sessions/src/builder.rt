@@ -1,6 +1,5 @@
 // How a zone opens.
-ghost use Rattle.std.specs.Prelude.{◌≡◌, ◌↔◌, ◌==◌, [], true, false, length, Ok, Err, OnOk, OnErr, IfOk, IfSome, IsOk, is_some, option_map};
-ghost use Rattle.zone_model.specs.Version.{set_at, below_apex};
+ghost use Rattle.std.specs.Prelude.{◌≡◌, ◌↔◌, ◌==◌, [], true, false, length, Ok, Err, OnOk, OnErr, IfOk, IfSome, IsOk, option_map};
 ghost use Rattle.dns_name.specs.Names.{under, same_name};
 ghost use Rattle.dns_name.specs.Codes.{type_cname, type_ns, type_ds};
 ghost use Rattle.zone_model.specs.Classify.{opened_with};
@@ -10,7 +9,7 @@ ghost use Rattle.zone_versions.specs.Puts.{adds_alias};
 
 use crate::apex::ZoneApex;
 use crate::read::ReadZone;
-use dns_name::{Class, KeyName, Labelled, Rtype, StoredName, ToName};
+use dns_name::{Class, KeyName, Labelled, StoredName};
 use dns_rdata::StoredRecord;
 use std::alloc::{AllocError, Global};
 use std::marker::Model;
@@ -58,27 +57,6 @@ impl ZoneBuilder {
         ensures { result ≡ self.now.class }
     {
         self.version.class()
-    }
-
-    /// Whether an owner has a set of a type.
-    pub fn has_set<N: Labelled>(&self, owner: &N, rtype: Rtype) -> bool
-        ensures { result ≡ is_some (set_at self.now (N.labels owner.now) rtype) }
-    {
-        self.version.has_set(owner, rtype)
-    }
-
-    /// Whether a name is below the apex.
-    pub fn is_below_apex<N: ToName>(&self, name: &N) -> bool
-        ensures { result ≡ below_apex self.now (N.labels name.now) }
-    {
-        self.version.is_below_apex(name)
-    }
-
-    /// Whether a record would be one more CNAME of a name below the apex that has one, equal data too (RFC 2181, 10.1).
-    pub fn is_second_alias(&self, added: &StoredRecord) -> bool
-        ensures { result ≡ edits.second_alias self.now added.now }
-    {
-        self.version.is_second_alias(added)
     }
 
     /// Puts a record: data that the set has already are not put again, and the lower TTL of set and record becomes the set's (RFC 2181, 5). The
