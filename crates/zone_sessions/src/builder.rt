@@ -9,7 +9,7 @@ ghost use Rattle.zone_versions.specs.Puts.{adds_alias};
 
 use crate::apex::ZoneApex;
 use crate::read::ReadZone;
-use dns_name::{Class, KeyName, Labelled, StoredName};
+use dns_name::{Class, KeyName, Labelled, StoredName, ToName};
 use dns_rdata::StoredRecord;
 use std::alloc::{AllocError, Global};
 use std::marker::Model;
