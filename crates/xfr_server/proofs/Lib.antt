@@ -1,3 +1,4 @@
+pub mod Outdated
 pub mod Granted
 pub mod Headers
 pub mod Answers

@@ -3,6 +3,7 @@
 #![tactic(auto)]
 
 mod examples;
+mod kept_diffs;
 mod laws;
 pub mod providers;
 mod replies;

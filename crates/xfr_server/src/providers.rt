@@ -1,43 +1,64 @@
 // Who may have which zone.
-ghost use Rattle.std.specs.Prelude.{◌≡◌, ◌++◌, ◌∷◌, [], ℕ, false, OnOk, OnErr, Some, option_map};
+ghost use Rattle.std.specs.Prelude.{◌≡◌, ◌++◌, ◌∷◌, [], ℕ, false, IfOk, OnOk, OnErr, Some, map, option_map};
 ghost use Rattle.std.specs.Prelude.{◌&&◌, ◌==◌};
+ghost use Rattle.std.specs.Arc.{arc_value};
 ghost use Rattle.std.specs.List.{list_any};
 ghost use Rattle.dns_name.specs.Names.{same_name};
-ghost use Rattle.zone_model.specs.Offer.{is_granted};
+ghost use Rattle.zone_model.specs.Offer.{MayPush, after_push, is_granted, offer_of};
 ghost use Rattle.xfr_server.specs.Offers.{algorithm_number, key_id};
 
+use crate::kept_diffs::KeptDiffs;
 use dns_name::{KeyName, ParseError, ParsedName, Serial, ToName};
 use dns_wire::Question;
 use std::alloc::{AllocError, Global};
 use std::marker::Model;
+use std::sync::Arc;
 use thiserror::Error;
 use tsig_port::{Algorithm, Key, KeyRef};
 use xfr_services::Request;
+use zone_diffs::InMemoryZoneDiff;
 use zone_sessions::ReadZone;
 
-/// What a provider gives for a transfer: one version of a zone, and how its messages are filled. Contracts see an offer.
+/// What a provider gives for a transfer: one version of a zone, the differences that lead to it, and how its messages are filled. Contracts
+/// see an offer.
 #[derive(Drop)]
 pub struct XfrData {
     zone: ReadZone,
+    diffs: Vec<Arc<InMemoryZoneDiff>>,
     compatibility_mode: bool,
 }
 
 impl Model for XfrData {
-    ghost use Rattle.std.specs.Prelude.{[]};
+    ghost use Rattle.std.specs.Prelude.{map};
+    ghost use Rattle.std.specs.Arc.{arc_value};
     ghost use Rattle.zone_model.specs.Offer.{Offer};
 
     ghost Value = { Offer };
 
-    ghost view = { λ x. record { version = x.zone.version; differences = []; compatibility = x.compatibility_mode } };
+    ghost view = { λ x. record {
+      version = x.zone.version;
+      differences = map arc_value x.diffs.items;
+      compatibility = x.compatibility_mode;
+    } };
 }
 
 impl XfrData {
-    /// This version, and whether each message is to hold one record (RFC 5936, 7), which the transfer service doesn't heed yet.
-    pub fn new(zone: ReadZone, compatibility_mode: bool) -> XfrData
-        ensures { result ≡ record { version = zone.version; differences = []; compatibility = compatibility_mode } }
+    /// This version, the differences that lead to it, oldest first (RFC 1995, 4), and whether each message is to hold one record (RFC 5936, 7).
+    /// The transfer service heeds neither differences nor that mode yet.
+    pub fn new(
+        zone: ReadZone,
+        diffs: Vec<Arc<InMemoryZoneDiff>>,
+        compatibility_mode: bool,
+    ) -> XfrData
+        ensures { result ≡ record {
+          version = zone.version;
+          differences = map arc_value diffs.items;
+          compatibility = compatibility_mode;
+        } }
     {
         XfrData {
             zone,
+            diffs,
             compatibility_mode,
         }
     }
@@ -53,7 +74,25 @@ impl XfrData {
     pub fn into_zone(self) -> ReadZone
         ensures { result.version ≡ self.version }
     {
-        self.zone
+        let XfrData { zone, diffs, .. } = self;
+        drop(diffs);
+        zone
+    }
+
+    /// The differences, oldest first.
+    pub fn diffs(&self) -> &[Arc<InMemoryZoneDiff>]
+        ensures { map arc_value result.now ≡ self.now.differences }
+    {
+        &self.diffs
+    }
+
+    /// The differences as values of their own, oldest first.
+    pub fn into_diffs(self) -> Vec<Arc<InMemoryZoneDiff>>
+        ensures { map arc_value result.items ≡ self.differences }
+    {
+        let XfrData { zone, diffs, .. } = self;
+        drop(zone);
+        diffs
     }
 
     /// Whether each message is to hold one record.
@@ -149,23 +188,29 @@ fn any_is_for(grants: &[Grant], key: &Key) -> bool
     grants.iter().any(|grant| grant.is_for(key))
 }
 
-/// A provider of one zone, for those who sign with a key that it grants. Contracts see what it keeps and whom it grants that.
+/// A provider of one zone, for those who sign with a key that it grants. It keeps a version, and differences that lead to it. Contracts see
+/// these, and whom it grants them.
 #[derive(Drop)]
 pub struct HistoryProvider {
     kept: ReadZone,
+    differences: KeptDiffs,
     grants: Vec<Grant>,
     compatibility_mode: bool,
 }
 
 impl Model for HistoryProvider {
-    ghost use Rattle.std.specs.Prelude.{[]};
     ghost use Rattle.zone_model.specs.Offer.{Provider};
 
     ghost Value = { Provider };
 
     ghost use Rattle.xfr_server.specs.Offers.{grant_ids};
 
-    ghost view = { λ p. record { kept = p.kept.version; differences = []; grants = grant_ids p.grants.items; compatibility = p.compatibility_mode } };
+    ghost view = { λ p. record {
+      kept = p.kept.version;
+      differences = p.differences;
+      grants = grant_ids p.grants.items;
+      compatibility = p.compatibility_mode;
+    } };
 }
 
 impl HistoryProvider {
@@ -175,8 +220,34 @@ impl HistoryProvider {
     {
         HistoryProvider {
             kept: handle,
+            differences: KeptDiffs::new(alloc),
             grants: Vec::new(alloc),
             compatibility_mode: false,
+        }
+    }
+
+    /// Keeps a version in place of the one that is kept. It asks that the difference, where there is one, is that of the two, with their
+    /// serials, of which the new one is neither the old one nor before it: what `WriteZone::commit` tells, where the version that it leads
+    /// from is the one that is kept. Without a difference all kept ones go. Where it leads to a serial that a kept one starts at, that one and
+    /// all older ones go (RFC 1982, 3.1: serials come again). Without memory the provider stays as it was.
+    pub fn push(
+        &mut self,
+        handle: ReadZone,
+        diff: Option<InMemoryZoneDiff>,
+    ) -> Result<(), AllocError>
+        requires { MayPush self.old.kept handle.version diff }
+        ensures ok { OnOk result (self.new ≡ after_push self.old handle.version diff) }
+        ensures err { OnErr result (self.new ≡ self.old) }
+    {
+        match self.differences.update(diff) {
+            Ok(()) => {
+                self.kept = handle;
+                Ok(())
+            }
+            Err(error) => {
+                drop(handle);
+                Err(error)
+            }
         }
     }
 
@@ -194,6 +265,15 @@ impl HistoryProvider {
         ensures { self.new ≡ record self.old { compatibility = compatibility_mode } }
     {
         self.compatibility_mode = compatibility_mode;
+    }
+
+    /// What it offers to one who has a serial.
+    fn offer(&self, alloc: Global, asked: Serial) -> Result<XfrData, AllocError>
+        ensures { IfOk result (λ x. x ≡ offer_of self.now.kept self.now.differences self.now.compatibility asked) }
+    {
+        let diffs = self.differences.from_serial(alloc, asked)?;
+        let kept = self.kept.clone()?;
+        Ok(XfrData::new(kept, diffs, self.compatibility_mode))
     }
 
     /// Whether a question is for the zone.
@@ -231,9 +311,9 @@ impl<K: KeyRef> XfrDataProvider<Option<K>> for HistoryProvider {
 
     fn request(
         &self,
-        _alloc: Global,
+        alloc: Global,
         request: &Request<Option<K>>,
-        _diff_from: Option<Serial>,
+        diff_from: Option<Serial>,
     ) -> Result<XfrData, XfrDataProviderError> {
         let question = request.message.sole_question()?;
         if !self.is_asked(&question) {
@@ -242,6 +322,6 @@ impl<K: KeyRef> XfrDataProvider<Option<K>> for HistoryProvider {
         if !self.is_granted_to(&request.metadata) {
             return Err(XfrDataProviderError::Refused);
         }
-        Ok(XfrData::new(self.kept.clone()?, self.compatibility_mode))
+        Ok(self.offer(alloc, diff_from.unwrap_or(Serial::from(0)))?)
     }
 }
