@@ -19,7 +19,7 @@ fn fetch_zone<R>(
 ) -> Result<SyncOk, SyncError> {
     let mut client = XfrClient::new(connection.alloc, key, XfrMode::Axfr, now);
     let request = client.request(session, 65_535)?;
-    connection.send(request.as_slice())?;
+    connection.send(rt, request.as_slice())?;
     let mut versions = Vec::new(connection.alloc);
     let mut outcome = None;
     for _ in 0..65_536u32 {
@@ -42,10 +42,10 @@ struct Connection {
 
 impl Connection {
     /// Sends a request.
-    fn send(&mut self, octets: &[u8]) -> Result<(), SyncError> {
+    fn send<R>(&mut self, rt: &R, octets: &[u8]) -> Result<(), SyncError> {
         let message = MessageBuf::from_octets(octets.to_vec(self.alloc)?)?;
         let request = Request::new(message, TransportSpecificContext::NonUdp, at(), ());
-        let mut items = self.primary.call(self.alloc, request)?;
+        let mut items = self.primary.call(rt, self.alloc, request)?;
         for _ in 0..9u8 {
             let Some(item) = items.next_item() else {
                 break;

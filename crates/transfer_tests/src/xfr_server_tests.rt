@@ -110,7 +110,7 @@ fn items<R: Abort>(
     message: MessageBuf,
 ) -> Vec<CallResult> {
     let request = Request::new(message, TransportSpecificContext::NonUdp, at(), ());
-    let mut stream = primary.call(alloc, request).expect(rt, "replies");
+    let mut stream = primary.call(rt, alloc, request).expect(rt, "replies");
     let mut items = Vec::new(alloc);
     for _ in 0..9u8 {
         let Some(item) = stream.next_item() else {

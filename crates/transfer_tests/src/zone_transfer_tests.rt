@@ -126,7 +126,12 @@ impl Service<Option<Key>> for Sender {
 
     ghost Sends = { λ s request sent. Unit {0} };
 
-    fn call(&self, alloc: Global, request: Request<Option<Key>>) -> Result<Replies, ServiceError>
+    fn call<R>(
+        &self,
+        _rt: &R,
+        alloc: Global,
+        request: Request<Option<Key>>,
+    ) -> Result<Replies, ServiceError>
         ensures { Calls (λ sent. Unit {0}) (λ s items. items ≡ all_given s) result }
     {
         let id = request.message().header().id;

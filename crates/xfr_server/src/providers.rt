@@ -155,9 +155,11 @@ pub trait XfrDataProvider<M> {
     /// What is answered to a message with this metadata and this serial, where memory is ample.
     ghost told: { Self → List ℕ → M → Option ℕ → Result Offer XfrDataProviderError };
 
-    /// What is sent in answer to this request, of which the requestor has the version of this serial, if any.
-    fn request(
+    /// What is sent in answer to this request, of which the requestor has the version of this serial, if any. `rt` is for a provider that
+    /// reads a zone, as `Zone::read` takes it.
+    fn request<R>(
         &self,
+        rt: &R,
         alloc: Global,
         request: &Request<M>,
         diff_from: Option<Serial>,
@@ -309,8 +311,9 @@ impl<K: KeyRef> XfrDataProvider<Option<K>> for HistoryProvider {
 
     ghost told = { λ p message key asked. answer_to p (sole_question_in message) (option_map (λ k. key_id (K.the_key k)) key) asked };
 
-    fn request(
+    fn request<R>(
         &self,
+        _rt: &R,
         alloc: Global,
         request: &Request<Option<K>>,
         diff_from: Option<Serial>,

@@ -136,8 +136,9 @@ impl<M: Default + Drop, N: Service<M> + Drop, X: XfrDataProvider<M> + Drop> Serv
 
     ghost Sends = { λ s. SendsTransfer M.is_default (N.Sends s.0) (X.told s.1) };
 
-    fn call(
+    fn call<R>(
         &self,
+        rt: &R,
         alloc: Global,
         request: Request<M>,
     ) -> Result<XfrMiddlewareStream<N::Stream>, ServiceError>
@@ -145,12 +146,12 @@ impl<M: Default + Drop, N: Service<M> + Drop, X: XfrDataProvider<M> + Drop> Serv
     {
         match transfer_mode(&request.message.as_message()) {
             Some(mode) => {
-                let replies = answer_transfer(alloc, &self.provider, &request, mode)?;
+                let replies = answer_transfer(rt, alloc, &self.provider, &request, mode)?;
                 Ok(XfrMiddlewareStream::Own(replies))
             }
             None => {
                 let request = request.with_new_metadata(M::default());
-                Ok(XfrMiddlewareStream::Next(self.next.call(alloc, request)?))
+                Ok(XfrMiddlewareStream::Next(self.next.call(rt, alloc, request)?))
             }
         }
     }
@@ -182,7 +183,8 @@ enum Reply {
 }
 
 /// The replies to a transfer request.
-fn answer_transfer<M, X: XfrDataProvider<M>>(
+fn answer_transfer<R, M, X: XfrDataProvider<M>>(
+    rt: &R,
     alloc: Global,
     provider: &X,
     request: &Request<M>,
@@ -192,7 +194,7 @@ fn answer_transfer<M, X: XfrDataProvider<M>>(
 {
     let limit = reply_limit(request.transport, request.reserved);
     let is_udp = request.transport.is_udp();
-    let reply = choose_reply(alloc, provider, request, mode)?;
+    let reply = choose_reply(rt, alloc, provider, request, mode)?;
     replies_with(alloc, &request.message, limit, is_udp, &reply)
 }
 
@@ -214,7 +216,8 @@ fn replies_with(
 }
 
 /// What is sent in answer, by the first test that applies.
-fn choose_reply<M, X: XfrDataProvider<M>>(
+fn choose_reply<R, M, X: XfrDataProvider<M>>(
+    rt: &R,
     alloc: Global,
     provider: &X,
     request: &Request<M>,
@@ -227,7 +230,7 @@ fn choose_reply<M, X: XfrDataProvider<M>>(
     if lacks_serial(mode, &asked) {
         return Ok(Reply::Error(Rcode::FORMERR));
     }
-    match provider.request(alloc, request, asked) {
+    match provider.request(rt, alloc, request, asked) {
         Ok(found) => Ok(reply_with(
             &message,
             mode,

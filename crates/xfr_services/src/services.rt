@@ -137,8 +137,13 @@ pub trait Service<M> {
     /// What is sent in answer to a request: these items, or None where no reply can be made.
     ghost Sends: { Self → RequestOf M → Option (List Sending) → Type 0 };
 
-    /// The replies to a request.
-    fn call(&self, alloc: Global, request: Request<M>) -> Result<Self::Stream, ServiceError>
+    /// The replies to a request. `rt` is for what reads a zone on the way, as `Zone::read` takes it.
+    fn call<R>(
+        &self,
+        rt: &R,
+        alloc: Global,
+        request: Request<M>,
+    ) -> Result<Self::Stream, ServiceError>
         ensures { Calls (Sends self.now request) Self.Stream.LeftOf result };
 }
 
@@ -219,7 +224,7 @@ impl<M: Drop> Service<M> for RefuseSvc {
 
     ghost Sends = { λ s request sent. sent ≡ error_sends request.message refused };
 
-    fn call(&self, alloc: Global, request: Request<M>) -> Result<Replies, ServiceError>
+    fn call<R>(&self, _rt: &R, alloc: Global, request: Request<M>) -> Result<Replies, ServiceError>
         ensures { Calls (λ sent. sent ≡ error_sends request.message refused) (λ s items. items ≡ all_given s) result }
     {
         replies::refuse(alloc, &request.message, Rcode::REFUSED)

@@ -247,8 +247,9 @@ where
 
     ghost Sends = { λ s. SendsChecked KS.Key.the_key (KS.key_of s.1) (S.Sends s.0) };
 
-    fn call(
+    fn call<R>(
         &self,
+        rt: &R,
         alloc: Global,
         request: Request<()>,
     ) -> Result<TsigStream<S::Stream, KS::Key>, ServiceError>
@@ -259,9 +260,9 @@ where
         match ServerSequence::request(&self.keys, &mut request.message, request.at) {
             Ok(None) => {
                 let request = request.with_new_metadata(None);
-                Ok(TsigStream::Unsigned(self.next.call(alloc, request)?))
+                Ok(TsigStream::Unsigned(self.next.call(rt, alloc, request)?))
             }
-            Ok(Some(sequence)) => self.call_signed(alloc, request, received, sequence),
+            Ok(Some(sequence)) => self.call_signed(rt, alloc, request, received, sequence),
             Err(refusal) => {
                 let reply = replies::refusal_reply(alloc, refusal, &received)?;
                 Ok(TsigStream::Refused(Some(reply)))
@@ -276,8 +277,9 @@ where
     KS: KeyStore + Drop,
 {
     /// The replies to a request whose signature was accepted.
-    fn call_signed(
+    fn call_signed<R>(
         &self,
+        rt: &R,
         alloc: Global,
         request: Request<()>,
         received: MessageBuf,
@@ -300,7 +302,7 @@ where
             now,
             signing: Signing::First,
         };
-        Ok(TsigStream::Signed(self.next.call(alloc, request)?, state))
+        Ok(TsigStream::Signed(self.next.call(rt, alloc, request)?, state))
     }
 }
 

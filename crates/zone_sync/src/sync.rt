@@ -93,6 +93,7 @@ fn exchange<R, P: Service<()>, L: Link>(
         return Err(SyncError::Ended);
     };
     serve(
+        rt,
         alloc,
         primary,
         MessageBuf::from_octets(asked)?,
@@ -103,7 +104,8 @@ fn exchange<R, P: Service<()>, L: Link>(
 }
 
 /// Has a primary reply to a request, and gives its replies to the link.
-fn serve<P: Service<()>, L: Link>(
+fn serve<R, P: Service<()>, L: Link>(
+    rt: &R,
     alloc: Global,
     primary: &P,
     message: MessageBuf,
@@ -115,7 +117,7 @@ fn serve<P: Service<()>, L: Link>(
     ensures steady { result ≢ Err SyncError.LinkFault → L.faults link.new ≡ L.faults link.old }
 {
     let request = Request::new(message, TransportSpecificContext::NonUdp, at, ());
-    let replies = primary.call(alloc, request)?;
+    let replies = primary.call(rt, alloc, request)?;
     send_replies(replies, link)
 }
 
