@@ -1,4 +1,5 @@
 pub mod Outdated
+pub mod Histories
 pub mod Granted
 pub mod Headers
 pub mod Answers

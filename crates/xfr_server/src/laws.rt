@@ -3,7 +3,7 @@ ghost use Rattle.std.specs.Prelude.{List, Option};
 ghost use Rattle.tsig_port.specs.Tsig.{TsigKey};
 ghost use Rattle.zone_model.specs.Offer.{Offer};
 ghost use Rattle.xfr_server.specs.Items.{Sending};
-ghost use Rattle.xfr_server.specs.Offers.{HistoryGrants};
+ghost use Rattle.xfr_server.specs.Offers.{CommitsMayBePushed, HistoryGrants, HistoryIsOffered};
 ghost use Rattle.xfr_server.specs.FullTransfer.{SendsWhole, WholeIsTaken, TransferIsMessage};
 ghost use Rattle.xfr_services.specs.declared.requests.Request.{Request as RequestOf};
 
@@ -30,4 +30,14 @@ pub fn full_transfers_are_taken()
 /// A provider with a history offers what it keeps to one who signed with a key that it grants.
 pub fn granted_keys_are_offered()
     ensures { HistoryGrants }
+{}
+
+/// What a provider with a history offers has a history too, which ends in the version offered: no difference is of another version.
+pub fn histories_are_offered()
+    ensures { HistoryIsOffered }
+{}
+
+/// What a commit tells may be pushed, with the version that it publishes, to a provider that keeps the version before it.
+pub fn commits_may_be_pushed()
+    ensures { CommitsMayBePushed }
 {}

@@ -7,10 +7,13 @@ mod kept_diffs;
 mod laws;
 pub mod providers;
 mod replies;
+pub mod stored_zones;
 pub mod transfer;
 mod transfer_message;
 
+pub use laws::commits_may_be_pushed;
 pub use providers::{HistoryProvider, XfrData, XfrDataProvider, XfrDataProviderError};
+pub use stored_zones::{StoredZone, current_data};
 pub use transfer::{XfrMiddlewareStream, XfrMiddlewareSvc, XfrMode};
 pub use xfr_services::{
     CallResult, PostprocessingState, RefuseSvc, Replies, ReplyStream, Request, Service,

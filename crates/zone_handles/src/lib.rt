@@ -7,6 +7,7 @@ mod comparing;
 mod errors;
 mod laws;
 mod opening;
+mod providing;
 mod querying;
 mod steps;
 mod stores;
