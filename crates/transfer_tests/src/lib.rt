@@ -6,6 +6,8 @@ mod client_example_tests;
 #[cfg(test)]
 mod common;
 #[cfg(test)]
+mod provider_tests;
+#[cfg(test)]
 mod xfr_client_tests;
 #[cfg(test)]
 mod xfr_server_tests;
