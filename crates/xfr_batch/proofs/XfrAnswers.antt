@@ -1,14 +1,12 @@
 -- What a push to a transfer's batcher answers.
-use Rattle.std.proofs.Common.{◌≡◌, ℕ, Bool, true, false, true≢false, List, [], ◌∷◌, ◌++◌, map, refl, sym, ap, ◌∙◌, subst}
+use Rattle.std.proofs.Common.{◌≡◌, ℕ, Bool, true, false, true≢false, List, [], ◌∷◌, refl, sym, ap, ◌∙◌, subst}
 use Rattle.std.specs.Prelude.{◌&&◌, not, All, Option, Some, None, Result, Ok, Err}
 use Rattle.std.proofs.lemmas.List.Elements.{All-head}
 use Rattle.dns_rdata.specs.Records.{Record}
 use Rattle.dns_wire.specs.Wire.{Building}
-use Rattle.dns_wire.specs.declared.builder.PushError.{PushError}
-use Rattle.dns_wire.specs.declared.builder.PushError.TheVariants.{ShortBuf, Memory as NoMemoryToPush}
 use Rattle.xfr_batch.specs.Batches.{message_with, has_room, Ending, is_last, Batch, Batching}
 use Rattle.xfr_batch.specs.Batches.Ending.{Full, NoRoomFor, Finished}
-use Rattle.xfr_batch.specs.BatchCalls.{HandsOn, ByPush, ByFinish, Moves, Loses, taken_by, last_state, entered, NotPushed as IsNotPushed, Pushes, Finishes}
+use Rattle.xfr_batch.specs.BatchCalls.{HandsOn, ByPush, ByFinish, last_state, entered, NotPushed as IsNotPushed, Pushes, Finishes}
 use Rattle.xfr_batch.specs.BatchCalls.NotPushed.{NoRoom, NoMemory, Refused}
 use Rattle.xfr_batch.specs.ReadyMessages.{Kept}
 use Rattle.xfr_batch.specs.XfrBatches.{transfer_begins, transfer_is_full, is_one_of_many, TransferReadies, batch_error_of, AnswersPush}
