@@ -62,12 +62,12 @@ abbrev pub last_state : {T : Type 0} → T → List (Batch T) → T
 last_state s [] = s
 last_state s (b ∷ batches) = last_state b.state batches
 
--- the state as the batch of the record pushed last began: that batch is begun still, or is the last of these, which were handed on
+-- the state as the batch of the record pushed last began: it is begun still, or is the last of those handed on
 abbrev pub entered : {T : Type 0} → Option Building → List (Batch T) → T → T
 entered (Some m) handed s = s
 entered None handed s = last_state s handed
 
--- a record was pushed, and an empty batch that begins as its own did has room for it; batches were handed on, each taken
+-- a record was pushed, and an empty batch that begins as its own did has room for it
 pub record Gains {T E : Type 0} (begins : T → List ℕ → Beginning) (is_full : T → Building → Bool)
     (Readies : T → Building → Bool → Result (Unit {0}) E → T → Type 0) (r : Record) (old : Batching T)
     (pushed : List Record) (batches : List (Batch T)) (new : Batching T) : Type 0 where

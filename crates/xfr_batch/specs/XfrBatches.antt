@@ -50,7 +50,7 @@ batch_error_of ShortBuf = NotPushed ShortBuf
 batch_error_of CountOverflow = NotPushed CountOverflow
 batch_error_of NoMemoryToPush = Memory
 
--- what a push answers, by whether an empty message has room for the record, and whether one message is all that may be sent
+-- what a push answers, by whether an empty message has room for the record, and whether all must fit one message
 abbrev pub AnswersPush : Bool → Bool → Result PushResult BatchReadyError → Type 0
 AnswersPush room must_fit (Ok pushed) = room ≡ true
 AnswersPush room must_fit (Err (NotPushed e)) = (room ≡ false) × (e ≡ ShortBuf)

@@ -56,21 +56,22 @@ pub fn messages_are_within_the_record_limit()
         → All (λ x. x.state.hard_rr_limit ≡ Some n → length x.records ≤ n) batches }
 {}
 
-/// A push to a transfer's batcher answers a `PushError` exactly where an empty message has no room for the record. Else memory may run out,
-/// or a message be refused that others follow where one is all that may be sent: then none is ready before the end. A finish is refused for
-/// want of memory alone.
+/// A push to a transfer's batcher answers a `PushError` where an empty message has no room for the record, and only there;
+/// but memory may run out or a message be refused before. Where one message is all that may be sent, none is ready before the
+/// end. A finish is refused for want of memory alone.
 pub fn transfers_answer_by_room()
-    ensures pushes { (old new : Batching Kept) (pushed : List Record) (batches : List (Batch Kept)) (r : Record)
-        (result : Result PushResult BatchReadyError)
+    ensures pushes { (old new : Batching Kept) (pushed : List Record) (batches : List (Batch Kept))
+        (r : Record) (result : Result PushResult BatchReadyError)
         → Pushes transfer_begins transfer_is_full TransferReadies (λ e x. x ≡ batch_error_of e)
         r old pushed batches result new
         → AnswersPush (has_room (transfer_begins old.state old.request) (r ∷ [])) old.state.must_fit result }
-    ensures single { (old new : Batching Kept) (pushed : List Record) (batches : List (Batch Kept)) (r : Record)
-        (result : Result PushResult BatchReadyError)
+    ensures single { (old new : Batching Kept) (pushed : List Record) (batches : List (Batch Kept))
+        (r : Record) (result : Result PushResult BatchReadyError)
         → Pushes transfer_begins transfer_is_full TransferReadies (λ e x. x ≡ batch_error_of e)
         r old pushed batches result new
         → old.state.must_fit ≡ true → new.state ≡ old.state }
-    ensures finishes { (old new : Batching Kept) (pushed : List Record) (batches : List (Batch Kept)) (e : BatchReadyError)
+    ensures finishes { (old new : Batching Kept) (pushed : List Record) (batches : List (Batch Kept))
+        (e : BatchReadyError)
         → Finishes transfer_begins transfer_is_full TransferReadies old pushed batches (Err e) new
         → e ≡ Memory }
 {}
