@@ -1,14 +1,17 @@
 -- A record that was pushed has room in an empty batch.
 use Rattle.std.proofs.Common.{◌≡◌, ℕ, ◌≤◌, Bool, true, false, true≢false, List, [], ◌∷◌, ◌++◌, length, refl, sym, ap, ◌∙◌, subst, arith}
-use Rattle.std.specs.Prelude.{All, Option, Some, None, Result, flat_map}
+use Rattle.std.specs.Prelude.{All, Option, Some, None, Result, Ok, Err, flat_map}
 use Rattle.std.proofs.lemmas.List.{append_assoc, append-nil, append_cancel_left, length-append}
 use Rattle.std.proofs.lemmas.List.Concat.{flat_map-append}
 use Rattle.std.proofs.lemmas.List.Elements.{All-head, All-tail}
 use Rattle.dns_rdata.specs.Records.{Record, record_wire}
 use Rattle.dns_wire.specs.Wire.{Building}
 use Rattle.dns_wire.proofs.Questions.{not_fitting}
-use Rattle.xfr_batch.specs.Batches.{Beginning, message_with, has_room, Batch, joined, IsBatch, Batching, IsBegun, Stands}
-use Rattle.xfr_batch.specs.BatchCalls.{ByPush, Moves, last_state, entered, Gains}
+use Rattle.xfr_batch.specs.Batches.{Beginning, message_with, has_room, is_last, Batch, joined, IsBatch, Batching, IsBegun, Stands}
+use Rattle.xfr_batch.specs.BatchCalls.{HandsOn, BeginsAlike, ByPush, Moves, last_state, entered, Gains, NotPushed, Pushes}
+use Rattle.xfr_batch.specs.declared.batcher.PushResult.{PushResult}
+use Rattle.xfr_batch.specs.declared.batcher.PushResult.TheVariants.{PushedAndReadyForMore, PushedAndLimitReached, NotPushedMessageFull, Retry}
+use Rattle.dns_wire.specs.declared.builder.PushError.{PushError}
 use Rattle.xfr_batch.proofs.BatchAdding.{wire_length}
 
 -- ---- lists
@@ -124,3 +127,41 @@ module _ {T E : Type 0} (begins : T → List ℕ → Beginning) (is_full : T →
         fits = room_entered (λ s. begins s new.request) is_full new.state new.answer mv.handed mv.stands.begun st.begun r each mv.stands.message
             (pushed_since r old new pushed batches st mv);
       }
+
+-- ---- batches that begin alike
+
+module _ {T E : Type 0} (begins : T → Beginning) (Readies : T → Building → Bool → Result (Unit {0}) E → T → Type 0) (alike : BeginsAlike begins Readies) where
+  pub begins_after : (s : T) (batches : List (Batch T)) (t : T) → HandsOn begins Readies s batches t → begins t ≡ begins s
+  begins_after s [] t h = ap begins (sym h)
+  begins_after s (b ∷ batches) t h =
+      begins_after h.1.0 batches t h.1.1.1 ∙ alike s h.1.0 (message_with (begins s) b.records) (is_last b.ending) h.1.1.0
+
+  begins_last : (s x : T) (batches : List (Batch T)) (t : T) → begins x ≡ begins s → HandsOn begins Readies s batches t → begins (last_state x batches) ≡ begins s
+  begins_last s x [] t same h = same
+  begins_last s x (b ∷ batches) t same h =
+      let kept = alike s h.1.0 (message_with (begins s) b.records) (is_last b.ending) h.1.1.0 in
+      begins_last h.1.0 b.state batches t (ap begins h.0 ∙ sym kept) h.1.1.1 ∙ kept
+
+  pub begins_entered : (s : T) (answer : Option Building) (batches : List (Batch T)) (t : T) → HandsOn begins Readies s batches t
+      → begins (entered answer batches t) ≡ begins s
+  begins_entered s None batches t h = begins_last s t batches t (begins_after s batches t h) h
+  begins_entered s (Some m) batches t h = begins_after s batches t h
+
+module _ {T E : Type 0} (begins : T → List ℕ → Beginning) (is_full : T → Building → Bool) (Readies : T → Building → Bool → Result (Unit {0}) E → T → Type 0) (From : PushError → E → Type 0) where
+  -- what was pushed had room before
+  pub room_before : (r : Record) (old new : Batching T) (pushed : List Record) (batches : List (Batch T)) → BeginsAlike (λ s. begins s old.request) Readies
+      → Gains begins is_full Readies r old pushed batches new → has_room (begins old.state old.request) (r ∷ []) ≡ true
+  room_before r old new pushed batches alike g =
+      let mv = g.moves in
+      let same = begins_entered (λ s. begins s old.request) Readies alike old.state new.answer mv.handed new.state mv.hands_on in
+      ap (λ b. has_room b (r ∷ [])) (sym same) ∙ ap (λ q. has_room (begins (entered new.answer mv.handed new.state) q) (r ∷ [])) (sym mv.same_request) ∙ g.fits
+
+  pub no_room_refused : (old new : Batching T) (pushed : List Record) (batches : List (Batch T)) (r : Record) (result : Result PushResult E) → BeginsAlike (λ s. begins s old.request) Readies
+      → has_room (begins old.state old.request) (r ∷ []) ≡ false → Pushes begins is_full Readies From r old pushed batches result new
+      → (e : E) × ((result ≡ Err e) × NotPushed begins is_full Readies From r old pushed batches e new)
+  no_room_refused old new pushed batches r (Ok PushedAndReadyForMore) alike none p =
+      absurd (true≢false (sym (room_before r old new pushed batches alike p) ∙ none))
+  no_room_refused old new pushed batches r (Ok (PushedAndLimitReached m)) alike none p = absurd p
+  no_room_refused old new pushed batches r (Ok (NotPushedMessageFull m)) alike none p = absurd p
+  no_room_refused old new pushed batches r (Ok Retry) alike none p = absurd p
+  no_room_refused old new pushed batches r (Err e) alike none p = (e, (refl, p))

@@ -1,12 +1,12 @@
 -- What a push to a transfer's batcher answers.
 use Rattle.std.proofs.Common.{◌≡◌, ℕ, Bool, true, false, true≢false, List, [], ◌∷◌, refl, sym, ap, ◌∙◌, subst}
-use Rattle.std.specs.Prelude.{◌&&◌, not, All, Option, Some, None, Result, Ok, Err}
+use Rattle.std.specs.Prelude.{◌&&◌, not, All, Result, Ok, Err}
 use Rattle.std.proofs.lemmas.List.Elements.{All-head}
 use Rattle.dns_rdata.specs.Records.{Record}
 use Rattle.dns_wire.specs.Wire.{Building}
 use Rattle.xfr_batch.specs.Batches.{message_with, has_room, Ending, is_last, Batch, Batching}
 use Rattle.xfr_batch.specs.Batches.Ending.{Full, NoRoomFor, Finished}
-use Rattle.xfr_batch.specs.BatchCalls.{HandsOn, ByPush, ByFinish, last_state, entered, NotPushed as IsNotPushed, Pushes, Finishes}
+use Rattle.xfr_batch.specs.BatchCalls.{HandsOn, BeginsAlike, ByPush, ByFinish, NotPushed as IsNotPushed, Pushes, Finishes}
 use Rattle.xfr_batch.specs.BatchCalls.NotPushed.{NoRoom, NoMemory, Refused}
 use Rattle.xfr_batch.specs.ReadyMessages.{Kept}
 use Rattle.xfr_batch.specs.XfrBatches.{transfer_begins, transfer_is_full, is_one_of_many, TransferReadies, batch_error_of, AnswersPush}
@@ -14,6 +14,7 @@ use Rattle.xfr_batch.specs.declared.batcher.PushResult.{PushResult}
 use Rattle.xfr_batch.specs.declared.batcher.PushResult.TheVariants.{PushedAndReadyForMore, PushedAndLimitReached, NotPushedMessageFull, Retry}
 use Rattle.xfr_batch.specs.declared.xfr.BatchReadyError.{BatchReadyError}
 use Rattle.xfr_batch.specs.declared.xfr.BatchReadyError.TheVariants.{PushError as NotPushed, SendError, MustFitInSingleMessage, Memory}
+use Rattle.xfr_batch.proofs.BatchRooms.{begins_after, room_before}
 use Rattle.xfr_batch.proofs.XfrReady.{ready_are}
 
 -- ---- what stays the same while messages are handed on
@@ -21,20 +22,8 @@ use Rattle.xfr_batch.proofs.XfrReady.{ready_are}
 abbrev Hands : List ℕ → Kept → List (Batch Kept) → Kept → Type 0
 Hands q s batches t = HandsOn (λ x. transfer_begins x q) TransferReadies s batches t
 
-begins_last : (q : List ℕ) (s x : Kept) (batches : List (Batch Kept)) (t : Kept) → transfer_begins x q ≡ transfer_begins s q → Hands q s batches t
-    → transfer_begins (last_state x batches) q ≡ transfer_begins s q
-begins_last q s x [] t same h = same
-begins_last q s x (b ∷ batches) t same h =
-    let mid = h.1.0 in
-    let kept : transfer_begins mid q ≡ transfer_begins s q = ap (λ k. transfer_begins k q) h.1.1.0.1 in
-    begins_last q mid b.state batches t (ap (λ k. transfer_begins k q) h.0 ∙ sym kept) h.1.1.1 ∙ kept
-
--- every message of a call begins as one would have before
-begins_entered : (q : List ℕ) (s : Kept) (answer : Option Building) (batches : List (Batch Kept)) (t : Kept) → Hands q s batches t
-    → transfer_begins (entered answer batches t) q ≡ transfer_begins s q
-begins_entered q s None batches t h =
-    begins_last q s t batches t (ap (λ k. transfer_begins k q) (ready_are q s batches t h)) h
-begins_entered q s (Some m) batches t h = ap (λ k. transfer_begins k q) (ready_are q s batches t h)
+begin_alike : (q : List ℕ) → BeginsAlike (λ s. transfer_begins s q) TransferReadies
+begin_alike q s t m last taken = ap (λ k. transfer_begins k q) taken.1
 
 -- ---- where one message is all that may be sent
 
@@ -68,8 +57,8 @@ must_fit_after q s batches t h = ap (λ (k : Kept). k.must_fit) (ready_are q s b
 abbrev PushesTo : Record → Batching Kept → List Record → List (Batch Kept) → Result PushResult BatchReadyError → Batching Kept → Type 0
 PushesTo r old pushed batches result new = Pushes transfer_begins transfer_is_full TransferReadies (λ e x. x ≡ batch_error_of e) r old pushed batches result new
 
-abbrev room_before : Batching Kept → Record → Bool
-room_before old r = has_room (transfer_begins old.state old.request) (r ∷ [])
+abbrev has_room_for : Batching Kept → Record → Bool
+has_room_for old r = has_room (transfer_begins old.state old.request) (r ∷ [])
 
 refused_as : (room : Bool) (s : Kept) (m : Building) (last : Bool) (e : BatchReadyError) (t : Kept) → TransferReadies s m last (Err e) t → AnswersPush room s.must_fit (Err e)
 refused_as room s m last MustFitInSingleMessage t refused = must_fit_then s last refused.0
@@ -85,26 +74,24 @@ refused_stays s m last (NotPushed e) t refused = absurd refused
 
 not_pushed : (r : Record) (old new : Batching Kept) (pushed : List Record) (batches : List (Batch Kept)) (e : BatchReadyError)
     → IsNotPushed transfer_begins transfer_is_full TransferReadies (λ error x. x ≡ batch_error_of error) r old pushed batches e new
-    → AnswersPush (room_before old r) old.state.must_fit (Err e)
+    → AnswersPush (has_room_for old r) old.state.must_fit (Err e)
 not_pushed r old new pushed batches e (NoRoom from room closed mv) =
-    let P : BatchReadyError → Type 0 = λ x. AnswersPush (room_before old r) old.state.must_fit (Err x) in
-    let begins = ap (λ k. transfer_begins k old.request) (ready_are old.request old.state mv.handed new.state mv.hands_on) in
+    let P : BatchReadyError → Type 0 = λ x. AnswersPush (has_room_for old r) old.state.must_fit (Err x) in
+    let begins = begins_after (λ s. transfer_begins s old.request) TransferReadies (begin_alike old.request) old.state mv.handed new.state mv.hands_on in
     let none = ap (λ b. has_room b (r ∷ [])) (sym begins) ∙ ap (λ q. has_room (transfer_begins new.state q) (r ∷ [])) (sym mv.same_request) ∙ room in
     subst P (sym from) (none, refl)
 not_pushed r old new pushed batches e (NoMemory from mv) =
-    let P : BatchReadyError → Type 0 = λ x. AnswersPush (room_before old r) old.state.must_fit (Err x) in
+    let P : BatchReadyError → Type 0 = λ x. AnswersPush (has_room_for old r) old.state.must_fit (Err x) in
     subst P (sym from) tt
 not_pushed r old new pushed batches e (Refused l) =
-    let P : Bool → Type 0 = λ must. AnswersPush (room_before old r) must (Err e) in
+    let P : Bool → Type 0 = λ must. AnswersPush (has_room_for old r) must (Err e) in
     let m = message_with (transfer_begins l.lost.state old.request) l.lost.records in
-    subst P (must_fit_after old.request old.state l.handed l.lost.state l.hands_on) (refused_as (room_before old r) l.lost.state m (is_last l.lost.ending) e new.state l.refused)
+    subst P (must_fit_after old.request old.state l.handed l.lost.state l.hands_on) (refused_as (has_room_for old r) l.lost.state m (is_last l.lost.ending) e new.state l.refused)
 
 pub answers_push : (old new : Batching Kept) (pushed : List Record) (batches : List (Batch Kept)) (r : Record) (result : Result PushResult BatchReadyError)
-    → PushesTo r old pushed batches result new → AnswersPush (room_before old r) old.state.must_fit result
+    → PushesTo r old pushed batches result new → AnswersPush (has_room_for old r) old.state.must_fit result
 answers_push old new pushed batches r (Ok PushedAndReadyForMore) g =
-    let mv = g.moves in
-    let begins = begins_entered old.request old.state new.answer mv.handed new.state mv.hands_on in
-    ap (λ b. has_room b (r ∷ [])) (sym begins) ∙ ap (λ q. has_room (transfer_begins (entered new.answer mv.handed new.state) q) (r ∷ [])) (sym mv.same_request) ∙ g.fits
+    room_before transfer_begins transfer_is_full TransferReadies (λ e x. x ≡ batch_error_of e) r old new pushed batches (begin_alike old.request) g
 answers_push old new pushed batches r (Ok (PushedAndLimitReached m)) g = absurd g
 answers_push old new pushed batches r (Ok (NotPushedMessageFull m)) g = absurd g
 answers_push old new pushed batches r (Ok Retry) g = absurd g

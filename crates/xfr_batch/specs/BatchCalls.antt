@@ -15,6 +15,12 @@ HandsOn begins Readies s [] t = s ≡ t
 HandsOn {T} begins Readies s (b ∷ batches) t = (b.state ≡ s)
     × ((mid : T) × (Readies s (message_with (begins s) b.records) (is_last b.ending) (Ok tt) mid × HandsOn begins Readies mid batches t))
 
+-- whether each batch begins as the one before it that was taken
+abbrev pub BeginsAlike : {T E : Type 0} → (T → Beginning)
+    → (T → Building → Bool → Result (Unit {0}) E → T → Type 0) → Type 0
+BeginsAlike {T} begins Readies = (s t : T) (m : Building) (last : Bool) → Readies s m last (Ok tt) t
+    → begins t ≡ begins s
+
 -- whether a push of this record may end a batch so
 abbrev pub ByPush : Record → Ending → Type 0
 ByPush r Full = Unit {0}

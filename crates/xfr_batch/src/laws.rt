@@ -3,7 +3,7 @@ ghost use Rattle.std.specs.Prelude.{◌≡◌, ◌≢◌, ◌≤◌, ℕ, true, 
 ghost use Rattle.dns_rdata.specs.Records.{Record};
 ghost use Rattle.xfr_batch.specs.Batches.{message_with, has_room, Batch, records_in, Batching, Stands};
 ghost use Rattle.xfr_batch.specs.Batches.Ending.{Full, NoRoomFor};
-ghost use Rattle.xfr_batch.specs.BatchCalls.{HandsOn, Pushes, Finishes};
+ghost use Rattle.xfr_batch.specs.BatchCalls.{HandsOn, BeginsAlike, NotPushed, Pushes, Finishes};
 ghost use Rattle.xfr_batch.specs.ReadyMessages.{Kept};
 ghost use Rattle.xfr_batch.specs.XfrBatches.{transfer_begins, transfer_is_full, TransferReadies, batch_error_of, AnswersPush};
 ghost use Rattle.xfr_batch.specs.declared.xfr.BatchReadyError.TheVariants.{Memory};
@@ -37,6 +37,18 @@ pub fn batches_are_full<T, C: Callbacks<T>>()
     ensures within { (b : Batching T) (pushed : List Record) (batches : List (Batch T))
         → Stands C.begins C.is_full b pushed batches
         → All (λ x. has_room (C.begins x.state b.request) x.records ≡ true) batches }
+{}
+
+/// Where each message begins alike, and one without a record has no room for the record that is pushed, the push is refused: for that,
+/// for want of memory, or since a message was refused before.
+pub fn records_without_room_are_refused<T, C: Callbacks<T>>()
+    ensures { (old new : Batching T) (pushed : List Record) (batches : List (Batch T)) (r : Record)
+        (result : Result PushResult C.Error)
+        → BeginsAlike (λ s. C.begins s old.request) C.Readies
+        → has_room (C.begins old.state old.request) (r ∷ []) ≡ false
+        → Pushes C.begins C.is_full C.Readies C.Error.from_gives r old pushed batches result new
+        → (e : C.Error) × ((result ≡ Err e)
+        × NotPushed C.begins C.is_full C.Readies C.Error.from_gives r old pushed batches e new) }
 {}
 
 /// The messages that a transfer's batcher hands on are ready behind the others, in order.
