@@ -20,7 +20,7 @@ use Rattle.xfr_batch.specs.declared.batcher.PushResult.TheVariants.{PushedAndRea
 
 -- ---- lengths
 
-wire_length : (h : Header) (qs : List Question) (rs : List Record)
+pub wire_length : (h : Header) (qs : List Question) (rs : List Record)
     → length (message_wire (in_answer h qs rs)) ≡ 12 + (length (flat_map question_wire qs) + length (flat_map record_wire rs))
 wire_length h qs rs =
     let front = header_wire h ++ counts_wire (counts_of (in_answer h qs rs)) in

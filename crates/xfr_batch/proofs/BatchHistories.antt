@@ -2,7 +2,6 @@
 use Rattle.std.proofs.Common.{◌≡◌, ℕ, Bool, true, false, true≢false, List, [], ◌∷◌, ◌++◌, refl, sym, ap, ◌∙◌, subst}
 use Rattle.std.specs.Prelude.{◌≢◌, All, Option, Some, None, Result, Ok, Err, flat_map}
 use Rattle.std.proofs.lemmas.List.{append_assoc, append-nil}
-use Rattle.std.proofs.lemmas.List.Concat.{flat_map-append}
 use Rattle.std.proofs.lemmas.List.Elements.{All-nil, All-cons, All-append, All-push, All-weaker}
 use Rattle.dns_rdata.specs.Records.{Record}
 use Rattle.dns_wire.specs.Wire.{Building}
@@ -15,15 +14,9 @@ use Rattle.xfr_batch.specs.BatchCalls.NotPushed.{NoRoom, NoMemory, Refused}
 use Rattle.xfr_batch.specs.BatchSteps.{Joins, Opens, Tries, HandedOn, TriesOnce, TriesAgain}
 use Rattle.xfr_batch.specs.declared.batcher.PushResult.{PushResult}
 use Rattle.xfr_batch.specs.declared.batcher.PushResult.TheVariants.{PushedAndReadyForMore, PushedAndLimitReached, NotPushedMessageFull, Retry}
+use Rattle.xfr_batch.proofs.BatchRooms.{not_nil, right_nil, joined_more, begun_none, gains}
 
 -- ---- lists
-
-not_nil : {X : Type 0} (xs : List X) (x : X) → xs ++ x ∷ [] ≡ [] → ⊥
-not_nil [] x e = cc
-not_nil (y ∷ ys) x e = cc
-
-pub joined_more : {T : Type 0} (batches handed : List (Batch T)) → joined (batches ++ handed) ≡ joined batches ++ joined handed
-joined_more batches handed = flat_map-append (λ b. b.records) batches handed
 
 joined_one : {T : Type 0} (batches : List (Batch T)) (b : Batch T) → joined (batches ++ b ∷ []) ≡ joined batches ++ b.records
 joined_one batches b = joined_more batches (b ∷ []) ∙ ap (λ xs. joined batches ++ xs) (append-nil b.records)
@@ -43,11 +36,6 @@ snoc_front (a ∷ xs) (b ∷ ys) x y e =
 begun_some : (b : Beginning) (f : Building → Bool) (rs : List Record) (m : Building) (kept : Option Building) → kept ≡ Some m → IsBegun b f rs kept
     → (rs ≢ []) × (m ≡ message_with b rs) × (has_room b rs ≡ true) × (f m ≡ false)
 begun_some b f rs m kept is begun =
-    let P : Option Building → Type 0 = λ k. IsBegun b f rs k in
-    subst P is begun
-
-begun_none : (b : Beginning) (f : Building → Bool) (rs : List Record) (kept : Option Building) → kept ≡ None → IsBegun b f rs kept → rs ≡ []
-begun_none b f rs kept is begun =
     let P : Option Building → Type 0 = λ k. IsBegun b f rs k in
     subst P is begun
 
@@ -320,15 +308,17 @@ module _ {T E : Type 0} (begins : T → List ℕ → Beginning) (is_full : T →
 
   -- what the second answers
   pub twice : (r : Record) (k1 k2 k3 : Option Building) (s1 s2 s3 : T) (result : Result PushResult E) (pushed : List Record) (batches : List (Batch T))
+      → Stands begins is_full (batching q k1 s1) pushed batches
       → TriesOnce begins is_full Readies From r (batching q k1 s1) pushed batches (Ok false) (batching q k2 s2)
       → ((ps : List Record) (bs : List (Batch T)) → Stands begins is_full (batching q k2 s2) ps bs → TriesAgain begins is_full Readies From r (batching q k2 s2) ps bs result (batching q k3 s3))
       → Pushes begins is_full Readies From r (batching q k1 s1) pushed batches result (batching q k3 s3)
-  twice r k1 k2 k3 s1 s2 s3 (Ok PushedAndReadyForMore) pushed batches first second =
-      moves_on (ByPush r) k1 k2 k3 s1 s2 s3 pushed (pushed ++ r ∷ []) batches first.2 (second pushed (batches ++ first.2.handed) first.2.stands)
-  twice r k1 k2 k3 s1 s2 s3 (Ok (PushedAndLimitReached m)) pushed batches first second = second pushed (batches ++ first.2.handed) first.2.stands
-  twice r k1 k2 k3 s1 s2 s3 (Ok (NotPushedMessageFull m)) pushed batches first second = second pushed (batches ++ first.2.handed) first.2.stands
-  twice r k1 k2 k3 s1 s2 s3 (Ok Retry) pushed batches first second = (second pushed (batches ++ first.2.handed) first.2.stands).0 first.1
-  twice r k1 k2 k3 s1 s2 s3 (Err e) pushed batches first second =
+  twice r k1 k2 k3 s1 s2 s3 (Ok PushedAndReadyForMore) pushed batches st first second =
+      gains begins is_full Readies r (batching q k1 s1) (batching q k3 s3) pushed batches st
+      (moves_on (ByPush r) k1 k2 k3 s1 s2 s3 pushed (pushed ++ r ∷ []) batches first.2 (second pushed (batches ++ first.2.handed) first.2.stands))
+  twice r k1 k2 k3 s1 s2 s3 (Ok (PushedAndLimitReached m)) pushed batches st first second = second pushed (batches ++ first.2.handed) first.2.stands
+  twice r k1 k2 k3 s1 s2 s3 (Ok (NotPushedMessageFull m)) pushed batches st first second = second pushed (batches ++ first.2.handed) first.2.stands
+  twice r k1 k2 k3 s1 s2 s3 (Ok Retry) pushed batches st first second = (second pushed (batches ++ first.2.handed) first.2.stands).0 first.1
+  twice r k1 k2 k3 s1 s2 s3 (Err e) pushed batches st first second =
       not_pushed_on r k1 k2 k3 s1 s2 s3 pushed e batches first.2 (second pushed (batches ++ first.2.handed) first.2.stands)
 
   -- ---- the end
@@ -351,10 +341,6 @@ module _ {T E : Type 0} (begins : T → List ℕ → Beginning) (is_full : T →
       (none, still ByFinish kept new s pushed batches (subst P (is ∙ sym none) st))
 
 -- ---- laws
-
-right_nil : {X : Type 0} (xs ys : List X) → xs ++ ys ≡ [] → ys ≡ []
-right_nil [] ys e = e
-right_nil (x ∷ xs) ys e = cc
 
 plain : {T : Type 0} (begins : T → List ℕ → Beginning) (q : List ℕ) (batches : List (Batch T)) → ((s : T) → (begins s q).answers ≡ [])
     → flat_map (records_in begins q) batches ≡ joined batches

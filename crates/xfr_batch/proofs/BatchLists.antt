@@ -50,7 +50,7 @@ module _ {T E : Type 0} (begins : T → List ℕ → Beginning) (is_full : T →
 
   pub pushes_one : (r : Record) (old new : Batching T) (pushed : List Record) (lists : List (List Record)) (batches : List (Batch T)) (result : Result PushResult E) → lists ≡ lists_of batches
       → Pushes begins is_full Readies From r old pushed batches result new → PushesOne (StandsInLists begins is_full new) r pushed lists result
-  pushes_one r old new pushed lists batches (Ok PushedAndReadyForMore) same p = moved (ByPush r) old new (pushed ++ r ∷ []) lists batches same p
+  pushes_one r old new pushed lists batches (Ok PushedAndReadyForMore) same p = moved (ByPush r) old new (pushed ++ r ∷ []) lists batches same p.moves
   pushes_one r old new pushed lists batches (Ok (PushedAndLimitReached m)) same p = absurd p
   pushes_one r old new pushed lists batches (Ok (NotPushedMessageFull m)) same p = absurd p
   pushes_one r old new pushed lists batches (Ok Retry) same p = absurd p

@@ -1,5 +1,5 @@
 -- What the calls of a batcher answer and leave.
-use Rattle.std.specs.Prelude.{◌≡◌, ℕ, Bool, false, List, [], ◌∷◌, ◌++◌, All, None, Result, Ok, Err}
+use Rattle.std.specs.Prelude.{◌≡◌, ℕ, Bool, true, false, List, [], ◌∷◌, ◌++◌, All, Option, Some, None, Result, Ok, Err}
 use Rattle.dns_rdata.specs.Records.{Record}
 use Rattle.dns_wire.specs.Wire.{Building}
 use Rattle.dns_wire.specs.declared.builder.PushError.{PushError}
@@ -14,6 +14,12 @@ abbrev pub HandsOn : {T E : Type 0} → (T → Beginning) → (T → Building �
 HandsOn begins Readies s [] t = s ≡ t
 HandsOn {T} begins Readies s (b ∷ batches) t = (b.state ≡ s)
     × ((mid : T) × (Readies s (message_with (begins s) b.records) (is_last b.ending) (Ok tt) mid × HandsOn begins Readies mid batches t))
+
+-- whether each batch begins as the one before it that was taken
+abbrev pub BeginsAlike : {T E : Type 0} → (T → Beginning)
+    → (T → Building → Bool → Result (Unit {0}) E → T → Type 0) → Type 0
+BeginsAlike {T} begins Readies = (s t : T) (m : Building) (last : Bool) → Readies s m last (Ok tt) t
+    → begins t ≡ begins s
 
 -- whether a push of this record may end a batch so
 abbrev pub ByPush : Record → Ending → Type 0
@@ -57,6 +63,23 @@ taken_by r pushed Full = pushed ++ r ∷ []
 taken_by r pushed (NoRoomFor next) = pushed
 taken_by r pushed Finished = pushed
 
+-- the callbacks' state as the last of these batches began, or this one where there is none
+abbrev pub last_state : {T : Type 0} → T → List (Batch T) → T
+last_state s [] = s
+last_state s (b ∷ batches) = last_state b.state batches
+
+-- the state as the batch of the record pushed last began: it is begun still, or is the last of those handed on
+abbrev pub entered : {T : Type 0} → Option Building → List (Batch T) → T → T
+entered (Some m) handed s = s
+entered None handed s = last_state s handed
+
+-- a record was pushed, and an empty batch that begins as its own did has room for it
+pub record Gains {T E : Type 0} (begins : T → List ℕ → Beginning) (is_full : T → Building → Bool)
+    (Readies : T → Building → Bool → Result (Unit {0}) E → T → Type 0) (r : Record) (old : Batching T)
+    (pushed : List Record) (batches : List (Batch T)) (new : Batching T) : Type 0 where
+  pub moves : Moves begins is_full Readies (ByPush r) old (pushed ++ r ∷ []) batches new
+  pub fits : has_room (begins (entered new.answer moves.handed new.state) new.request) (r ∷ []) ≡ true
+
 -- why a record was not pushed, or was lost with its batch: it has no room in an empty batch, memory ran out, or a batch was refused
 pub data NotPushed {T E : Type 0} (begins : T → List ℕ → Beginning) (is_full : T → Building → Bool) (Readies : T → Building → Bool → Result (Unit {0}) E → T → Type 0)
     (From : PushError → E → Type 0) (r : Record) (old : Batching T) (pushed : List Record) (batches : List (Batch T)) (e : E) (new : Batching T) : Type 0 where
@@ -68,7 +91,8 @@ pub data NotPushed {T E : Type 0} (begins : T → List ℕ → Beginning) (is_fu
 -- what a push answers a batcher that stood for these records and batches
 abbrev pub Pushes : {T E : Type 0} → (T → List ℕ → Beginning) → (T → Building → Bool) → (T → Building → Bool → Result (Unit {0}) E → T → Type 0)
     → (PushError → E → Type 0) → Record → Batching T → List Record → List (Batch T) → Result PushResult E → Batching T → Type 0
-Pushes begins is_full Readies From r old pushed batches (Ok PushedAndReadyForMore) new = Moves begins is_full Readies (ByPush r) old (pushed ++ r ∷ []) batches new
+Pushes begins is_full Readies From r old pushed batches (Ok PushedAndReadyForMore) new =
+    Gains begins is_full Readies r old pushed batches new
 Pushes begins is_full Readies From r old pushed batches (Ok (PushedAndLimitReached m)) new = ⊥
 Pushes begins is_full Readies From r old pushed batches (Ok (NotPushedMessageFull m)) new = ⊥
 Pushes begins is_full Readies From r old pushed batches (Ok Retry) new = ⊥

@@ -7,6 +7,7 @@ use Rattle.dns_wire.specs.declared.builder.PushError.{PushError}
 use Rattle.dns_wire.specs.declared.builder.PushError.TheVariants.{ShortBuf, CountOverflow, Memory as NoMemoryToPush}
 use Rattle.xfr_batch.specs.Batches.{Beginning}
 use Rattle.xfr_batch.specs.ReadyMessages.{Kept}
+use Rattle.xfr_batch.specs.declared.batcher.PushResult.{PushResult}
 use Rattle.xfr_batch.specs.declared.xfr.BatchReadyError.{BatchReadyError}
 use Rattle.xfr_batch.specs.declared.xfr.BatchReadyError.TheVariants.{PushError as NotPushed, SendError, MustFitInSingleMessage, Memory}
 
@@ -48,6 +49,14 @@ abbrev pub batch_error_of : PushError → BatchReadyError
 batch_error_of ShortBuf = NotPushed ShortBuf
 batch_error_of CountOverflow = NotPushed CountOverflow
 batch_error_of NoMemoryToPush = Memory
+
+-- what a push answers, by whether an empty message has room for the record, and whether all must fit one message
+abbrev pub AnswersPush : Bool → Bool → Result PushResult BatchReadyError → Type 0
+AnswersPush room must_fit (Ok pushed) = room ≡ true
+AnswersPush room must_fit (Err (NotPushed e)) = (room ≡ false) × (e ≡ ShortBuf)
+AnswersPush room must_fit (Err MustFitInSingleMessage) = must_fit ≡ true
+AnswersPush room must_fit (Err Memory) = Unit {0}
+AnswersPush room must_fit (Err SendError) = ⊥
 
 -- the first of the messages that are ready, taken out
 abbrev pub TakesReady : Kept → Option Building → Kept → Type 0

@@ -122,11 +122,21 @@ impl<C: Callbacks<T>, T> ResourceRecordBatcher for CallbackBatcher<C, T> {
 
     ghost begins_with = { λ b request. C.begins b.state request };
 
-    fn push<R: ComposeRecord>(&mut self, item: &R) -> Result<PushResult, C::Error> {
+    /// As above: it never asks for a retry, nor gives a message back.
+    fn push<R: ComposeRecord>(&mut self, item: &R) -> Result<PushResult, C::Error>
+        ensures { (pushed : List Record) (batches : List (Batch T))
+            → Stands C.begins C.is_full self.old pushed batches
+            → Pushes C.begins C.is_full C.Readies C.Error.from_gives (R.record_of item.now)
+            self.old pushed batches result self.new }
+    {
         CallbackBatcher::<C, T>::push(self, item)
     }
 
-    fn finish(&mut self) -> Result<(), C::Error> {
+    fn finish(&mut self) -> Result<(), C::Error>
+        ensures { (pushed : List Record) (batches : List (Batch T))
+            → Stands C.begins C.is_full self.old pushed batches
+            → Finishes C.begins C.is_full C.Readies self.old pushed batches result self.new }
+    {
         CallbackBatcher::<C, T>::finish(self)
     }
 
