@@ -50,16 +50,19 @@ offer_alone v = record { version = v; differences = []; compatibility = false }
 -- what a zone answers to anyone: its version, to a question for its apex and class
 abbrev pub zone_answer : Version → Option Question → Result Offer XfrDataProviderError
 zone_answer v None = Err ParseError
-zone_answer v (Some q) = if same_name q.qname v.apex && (q.qclass == v.class) then Ok (offer_alone v) else Err UnknownZone
+zone_answer v (Some q) =
+    if same_name q.qname v.apex && (q.qclass == v.class) then Ok (offer_alone v) else Err UnknownZone
 
 -- what many zones answer to anyone: the version of the one that the name lies in (RFC 1034, 4.3.2, step 2)
 abbrev pub found_answer : Option Version → Result Offer XfrDataProviderError
 found_answer None = Err UnknownZone
 found_answer (Some v) = Ok (offer_alone v)
 
-abbrev pub zones_answer : {Z : Type 0} → (Z → Version) → Zones Z → Option Question → Result Offer XfrDataProviderError
+abbrev pub zones_answer : {Z : Type 0} → (Z → Version) → Zones Z → Option Question
+    → Result Offer XfrDataProviderError
 zones_answer version_of zones None = Err ParseError
-zones_answer version_of zones (Some q) = found_answer (option_map version_of (find_zone zones q.qclass q.qname))
+zones_answer version_of zones (Some q) =
+    found_answer (option_map version_of (find_zone zones q.qclass q.qname))
 
 -- the answer is what the provider tells, or want of memory
 abbrev pub Answers : Result Offer XfrDataProviderError → Result Offer XfrDataProviderError → Type 0
@@ -77,9 +80,11 @@ HistoryGrants = (p : Provider) (q : Question) (key : Name × ℕ) (asked : Optio
 
 -- the law of histories: what a provider with a history offers has one, which ends in the version offered (RFC 1995, 4)
 abbrev pub HistoryIsOffered : Type 0
-HistoryIsOffered = (p : Provider) (q : Option Question) (key : Option (Name × ℕ)) (asked : Option ℕ) (offer : Offer) (history : List Version) → HasHistory p history
-    → answer_to p q key asked ≡ Ok offer → IsHistory offer (offered_history (unwrap_or asked 0) history)
+HistoryIsOffered = (p : Provider) (q : Option Question) (key : Option (Name × ℕ)) (asked : Option ℕ)
+    → (offer : Offer) (history : List Version) → HasHistory p history → answer_to p q key asked ≡ Ok offer
+    → IsHistory offer (offered_history (unwrap_or asked 0) history)
 
 -- the law of commits: what a commit tells may be pushed to a provider that keeps the version before it (RFC 1995, 5)
 abbrev pub CommitsMayBePushed : Type 0
-CommitsMayBePushed = (s : Session) (bumps : Bool) → MayPush s.current.version (closed s bumps) (told_difference s bumps)
+CommitsMayBePushed = (s : Session) (bumps : Bool)
+    → MayPush s.current.version (closed s bumps) (told_difference s bumps)

@@ -271,7 +271,8 @@ impl HistoryProvider {
 
     /// What it offers to one who has a serial.
     fn offer(&self, alloc: Global, asked: Serial) -> Result<XfrData, AllocError>
-        ensures { IfOk result (λ x. x ≡ offer_of self.now.kept self.now.differences self.now.compatibility asked) }
+        ensures { IfOk result (λ x. x
+            ≡ offer_of self.now.kept self.now.differences self.now.compatibility asked) }
     {
         let diffs = self.differences.from_serial(alloc, asked)?;
         let kept = self.kept.clone()?;
