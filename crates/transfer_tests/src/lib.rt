@@ -6,6 +6,12 @@ mod client_example_tests;
 #[cfg(test)]
 mod common;
 #[cfg(test)]
+mod reply_vector_tests;
+#[cfg(test)]
+mod transfer_vectors;
+#[cfg(test)]
+mod updater_tests;
+#[cfg(test)]
 mod xfr_client_tests;
 #[cfg(test)]
 mod xfr_server_tests;
