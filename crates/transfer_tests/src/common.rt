@@ -2,11 +2,12 @@
 
 use bytes::Bytes;
 use dns_name::{Class, Labelled, Name, NameRef, StoredName};
+use dns_rdata::RecordData;
 use std::alloc::Global;
 use std::fmt::{self, Debug};
 use std::process::Abort;
 use tsig_port::{Algorithm, Key};
-use zone_store::ZoneApex;
+use zone_store::{WalkItem, ZoneApex};
 
 /// Asserts that a value is the one that is wanted. A call of this is proved sooner than an `assert_eq!`.
 pub(crate) fn is<R: Abort, T: PartialEq + Debug + Drop>(rt: &R, found: T, wanted: T) {
@@ -75,4 +76,22 @@ fn push_text<R: Abort, T: fmt::Display>(rt: &R, alloc: Global, all: &mut String,
     let pushed = all.push_str(text.as_str());
     drop(text);
     pushed.expect(rt, "memory");
+}
+
+/// The records of a set in wire form.
+pub(crate) fn append_set<R: Abort>(rt: &R, all: &mut Vec<u8>, class: Class, stop: &WalkItem<'_>) {
+    for item in stop.items() {
+        stop.owner().compose(all).expect(rt, "memory");
+        append_u16(rt, all, stop.rtype().to_int());
+        append_u16(rt, all, class.to_int());
+        let ttl = stop.ttl().to_int().to_be_bytes();
+        all.extend_from_slice(&ttl).expect(rt, "memory");
+        append_u16(rt, all, item.rdlen());
+        item.compose_rdata(all).expect(rt, "memory");
+    }
+}
+
+fn append_u16<R: Abort>(rt: &R, all: &mut Vec<u8>, number: u16) {
+    all.extend_from_slice(&number.to_be_bytes())
+        .expect(rt, "memory");
 }

@@ -8,6 +8,12 @@ mod common;
 #[cfg(test)]
 mod provider_tests;
 #[cfg(test)]
+mod reply_vector_tests;
+#[cfg(test)]
+mod transfer_vectors;
+#[cfg(test)]
+mod updater_tests;
+#[cfg(test)]
 mod xfr_client_tests;
 #[cfg(test)]
 mod xfr_server_tests;

@@ -156,10 +156,10 @@ fn what_errors_print(rt: HostRuntime) {
         Error::Finished,
     ];
     let texts = "\
-the message can't be parsed
-the message is no valid transfer response
-the first message is malformed
-the transfer is already finished
+XFR response parsing error: unexpected end or malformed item
+Not a valid XFR response
+Malformed XFR response
+XFR already finished
 ";
     assert_texts(&rt, rt.alloc(), &messages, texts);
     let records = [
@@ -185,13 +185,13 @@ the initial SOA is missing
         update::Error::Memory,
     ];
     let texts = "\
-the record's owner is outside the zone
-the record is no SOA
-the update doesn't fit the zone
-the record's data may not stand there
-the version numbers are exhausted
-the updater is finished
-out of memory
+OutOfZone
+NotSoaRecord
+IncompatibleUpdate
+InvalidData
+VersionsExhausted
+Finished
+Memory
 ";
     assert_texts(&rt, rt.alloc(), &updates, texts);
 }

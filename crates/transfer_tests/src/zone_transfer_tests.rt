@@ -2,9 +2,8 @@
 ghost use Rattle.std.specs.Prelude.{◌≡◌};
 ghost use Rattle.xfr_server.specs.Items.{Calls, all_given};
 
-use crate::common::{KEY, assert_texts, empty_zone, is, octets_of, shared_key};
-use dns_name::{Class, Labelled};
-use dns_rdata::{RecordData, StoredRecord, record_from_octets};
+use crate::common::{KEY, append_set, assert_texts, empty_zone, is, octets_of, shared_key};
+use dns_rdata::{StoredRecord, record_from_octets};
 use dns_wire::{
     AdditionalBuilder, AnswerBuilder, Header, MessageBuilder, PushError, Question, ShortMessage,
 };
@@ -16,7 +15,7 @@ use xfr_client::{protocol, update};
 use xfr_server::{
     CallResult, Replies, Request, Service, ServiceError, ServiceFeedback, TsigMiddlewareSvc,
 };
-use zone_store::{ReadZone, WalkItem, WriteZone};
+use zone_store::{ReadZone, WriteZone};
 use zone_sync::{MemoryLink, Moments, SyncError, SyncOk, XfrMode, sync_zone};
 
 /// Words, and the octets that they stand for: the question for the whole of `example.`, none, and those of another name, type and class;
@@ -245,24 +244,6 @@ fn append_number<R: Abort>(rt: &R, alloc: Global, all: &mut Vec<u8>, number: u64
     let text = format!(in alloc; "version {number}:").expect(rt, "memory");
     all.extend_from_slice(text.as_bytes()).expect(rt, "memory");
     drop(text);
-}
-
-/// The records of a set in wire form.
-fn append_set<R: Abort>(rt: &R, all: &mut Vec<u8>, class: Class, stop: &WalkItem<'_>) {
-    for item in stop.items() {
-        stop.owner().compose(all).expect(rt, "memory");
-        append_u16(rt, all, stop.rtype().to_int());
-        append_u16(rt, all, class.to_int());
-        let ttl = stop.ttl().to_int().to_be_bytes();
-        all.extend_from_slice(&ttl).expect(rt, "memory");
-        append_u16(rt, all, item.rdlen());
-        item.compose_rdata(all).expect(rt, "memory");
-    }
-}
-
-fn append_u16<R: Abort>(rt: &R, all: &mut Vec<u8>, number: u16) {
-    all.extend_from_slice(&number.to_be_bytes())
-        .expect(rt, "memory");
 }
 
 /// What a secondary without records answers to the replies of a case over a link that takes requests of up to so many octets; the

@@ -32,7 +32,7 @@ not_none : (b : Bool) → not b ≡ true → b ≡ false
 not_none true e = cc e
 not_none false e = refl
 
-has_answers : (m : ReadMessage) → is_transfer_head true m ≡ true → (length m.answers == 0) ≡ false
+pub has_answers : (m : ReadMessage) → is_transfer_head true m ≡ true → (length m.answers == 0) ≡ false
 has_answers m e = not_none _ (second_so _ _ (first_so _ _ (first_so _ _ e)))
 
 soa_faultless : (r : Record) (xs : List (Option Record)) → is_soa r ≡ true → first_record_fault (Some r ∷ xs) ≡ None

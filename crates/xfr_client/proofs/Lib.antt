@@ -7,3 +7,8 @@ pub mod Sections
 pub mod FirstMessage
 pub mod Taking
 pub mod UnknownData
+pub mod ToldAll
+pub mod Published
+pub mod EditsLead
+pub mod UpdatesLead
+pub mod Named

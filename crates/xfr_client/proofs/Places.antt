@@ -18,7 +18,7 @@ is_begun (InAdds s) = true
 is_begun AtEnd = true
 
 -- after the second
-abbrev is_later : Place → Bool
+abbrev pub is_later : Place → Bool
 is_later AtStart = false
 is_later (AtSecond s) = false
 is_later (InWhole s) = true
@@ -30,7 +30,7 @@ either : (b : Bool) (x y : Run) → is_later x.place ≡ true → is_later y.pla
 either true x y h k = h
 either false x y h k = k
 
-step_later : (mode : Mode) (p : Place) (r : Record) → is_begun p ≡ true → is_later (step mode p r).place ≡ true
+pub step_later : (mode : Mode) (p : Place) (r : Record) → is_begun p ≡ true → is_later (step mode p r).place ≡ true
 step_later mode AtStart r h = cc
 step_later mode (AtSecond s) r h = either (is_soa r) _ _ (either (is_same_soa s r) _ _ refl refl) refl
 step_later mode (InWhole s) r h = either (is_same_soa s r) _ _ refl refl
@@ -38,7 +38,7 @@ step_later mode (InDeletes s) r h = either (is_soa r) _ _ refl refl
 step_later mode (InAdds s) r h = either (is_soa r) _ _ (either (is_same_soa s r) _ _ refl refl) refl
 step_later mode AtEnd r h = refl
 
-begun_later : (p : Place) → is_later p ≡ true → is_begun p ≡ true
+pub begun_later : (p : Place) → is_later p ≡ true → is_begun p ≡ true
 begun_later AtStart h = cc
 begun_later (AtSecond s) h = refl
 begun_later (InWhole s) h = refl
@@ -46,7 +46,7 @@ begun_later (InDeletes s) h = refl
 begun_later (InAdds s) h = refl
 begun_later AtEnd h = refl
 
-not_second : (p : Place) → is_later p ≡ true → is_at_second p ≡ false
+pub not_second : (p : Place) → is_later p ≡ true → is_at_second p ≡ false
 not_second AtStart h = refl
 not_second (AtSecond s) h = cc
 not_second (InWhole s) h = refl
@@ -70,7 +70,7 @@ any_mode mode (Good r ∷ xs) p h =
     ∙ ap (then_run (step Axfr p r)) (any_mode mode xs (step Axfr p r).place (begun_later (step Axfr p r).place (step_later Axfr p r h)))
 any_mode mode (Bad f ∷ xs) p h = refl
 
-stays_later : (xs : List Item) (p : Place) → is_later p ≡ true → is_at_second (run_items Axfr p xs).place ≡ false
+pub stays_later : (xs : List Item) (p : Place) → is_later p ≡ true → is_at_second (run_items Axfr p xs).place ≡ false
 stays_later [] p h = not_second p h
 stays_later (Good r ∷ xs) p h = stays_later xs (step Axfr p r).place (step_later Axfr p r (begun_later p h))
 stays_later (Bad f ∷ xs) p h = not_second p h

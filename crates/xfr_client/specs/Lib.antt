@@ -6,3 +6,4 @@ pub mod Interpreting
 pub mod Causes
 pub mod Updating
 pub mod UpdateTexts
+pub mod CallsInTurn

@@ -9,6 +9,7 @@ mod first_soa;
 mod interpreter;
 mod interpreter_state;
 mod iterator;
+mod laws;
 pub mod protocol;
 mod section;
 pub mod update;

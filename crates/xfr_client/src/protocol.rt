@@ -5,17 +5,17 @@ use thiserror::Error;
 /// Why a message as a whole isn't taken.
 #[derive(Clone, Copy, Debug, PartialEq, Eq, Error)]
 pub enum Error {
-    /// The answer section can't be reached.
-    #[error("the message can't be parsed")]
+    /// The answer section can't be reached. The text ends with that of `ParseError`.
+    #[error("XFR response parsing error: unexpected end or malformed item")]
     ParseError,
     /// Header, counts or the first record are not those of a transfer's reply (RFC 5936, 2.2).
-    #[error("the message is no valid transfer response")]
+    #[error("Not a valid XFR response")]
     NotValidXfrResponse,
     /// The first message asks for something else, or its first record can't be read.
-    #[error("the first message is malformed")]
+    #[error("Malformed XFR response")]
     Malformed,
     /// The transfer's end was read before.
-    #[error("the transfer is already finished")]
+    #[error("XFR already finished")]
     Finished,
 }
 

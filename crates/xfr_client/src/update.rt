@@ -39,28 +39,28 @@ impl<R> fmt::Display for ZoneUpdate<R> {
     }
 }
 
-/// Why an update isn't applied.
+/// Why an update isn't applied. Each prints its variant's name.
 #[derive(Clone, Copy, Debug, PartialEq, Eq, Error)]
 pub enum Error {
     /// The owner isn't at or under the apex.
-    #[error("the record's owner is outside the zone")]
+    #[error("OutOfZone")]
     OutOfZone,
     /// The record that a batch's adds or the end name is no SOA.
-    #[error("the record is no SOA")]
+    #[error("NotSoaRecord")]
     NotSoaRecord,
     /// The record to add is there, or the record to delete isn't; every later update is refused.
-    #[error("the update doesn't fit the zone")]
+    #[error("IncompatibleUpdate")]
     IncompatibleUpdate,
     /// The record may not stand beside those of its owner.
-    #[error("the record's data may not stand there")]
+    #[error("InvalidData")]
     InvalidData,
     /// The version number is the greatest.
-    #[error("the version numbers are exhausted")]
+    #[error("VersionsExhausted")]
     VersionsExhausted,
     /// The end came before, or an update that didn't fit.
-    #[error("the updater is finished")]
+    #[error("Finished")]
     Finished,
     /// Want of memory.
-    #[error("out of memory")]
+    #[error("Memory")]
     Memory,
 }

@@ -1,0 +1,389 @@
+//! Updates applied one by one: the example of RFC 1995, 7, and tests that the crate `domain` has under the same names.
+
+use crate::common::{append_set, digits_of, is, octets_of, stored_name};
+use crate::transfer_vectors::{RECORDS, octets_at};
+use dns_name::{Class, Rtype, Serial, StoredName};
+use dns_rdata::{ReadRecord, RecordData, record_from_octets};
+use std::alloc::Global;
+use std::process::Abort;
+use xfr_client::{ZoneUpdate, ZoneUpdater, update};
+use zone_store::{EditError, ReadZone, RecordSet, WriteZone, ZoneApex, look_up};
+use zone_types::ZoneDiff;
+
+/// `jain.ad.jp.`
+pub(crate) const JAIN: &str = "046a61696e026164026a7000";
+
+/// `example.com.`
+pub(crate) const COM: &str = "076578616d706c6503636f6d00";
+
+/// `example.`
+const EXAMPLE: &str = "076578616d706c6500";
+
+/// The first version of RFC 1995, 7: in each line an update, its record, and what it answers.
+pub(crate) const FIRST: &str = "\
+AddRecord soa-1 Ok(false)
+AddRecord ns Ok(false)
+AddRecord ns-a Ok(false)
+AddRecord nezu-5 Ok(false)";
+
+/// What leads to the second version, up to its commit.
+const SECOND: &str = "\
+DeleteRecord nezu-5 Ok(false)
+BeginBatchAdd soa-2 Ok(false)
+AddRecord bb-4 Ok(false)
+AddRecord bb-2 Ok(false)";
+
+/// What leads to the third version, up to its commit.
+const THIRD: &str = "\
+DeleteRecord bb-4 Ok(false)
+BeginBatchAdd soa-3 Ok(false)
+AddRecord bb-3 Ok(false)";
+
+/// The zone of this apex in class IN without records.
+pub(crate) fn zone_at<R: Abort>(rt: &R, alloc: Global, apex: &str) -> ZoneApex {
+    let apex = name_of(rt, alloc, apex);
+    ZoneApex::new(alloc, apex, Class::IN).expect(rt, "memory")
+}
+
+/// The name that digits spell.
+fn name_of<R: Abort>(rt: &R, alloc: Global, digits: &str) -> StoredName {
+    let octets = octets_of(rt, alloc, digits);
+    let name = stored_name(rt, alloc, octets.as_slice());
+    drop(octets);
+    name
+}
+
+/// An update of the kind that `ZoneUpdate` prints so.
+fn update_of<'m>(kind: &str, found: ReadRecord<'m>) -> Option<ZoneUpdate<ReadRecord<'m>>> {
+    if kind == "AddRecord" {
+        return Some(ZoneUpdate::AddRecord(found));
+    }
+    if kind == "DeleteRecord" {
+        return Some(ZoneUpdate::DeleteRecord(found));
+    }
+    if kind == "BeginBatchDelete" {
+        return Some(ZoneUpdate::BeginBatchDelete(found));
+    }
+    if kind == "BeginBatchAdd" {
+        return Some(ZoneUpdate::BeginBatchAdd(found));
+    }
+    if kind == "Finished" {
+        return Some(ZoneUpdate::Finished(found));
+    }
+    drop(found);
+    None
+}
+
+/// Applies an update, its record by a word.
+fn apply<R: Abort>(
+    rt: &R,
+    alloc: Global,
+    updater: &mut ZoneUpdater,
+    session: &mut WriteZone<'_>,
+    kind: &str,
+    word: &str,
+) -> Result<bool, update::Error> {
+    let octets = octets_at(rt, alloc, RECORDS, word);
+    let found = record_from_octets(octets.as_slice()).expect(rt, "a record");
+    let update = update_of(kind, found).expect(rt, "a kind of update");
+    let told = updater.apply(rt, session, update);
+    drop(octets);
+    told
+}
+
+/// Applies the updates of lines, and asserts what each answers.
+fn applies<R: Abort>(
+    rt: &R,
+    alloc: Global,
+    updater: &mut ZoneUpdater,
+    session: &mut WriteZone<'_>,
+    lines: &str,
+) {
+    for line in lines.split('\n') {
+        let (kind, row) = line.split_once(' ').expect(rt, "an update");
+        let (word, wanted) = row.split_once(' ').expect(rt, "a record");
+        let told = apply(rt, alloc, updater, session, kind, word);
+        let told = format!(in alloc; "{told:?}").expect(rt, "memory");
+        is(rt, told.as_str(), wanted);
+        drop(told);
+    }
+}
+
+/// Applies the updates of lines by an updater of its own.
+pub(crate) fn applies_anew<R: Abort>(
+    rt: &R,
+    alloc: Global,
+    session: &mut WriteZone<'_>,
+    lines: &str,
+) {
+    let mut updater = ZoneUpdater::new(alloc);
+    applies(rt, alloc, &mut updater, session, lines);
+    drop(updater);
+}
+
+/// Asserts that the walk of a version is the records of words.
+pub(crate) fn walks<R: Abort>(rt: &R, alloc: Global, zone: &ReadZone, words: &str) {
+    let mut found = Vec::new(alloc);
+    for stop in zone.iter_rrsets() {
+        append_set(rt, &mut found, zone.class(), &stop);
+    }
+    let mut wanted = Vec::new(alloc);
+    for word in words.split_ascii_whitespace() {
+        let octets = octets_at(rt, alloc, RECORDS, word);
+        let appended = wanted.extend_from_slice(octets.as_slice());
+        drop(octets);
+        appended.expect(rt, "memory");
+    }
+    is(rt, found.as_slice(), wanted.as_slice());
+    drop(wanted);
+    drop(found);
+}
+
+/// The same of the version that a session committed last.
+fn session_walks<R: Abort>(rt: &R, alloc: Global, session: &mut WriteZone<'_>, words: &str) {
+    let version = session.handle().expect(rt, "memory");
+    walks(rt, alloc, &version, words);
+    drop(version);
+}
+
+// Each batch begins with a commit, the first of the version so far; the walk has four sets.
+#[test]
+fn rfc_1995_by_the_updater(rt: HostRuntime) {
+    let alloc = rt.alloc();
+    let mut zone = zone_at(&rt, alloc, JAIN);
+    let mut session = zone.write(alloc);
+    let mut updater = ZoneUpdater::new(alloc);
+    applies(&rt, alloc, &mut updater, &mut session, FIRST);
+    let begins = "BeginBatchDelete soa-1 Ok(true)";
+    applies(&rt, alloc, &mut updater, &mut session, begins);
+    session_walks(&rt, alloc, &mut session, "ns soa-1 nezu-5 ns-a");
+    applies(&rt, alloc, &mut updater, &mut session, SECOND);
+    let begins = "BeginBatchDelete soa-2 Ok(true)";
+    applies(&rt, alloc, &mut updater, &mut session, begins);
+    session_walks(&rt, alloc, &mut session, "ns soa-2 bb-4 bb-2 ns-a");
+    applies(&rt, alloc, &mut updater, &mut session, THIRD);
+    let ends = "Finished soa-3 Ok(true)\nAddRecord nezu-5 Err(Finished)";
+    applies(&rt, alloc, &mut updater, &mut session, ends);
+    session_walks(&rt, alloc, &mut session, "ns soa-3 bb-2 bb-3 ns-a");
+    is(&rt, updater.is_finished(), true);
+    drop(updater);
+    drop(session);
+    is(&rt, zone.versions(), 3);
+    drop(zone);
+}
+
+/// Asks for a difference, and commits: the serials that the commit tells, and how many sets are removed and added.
+fn told<R: Abort>(rt: &R, session: &mut WriteZone<'_>) -> Option<(Serial, Serial, usize, usize)> {
+    session.want_difference(true);
+    let told = session.commit(rt, false).expect(rt, "a version")?;
+    let counted = (
+        told.start_serial(),
+        told.end_serial(),
+        told.removed_len(),
+        told.added_len(),
+    );
+    drop(told);
+    Some(counted)
+}
+
+// What the commits tell in whose place the batches' begins and the end commit.
+#[test]
+fn rfc_1995_by_differences(rt: HostRuntime) {
+    let alloc = rt.alloc();
+    let mut zone = zone_at(&rt, alloc, JAIN);
+    let mut session = zone.write(alloc);
+    let (one, two, three) = (Serial::from(1), Serial::from(2), Serial::from(3));
+    applies_anew(&rt, alloc, &mut session, FIRST);
+    is(&rt, told(&rt, &mut session), None);
+    applies_anew(&rt, alloc, &mut session, SECOND);
+    is(&rt, told(&rt, &mut session), Some((one, two, 2, 2)));
+    applies_anew(&rt, alloc, &mut session, THIRD);
+    is(&rt, told(&rt, &mut session), Some((two, three, 2, 2)));
+    drop(session);
+    drop(zone);
+}
+
+/// What a version answers to a question about a name, by digits: the rcode, and the data of the set that was found, of a cut's servers and of
+/// its DS, each datum with a space before it.
+fn answered<R: Abort>(rt: &R, alloc: Global, zone: &ReadZone, qname: &str, qtype: Rtype) -> String {
+    let qname = name_of(rt, alloc, qname);
+    let answer = look_up(zone, &qname, qtype)
+        .ok()
+        .expect(rt, "a name of the zone");
+    let mut text = format!(in alloc; "{}", answer.rcode().to_int()).expect(rt, "memory");
+    push_data(rt, alloc, &mut text, answer.found());
+    push_data(rt, alloc, &mut text, answer.servers());
+    push_data(rt, alloc, &mut text, answer.signer());
+    drop(answer);
+    drop(qname);
+    text
+}
+
+/// Appends the data of a set.
+fn push_data<R: Abort>(rt: &R, alloc: Global, text: &mut String, set: Option<&RecordSet>) {
+    let Some(set) = set else {
+        return;
+    };
+    for item in set.items() {
+        let mut octets = Vec::new(alloc);
+        item.compose_rdata(&mut octets).expect(rt, "memory");
+        let digits = digits_of(rt, alloc, octets.as_slice());
+        text.push_str(" ").expect(rt, "memory");
+        text.push_str(digits.as_str()).expect(rt, "memory");
+        drop(digits);
+        drop(octets);
+    }
+}
+
+/// Asserts what the version that a session committed last answers to a question.
+fn answers<R: Abort>(
+    rt: &R,
+    alloc: Global,
+    session: &mut WriteZone<'_>,
+    qname: &str,
+    qtype: Rtype,
+    wanted: &str,
+) {
+    let version = session.handle().expect(rt, "memory");
+    let text = answered(rt, alloc, &version, qname, qtype);
+    is(rt, text.as_str(), wanted);
+    drop(text);
+    drop(version);
+}
+
+/// The data of the SOA of `example.com.` with the serial 1.
+const COM_SOA: &str = "0 056d6e616d650005726e616d65000000000100000000000000000000000000000000";
+
+#[test]
+fn write_soa_read_soa(rt: HostRuntime) {
+    let alloc = rt.alloc();
+    let mut zone = zone_at(&rt, alloc, COM);
+    let mut session = zone.write(alloc);
+    let updates = "AddRecord com-soa Ok(false)\nFinished com-soa Ok(true)";
+    applies_anew(&rt, alloc, &mut session, updates);
+    answers(&rt, alloc, &mut session, COM, Rtype::SOA, COM_SOA);
+    drop(session);
+    drop(zone);
+}
+
+// The second updater's end puts its SOA in the place of both.
+#[test]
+fn diff_check(rt: HostRuntime) {
+    let alloc = rt.alloc();
+    let mut zone = zone_at(&rt, alloc, COM);
+    let mut session = zone.write(alloc);
+    let mut updater = ZoneUpdater::new(alloc);
+    let updates = "AddRecord com-soa-22 Ok(false)\nFinished com-soa-22 Ok(true)";
+    applies(&rt, alloc, &mut updater, &mut session, updates);
+    is(&rt, updater.is_finished(), true);
+    let updates = "AddRecord com-soa-22 Err(Finished)";
+    applies(&rt, alloc, &mut updater, &mut session, updates);
+    drop(updater);
+    let updates = "AddRecord com-soa-23 Ok(false)\nBeginBatchAdd com-soa-23 Ok(false)";
+    applies_anew(&rt, alloc, &mut session, updates);
+    let serials = (Serial::from(20_240_922), Serial::from(20_240_923));
+    is(
+        &rt,
+        told(&rt, &mut session),
+        Some((serials.0, serials.1, 1, 1)),
+    );
+    drop(session);
+    drop(zone);
+}
+
+#[test]
+fn ixfr_delete_non_existing_record(rt: HostRuntime) {
+    let alloc = rt.alloc();
+    let mut zone = zone_at(&rt, alloc, COM);
+    let mut session = zone.write(alloc);
+    let updates =
+        "DeleteRecord com-soa Err(IncompatibleUpdate)\nDeleteRecord com-soa Err(Finished)";
+    applies_anew(&rt, alloc, &mut session, updates);
+    drop(session);
+    drop(zone);
+}
+
+#[test]
+fn ixfr_add_existing_record(rt: HostRuntime) {
+    let alloc = rt.alloc();
+    let mut zone = zone_at(&rt, alloc, COM);
+    let mut session = zone.write(alloc);
+    let updates = "\
+AddRecord com-soa Ok(false)
+AddRecord com-soa Err(IncompatibleUpdate)
+AddRecord com-soa Err(Finished)";
+    applies_anew(&rt, alloc, &mut session, updates);
+    drop(session);
+    drop(zone);
+}
+
+/// Adds the records of words by the session.
+fn adds<R: Abort>(rt: &R, alloc: Global, session: &mut WriteZone<'_>, words: &str) {
+    for word in words.split_ascii_whitespace() {
+        let octets = octets_at(rt, alloc, RECORDS, word);
+        let found = record_from_octets(octets.as_slice()).expect(rt, "a record");
+        let added = found.flatten(alloc).expect(rt, "memory");
+        let told = session.add_record(added);
+        drop(found);
+        drop(octets);
+        told.expect(rt, "a new record");
+    }
+}
+
+/// Deletes the records of words by the session, and asserts what each answers.
+fn deletes<R: Abort>(
+    rt: &R,
+    alloc: Global,
+    session: &mut WriteZone<'_>,
+    words: &str,
+    wanted: Result<(), EditError>,
+) {
+    for word in words.split_ascii_whitespace() {
+        let octets = octets_at(rt, alloc, RECORDS, word);
+        let found = record_from_octets(octets.as_slice()).expect(rt, "a record");
+        let deleted = found.flatten(alloc).expect(rt, "memory");
+        let told = session.delete_record(&deleted);
+        drop(deleted);
+        drop(found);
+        drop(octets);
+        is(rt, told, wanted);
+    }
+}
+
+/// The zone `example.` with five cuts and two aliases.
+const SPECIAL: &str =
+    "soa ns-1 ns-2 ns-ds ns2-1 ns2-2 ns2-ds ns3-1 ns3-2 ns3-ds ns4-1 ns4-2 ns4-ds ns5-1 ns5-2 ns5-ds cname cname2";
+
+/// What is asked of it after the edits: in each line a label before `example.`, and the answer to a question for an address there. The data are
+/// `ns1.example.`, `ns2.example.`, `target.example.`, and DS.
+const SPECIAL_ANSWERS: &str = "\
+026e73 0 036e7331076578616d706c6500 036e7332076578616d706c6500 001008011616161616161616161616161616161616161616
+05636e616d65 0 06746172676574076578616d706c6500
+036e7332 3
+06636e616d6532 3
+036e7333 0 036e7332076578616d706c6500 001008011616161616161616161616161616161616161616
+036e7334 0 036e7331076578616d706c6500 036e7332076578616d706c6500
+036e7335 0 036e7331076578616d706c6500 036e7332076578616d706c6500 006308019999999999999999999999999999999999999999";
+
+#[test]
+fn clear_special_on_delete(rt: HostRuntime) {
+    let alloc = rt.alloc();
+    let mut zone = zone_at(&rt, alloc, EXAMPLE);
+    let mut session = zone.write(alloc);
+    adds(&rt, alloc, &mut session, SPECIAL);
+    drop(session.commit(&rt, false).expect(&rt, "a version"));
+    let misfits = Err(EditError::Incompatible);
+    deletes(&rt, alloc, &mut session, "cut-a alias-a", misfits);
+    let edits = "ns2-1 ns2-2 cname2 ns3-1 ns4-ds ns5-ds";
+    deletes(&rt, alloc, &mut session, edits, Ok(()));
+    adds(&rt, alloc, &mut session, "ns5-ds-99");
+    applies_anew(&rt, alloc, &mut session, "Finished soa Ok(true)");
+    for line in SPECIAL_ANSWERS.split('\n') {
+        let (label, wanted) = line.split_once(' ').expect(&rt, "a label");
+        let qname = format!(in alloc; "{label}{EXAMPLE}").expect(&rt, "memory");
+        answers(&rt, alloc, &mut session, qname.as_str(), Rtype::A, wanted);
+        drop(qname);
+    }
+    drop(session);
+    drop(zone);
+}
