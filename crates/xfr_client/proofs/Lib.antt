@@ -12,3 +12,4 @@ pub mod Published
 pub mod EditsLead
 pub mod UpdatesLead
 pub mod Named
+pub mod WhatIsRead

@@ -13,7 +13,8 @@ use Rattle.zone_model.specs.TransferLaws.{IsSoaOf, batch_of}
 use Rattle.zone_model.specs.Spells.{spelling}
 use Rattle.zone_model.specs.Updates.{Update, UpdateFault, Edit, Finished, apply_update, batch_updates}
 use Rattle.xfr_model.specs.Messages.{ReadMessage}
-use Rattle.xfr_model.specs.Interpreter.{updates_in, updates_so_far, is_finished}
+use Rattle.xfr_model.specs.Read.{message_fault, read_by}
+use Rattle.xfr_model.specs.Interpreter.{mode_of, updates_in, is_finished}
 use Rattle.xfr_model.specs.Machine.{AtStart, no_messages}
 use Rattle.xfr_model.specs.Applying.{commits}
 use Rattle.xfr_client.specs.declared.update.ZoneUpdate.{ZoneUpdate}
@@ -51,12 +52,16 @@ abbrev pub Takes : Interpreting → List ReadMessage → List Update → Interpr
 Takes i [] told j = (told ≡ []) × (j ≡ i)
 Takes i (m ∷ more) told j = TakesOne i m (no_messages more) told (λ next others. Takes next more others j)
 
+-- the records that an interpreter reads of messages
+abbrev pub records_read : List ReadMessage → List Record
+records_read ms = (read_by (mode_of ms) message_fault ms).records
+
 -- the law of messages taken: they say the updates that the grammar names of the records read so far, and the
 -- interpreter is finished where they are
 abbrev pub NamesUpdates : Type 0
 NamesUpdates = (ms : List ReadMessage) (told : List Update) (j : Interpreting)
     → Takes new_interpreter ms told j
-    → (told ≡ updates_so_far ms) × (is_over j ≡ is_finished ms)
+    → (told ≡ updates_in (mode_of ms) (records_read ms)) × (is_over j ≡ is_finished ms)
 
 -- Updates applied: `apply` in turn, each time with Ok, from a new updater on, and the versions published.
 abbrev pub new_updater : Updating
@@ -97,6 +102,13 @@ CommitsUpToRefusal = (mode : Mode) (rs : List Record) (s t : Session) (v : Updat
     → AppliesAll new_updater s done told v t → IsRefused v t w why
     → ((spelling mode rs s.pending).versions ≡ told)
     × (option_map Edit (spelling mode rs s.pending).fault ≡ Some why)
+
+-- the law of a transfer: messages taken, and what they say applied, publish what the records read spell
+abbrev pub PublishesWhatIsRead : Type 0
+PublishesWhatIsRead = (ms : List ReadMessage) (told : List Update) (j : Interpreting)
+    (s t : Session) (v : Updating) (made : List Version)
+    → Takes new_interpreter ms told j → AppliesAll new_updater s told made v t
+    → spelling (mode_of ms) (records_read ms) s.pending ≡ record { versions = made; fault = None }
 
 -- Differences: two valid versions of a zone, and a base that is the same as the first.
 pub record IsBetween (v w base : Version) : Type 0 where

@@ -1,6 +1,6 @@
 // Laws of calls in turn, each the contract of a function with an empty body.
 ghost use Rattle.xfr_client.specs.CallsInTurn.{TellsAll, NamesUpdates};
-ghost use Rattle.xfr_client.specs.CallsInTurn.{CommitsWhatIsSpelt, CommitsUpToRefusal};
+ghost use Rattle.xfr_client.specs.CallsInTurn.{CommitsWhatIsSpelt, CommitsUpToRefusal, PublishesWhatIsRead};
 ghost use Rattle.xfr_client.specs.CallsInTurn.{EditsLead, DeletesFit, AddsFit, UpdatesLead, UpdatesFit};
 
 /// The updates that an iterator gives up to its end are all that its message says.
@@ -17,6 +17,11 @@ pub fn names_updates()
 pub fn commits_what_is_spelt()
     ensures applied { CommitsWhatIsSpelt }
     ensures refused { CommitsUpToRefusal }
+{}
+
+/// The updates of messages taken in turn, applied in turn, publish what the records read of them spell.
+pub fn publishes_what_is_read()
+    ensures { PublishesWhatIsRead }
 {}
 
 /// The difference of two versions, applied by the edits of a session, makes the same as the second, and fits.
