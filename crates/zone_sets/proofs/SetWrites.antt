@@ -1,5 +1,5 @@
 -- What a write after a borrow, and an insertion, make of typed sets.
-use Rattle.std.proofs.Common.{◌≡◌, Bool, true, false, cond, List, [], ◌∷◌, refl, sym, ap, ◌∙◌, true≢false, Ordering, Less, Equal, Greater, Option, Some, None, Result, Ok, Err, OnOk, OnErr, is_some, is_eq, map}
+use Rattle.std.proofs.Common.{◌≡◌, true, cond, List, [], ◌∷◌, refl, sym, ap, ◌∙◌, true≢false, Ordering, Less, Equal, Greater, Option, Some, None, Result, Ok, Err, OnOk, OnErr, is_some, is_eq, map}
 use Rattle.std.specs.Ordering.{match_ordering}
 use Rattle.std.specs.Cmp.{IsTotalOrder}
 use Rattle.std.specs.List.{list_all}
@@ -10,7 +10,7 @@ use Rattle.std.proofs.lemmas.Map.{lookup-none}
 use Rattle.std.proofs.lemmas.Map.Steps.{set_value_same}
 use Rattle.std.proofs.lemmas.Map.Keys.{sorted_tail}
 use Rattle.std.proofs.lemmas.Map.Entries.{none_below_head}
-use Rattle.zone_model.specs.Version.{RecordSet, Key, Sets, key_cmp, has_key, set_in}
+use Rattle.zone_model.specs.Version.{RecordSet, Key, key_cmp, has_key, set_in}
 use Rattle.zone_model.proofs.Folded.{key_total}
 use Rattle.zone_values.specs.TypedSets.{TypedSet}
 use Rattle.zone_sets.specs.TypedEntries.{typed, entry_of, has_own_type}
@@ -34,19 +34,23 @@ module _ {K X : Type 0} {R : K → K → Ordering} (o : IsTotalOrder R) where
 abbrev pub made_at : (Option RecordSet → RecordSet) → Key → TypedEntries → TypedSet
 made_at make k es = typed k.1 (make (set_in (map entry_of es) k))
 
+-- what a write through an entry makes of the sets, where one stands
+pub stood : (make : Option RecordSet → RecordSet) (k : Key) (s w : TypedSet) (es : TypedEntries) → list_all has_own_type es ≡ true → Some s ≡ lookup (has_key k) es → w ≡ typed s.rtype (make (Some s.contents))
+    → (made : TypedEntries) → made ≡ insert_entry key_cmp es k w → made ≡ insert_entry key_cmp es k (made_at make k es)
+stood make k s w es own found e made put = put ∙ ap (insert_entry key_cmp es k) (e ∙ (λ i. typed (found_own es k s own found i) (make (found_seen es k s found i))))
+
+-- .. where it stays as it was
+pub stayed : (k : Key) (s w : TypedSet) (es : TypedEntries) → IsStrictlySortedBy key_cmp (keys_of es) → Some s ≡ lookup (has_key k) es → w ≡ s → (made : TypedEntries) → made ≡ insert_entry key_cmp es k w → made ≡ es
+stayed k s w es h found e made put = put ∙ sym (set_value-insert_entry key_total es k s w h (sym found)) ∙ ap (set_value (has_key k) es) e ∙ set_value_same (has_key k) es s (sym found)
+
+-- .. and where none stands
+pub newly : (make : Option RecordSet → RecordSet) (k : Key) (w : TypedSet) (es : TypedEntries) → None ≡ lookup (has_key k) es → w ≡ typed k.1 (make None) → (made : TypedEntries) → made ≡ insert_entry key_cmp es k w → made ≡ insert_entry key_cmp es k (made_at make k es)
+newly make k w es none e made put = put ∙ ap (insert_entry key_cmp es k) (e ∙ ap (λ o. typed k.1 (make o)) (sym (absent_seen es k (sym none))))
+
 -- what a write after a borrow makes of the sets
 pub written : (make : Option RecordSet → RecordSet) (k : Key) (s w : TypedSet) (es : TypedEntries) → IsStrictlySortedBy key_cmp (keys_of es) → list_all has_own_type es ≡ true → Some s ≡ lookup (has_key k) es
     → w ≡ typed s.rtype (make (Some s.contents)) → set_value (has_key k) es w ≡ insert_entry key_cmp es k (made_at make k es)
-written make k s w es h own found e =
-    set_value-insert_entry key_total es k s w h (sym found) ∙ ap (insert_entry key_cmp es k) (e ∙ (λ i. typed (found_own es k s own found i) (make (found_seen es k s found i))))
-
--- .. and where nothing is written
-pub unwritten : (k : Key) (s w : TypedSet) (es : TypedEntries) → Some s ≡ lookup (has_key k) es → w ≡ s → set_value (has_key k) es w ≡ es
-unwritten k s w es found e = ap (set_value (has_key k) es) e ∙ set_value_same (has_key k) es s (sym found)
-
--- .. and an insertion where none stood
-pub inserted : (make : Option RecordSet → RecordSet) (k : Key) (w : TypedSet) (es : TypedEntries) → None ≡ lookup (has_key k) es → w ≡ typed k.1 (make None) → insert_entry key_cmp es k w ≡ insert_entry key_cmp es k (made_at make k es)
-inserted make k w es none e = ap (insert_entry key_cmp es k) (e ∙ ap (λ o. typed k.1 (make o)) (sym (absent_seen es k (sym none))))
+written make k s w es h own found e = stood make k s w es own found e _ (set_value-insert_entry key_total es k s w h (sym found))
 
 -- a fact for Ok, or for Err, that follows from another
 pub on_ok : {T E : Type 0} (r : Result T E) (P Q : Type 0) → OnOk r P → (P → Q) → OnOk r Q

@@ -17,7 +17,7 @@ use dns_name::Ttl;
 use dns_rdata::StoredRecordData;
 use std::alloc::{AllocError, Global};
 use std::collections::BTreeMap;
-use std::collections::btree_map::{Iter, Keys};
+use std::collections::btree_map::{Entry, Iter, Keys};
 use std::marker::Model;
 use std::ops::Bound;
 
@@ -223,10 +223,18 @@ fn put_last(
     ensures ok { OnOk result (sets.new.entries ≡ insert_entry key_cmp sets.old.entries key (typed key.1 (last_set ttl (data_fields item) (set_in (map entry_of sets.old.entries) key)))) }
     ensures err { OnErr result (sets.new.entries ≡ sets.old.entries) }
 {
-    match sets.get_mut(&key) {
-        Some(set) => set.append(alloc, ttl, item),
-        None => {
-            drop(sets.insert(key, RecordSet::of_one(alloc, ttl, item)?)?);
+    let entry = match sets.entry(key) {
+        Ok(entry) => entry,
+        Err(refused) => {
+            drop(item);
+            drop(refused);
+            return Err(AllocError);
+        }
+    };
+    match entry {
+        Entry::Occupied(entry) => entry.into_mut().append(alloc, ttl, item),
+        Entry::Vacant(entry) => {
+            entry.insert(RecordSet::of_one(alloc, ttl, item)?);
             Ok(())
         }
     }
@@ -246,10 +254,18 @@ fn put_opening(
     ensures ok { OnOk result (sets.new.entries ≡ insert_entry key_cmp sets.old.entries key (typed key.1 (opening_set ttl (data_fields item) had (set_in (map entry_of sets.old.entries) key)))) }
     ensures err { OnErr result (sets.new.entries ≡ sets.old.entries) }
 {
-    match sets.get_mut(&key) {
-        Some(set) => set.open_with(alloc, ttl, item, had),
-        None => {
-            drop(sets.insert(key, RecordSet::of_one(alloc, ttl, item)?)?);
+    let entry = match sets.entry(key) {
+        Ok(entry) => entry,
+        Err(refused) => {
+            drop(item);
+            drop(refused);
+            return Err(AllocError);
+        }
+    };
+    match entry {
+        Entry::Occupied(entry) => entry.into_mut().open_with(alloc, ttl, item, had),
+        Entry::Vacant(entry) => {
+            entry.insert(RecordSet::of_one(alloc, ttl, item)?);
             Ok(())
         }
     }

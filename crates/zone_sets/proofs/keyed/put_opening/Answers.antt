@@ -1,29 +1,29 @@
-use Rattle.std.proofs.Common.{ℕ, [], ◌∷◌, ◌∙◌, ap, sym}
-use Rattle.std.specs.BTreeMap.{insert_entry}
+use Rattle.std.proofs.Common.{ℕ, [], ◌∷◌, ◌∙◌, ap, sym, rules}
+use Rattle.std.specs.BTreeMap.Entry.{entry_value}
 use Rattle.dns_rdata.specs.ZoneData.{data_fields}
-use Rattle.zone_model.specs.Version.{key_cmp}
 use Rattle.zone_values.specs.TypedSets.{set_of}
 use Rattle.zone_sets.specs.SetEdits.{opening_set}
-use Rattle.zone_sets.proofs.KeptTypes.{TypedEntries, found_own}
-use Rattle.zone_sets.proofs.SetWrites.{written, unwritten, inserted, on_ok, on_err}
+use Rattle.zone_sets.proofs.KeptTypes.{found_own}
+use Rattle.zone_sets.proofs.SetWrites.{stood, stayed, newly, on_ok, on_err}
 use Rattle.zone_sets.proofs.keyed.put_opening.Goals as goal
 
 -- The set at the key is of the key's type, and so are the data.
 pub open_with-requires : goal.open_with-requires
-open_with-requires c = c.requires.item ∙ sym (found_own c.args.sets.now.entries c.args.key c.in-Some.set.now c.requires.types c.in-Some.ensures.value)
+open_with-requires c = c.requires.item ∙ sym (found_own c.args.sets.now.entries c.args.key c.into_mut.result.now c.requires.types (sym c.into_mut.ensures.value ∙ ap entry_value (sym c.in-Occupied.is) ∙ c.in-Ok.ensures.value))
 
 -- The set that stood is written anew, or stays.
-pub returns-in-Some-clause-ok : goal.returns-in-Some-clause-ok
-returns-in-Some-clause-ok c =
-    on_ok c.open_with.result _ _ c.open_with.ensures.ok (λ h. (c.get_mut.follows.holds c.open_with.new.self).0
-    ∙ written (opening_set c.args.ttl (data_fields c.args.item) c.args.had) c.args.key c.in-Some.set.now c.open_with.new.self c.args.sets.now.entries c.in-Some.ensures.ordered c.requires.types c.in-Some.ensures.value h)
+pub returns-in-Occupied-clause-ok : goal.returns-in-Occupied-clause-ok
+returns-in-Occupied-clause-ok c =
+    on_ok c.open_with.result _ _ c.open_with.ensures.ok (λ h. stood (opening_set c.args.ttl (data_fields c.args.item) c.args.had) c.args.key c.into_mut.result.now c.open_with.new.self c.args.sets.now.entries c.requires.types
+    (sym c.into_mut.ensures.value ∙ ap entry_value (sym c.in-Occupied.is) ∙ c.in-Ok.ensures.value) h _ (search rules))
 
-pub returns-in-Some-clause-err : goal.returns-in-Some-clause-err
-returns-in-Some-clause-err c =
-    on_err c.open_with.result _ _ c.open_with.ensures.err (λ h. (c.get_mut.follows.holds c.open_with.new.self).0 ∙ unwritten c.args.key c.in-Some.set.now c.open_with.new.self c.args.sets.now.entries c.in-Some.ensures.value h)
+pub returns-in-Occupied-clause-err : goal.returns-in-Occupied-clause-err
+returns-in-Occupied-clause-err c =
+    on_err c.open_with.result _ _ c.open_with.ensures.err (λ h. stayed c.args.key c.into_mut.result.now c.open_with.new.self c.args.sets.now.entries c.in-Ok.ensures.ordered
+    (sym c.into_mut.ensures.value ∙ ap entry_value (sym c.in-Occupied.is) ∙ c.in-Ok.ensures.value) h _ (search rules))
 
 -- None stood there.
-pub returns-in_ok-insert-in-None-clause-ok : goal.returns-in_ok-insert-in-None-clause-ok
-returns-in_ok-insert-in-None-clause-ok c =
-    c.in_ok-insert-in-None.ensures.entries ∙ ap (λ (es : TypedEntries). insert_entry key_cmp es c.args.key c.in_ok-of_one-in-None.field-0) (λ i. (c.get_mut.follows.holds-at-none i).entries)
-    ∙ inserted (opening_set c.args.ttl (data_fields c.args.item) c.args.had) c.args.key _ c.args.sets.now.entries c.in-None.ensures.value (c.in_ok-of_one-in-None.ensures ∙ ap (λ (n : ℕ). set_of n c.args.ttl (data_fields c.args.item ∷ [])) c.requires.item)
+pub returns-in_ok-of_one-in-Vacant-clause-ok : goal.returns-in_ok-of_one-in-Vacant-clause-ok
+returns-in_ok-of_one-in-Vacant-clause-ok c =
+    newly (opening_set c.args.ttl (data_fields c.args.item) c.args.had) c.args.key c.insert.result.now c.args.sets.now.entries (search rules)
+    (c.insert.ensures.value ∙ c.in_ok-of_one-in-Vacant.ensures ∙ ap (λ (n : ℕ). set_of n c.args.ttl (data_fields c.args.item ∷ [])) c.requires.item) _ (search rules)
