@@ -1,5 +1,6 @@
 //! What a primary answers, and to whom: providers, which it asks what it may send (RFC 5936, 5), the transfer service, and the stack
-//! of services with it. Requests, services and signing stand in `xfr_services`, and can be had here too.
+//! of services with it. Requests, services and signing stand in `xfr_services`, what puts records into many messages in `xfr_batch`,
+//! and both can be had here too.
 #![tactic(auto)]
 
 mod examples;
@@ -15,6 +16,10 @@ pub use laws::commits_may_be_pushed;
 pub use providers::{HistoryProvider, XfrData, XfrDataProvider, XfrDataProviderError};
 pub use stored_zones::{StoredZone, current_data};
 pub use transfer::{XfrMiddlewareStream, XfrMiddlewareSvc, XfrMode};
+pub use xfr_batch::{
+    BatchReadyError, CallbackBatcher, Callbacks, PushResult, ReadyMessages, ResourceRecordBatcher,
+    XfrRrBatcher, start_batch,
+};
 pub use xfr_services::{
     CallResult, PostprocessingState, RefuseSvc, Replies, ReplyStream, Request, Service,
     ServiceError, ServiceFeedback, TransportSpecificContext, TsigMiddlewareSvc, TsigStream,
