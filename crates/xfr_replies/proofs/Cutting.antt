@@ -112,11 +112,10 @@ pub first_single : (room : ℕ) (r : Record) (rest : List Record) (pages : List 
 first_single room r rest [] cut = let e = cut.joined in cc
 first_single room r rest ([] ∷ more) cut = absurd (true≢false (sym cut.filled))
 first_single room r rest ((x ∷ []) ∷ more) cut =
-    let each : are_single room more ≡ true = (and_parts _ _ cut.filled).1 in
     let joined : x ∷ joined_pages more ≡ r ∷ rest = cut.joined in
     let first : x ≡ r = cc in
     let behind : joined_pages more ≡ rest = cc in
-    record { more = more; first = ap (λ y. (y ∷ []) ∷ more) first; cut = record { joined = behind; filled = each } }
+    record { more = more; first = ap (λ y. (y ∷ []) ∷ more) first; cut = record { joined = behind; filled = (and_parts _ _ cut.filled).1 } }
 first_single room r rest ((x ∷ y ∷ page) ∷ more) cut =
     let two : (length (x ∷ y ∷ page) == 1) ≡ true = (and_parts _ _ (and_parts _ _ cut.filled).0).0 in
     absurd (true≢false (sym two ∙ two_or_more (length (x ∷ y ∷ page)) (omega arith)))

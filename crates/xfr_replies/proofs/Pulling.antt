@@ -57,7 +57,7 @@ pub room_is : (s : Kept) (q : List ℕ) (limit : ℕ) (page : List Record) → s
 room_is s q limit page soft some = ap (λ l. fits (push_limit l) (message_wire (page_answer q page))) soft ∙ page_fits q limit page some
 
 -- .. and that message is the page's
-message_is : (s : Kept) (q : List ℕ) (limit : ℕ) (page : List Record) → s.soft_byte_limit ≡ Some limit → message_with (transfer_begins s q) page ≡ page_message q limit page
+pub message_is : (s : Kept) (q : List ℕ) (limit : ℕ) (page : List Record) → s.soft_byte_limit ≡ Some limit → message_with (transfer_begins s q) page ≡ page_message q limit page
 message_is s q limit page soft = ap (λ l. record { octets = message_wire (page_answer q page); limit = push_limit l }) soft
 
 -- ---- one page
@@ -65,10 +65,13 @@ message_is s q limit page soft = ap (λ l. record { octets = message_wire (page_
 end_behind : (q : List ℕ) (limit : ℕ) (page xs : List Record) → nat_le (room_of page) (page_room q limit) ≡ true → end_sent q limit (page ++ xs) ≡ end_sent q limit xs
 end_behind q limit page xs within = ap (λ t. if t then Given (feedback_item EndTransaction) else servfail_sent q) (all_behind (page_room q limit) page xs within)
 
--- where a page is the first of any cut, it is sent first
+-- a page is the first of any cut of what can be sent of a text that begins with it
+abbrev IsFirst : ℕ → Bool → List Record → List Record → Type 0
+IsFirst room singles page xs = (pages : List (List Record)) → IsCutInto room singles (page ++ sendable room xs) pages → FirstPage room singles page (sendable room xs) pages
+
+-- such a page is sent first
 gives_page : (q : List ℕ) (limit : ℕ) (singles : Bool) (page xs : List Record) (items : List Sending) → nat_le (room_of page) (page_room q limit) ≡ true
-    → ((pages : List (List Record)) → IsCutInto (page_room q limit) singles (page ++ sendable (page_room q limit) xs) pages → FirstPage (page_room q limit) singles page (sendable (page_room q limit) xs) pages)
-    → SendsRest q limit singles (page ++ xs) items → (rest : List Sending) × (items ≡ page_sent q limit page ∷ rest) × SendsRest q limit singles xs rest
+    → IsFirst (page_room q limit) singles page xs → SendsRest q limit singles (page ++ xs) items → (rest : List Sending) × (items ≡ page_sent q limit page ∷ rest) × SendsRest q limit singles xs rest
 gives_page q limit singles page xs items within first s =
     let room = page_room q limit in
     let f = first s.pages (subst (λ t. IsCutInto room singles t s.pages) (sendable_behind room page xs within) s.cut) in (
@@ -110,6 +113,40 @@ never_full s m hard full = true≢false (sym full ∙ ap (λ l. has_reached l (h
     header_count : Building → ℕ
     header_count x = ancount_in x.octets
 
+-- ---- messages that are given back
+
+module _ (s : Kept) (q : List ℕ) (limit : ℕ) (begun : List Record) (answer : Option Building) (soft : s.soft_byte_limit ≡ Some limit) (message : IsBegun (transfer_begins s q) (transfer_is_full s) begun answer) where
+  -- a message without room for the next record is the first page of any cut
+  pub full_first : (singles : Bool) (r : Record) (xs : List Record) (m : Building) (new : Option Building) → s.hard_rr_limit ≡ (if singles then Some 1 else None)
+      → Tries (transfer_begins s q) (transfer_is_full s) r begun answer (Ok (NotPushedMessageFull m)) new → IsFirst (page_room q limit) singles begun (r ∷ xs)
+  full_first true r xs m new hard tries = absurd (tries.0 (none_begun s q begun answer hard message))
+  full_first false r xs m new hard tries =
+      let room = page_room q limit in
+      let no_room = sym (room_is s q limit (begun ++ r ∷ []) soft (not_nil begun r)) ∙ tries.2 in
+      let within = sym (room_is s q limit begun soft tries.0) ∙ tries.1 in
+      λ pages cut. first_page room begun (sendable room (r ∷ xs)) pages tries.0 within (ends_before room begun r xs no_room) cut
+
+  -- so is one that is full with it
+  pub limited_first : (singles : Bool) (r : Record) (xs : List Record) (m : Building) (new : Option Building) → s.hard_rr_limit ≡ (if singles then Some 1 else None)
+      → Tries (transfer_begins s q) (transfer_is_full s) r begun answer (Ok (PushedAndLimitReached m)) new → IsFirst (page_room q limit) singles (begun ++ r ∷ []) xs
+  limited_first false r xs m new hard tries = absurd (never_full s (message_with (transfer_begins s q) (begun ++ r ∷ [])) hard tries.1)
+  limited_first true r xs m new hard tries =
+      let room = page_room q limit in
+      subst (λ p. IsFirst room true (p ++ r ∷ []) xs) (sym (none_begun s q begun answer hard message)) (λ pages cut. first_single room r (sendable room xs) pages cut)
+
+  -- and what is begun at the end
+  pub last_first : (singles : Bool) → s.hard_rr_limit ≡ (if singles then Some 1 else None) → begun ≢ [] → has_room (transfer_begins s q) begun ≡ true → IsFirst (page_room q limit) singles begun []
+  last_first true hard some room = absurd (some (none_begun s q begun answer hard message))
+  last_first false hard some room = λ pages cut. first_page (page_room q limit) begun [] pages some (sym (room_is s q limit begun soft some) ∙ room) tt cut
+
+-- the same of a cut of the whole text
+pub first_of_text : (s : Kept) (q : List ℕ) (limit : ℕ) (singles : Bool) (page xs : List Record) (pages : List (List Record)) → s.soft_byte_limit ≡ Some limit → page ≢ [] → has_room (transfer_begins s q) page ≡ true
+    → IsFirst (page_room q limit) singles page xs → IsCutInto (page_room q limit) singles (sendable (page_room q limit) (page ++ xs)) pages
+    → FirstPage (page_room q limit) singles page (sendable (page_room q limit) xs) pages
+first_of_text s q limit singles page xs pages soft some room first cut =
+    let within = sym (room_is s q limit page soft some) ∙ room in
+    first pages (subst (λ t. IsCutInto (page_room q limit) singles t pages) (sendable_behind (page_room q limit) page xs within) cut)
+
 -- ---- the text's first record
 
 pub at_first : (xs : List Record) (r : Record) → slice_get xs 0 ≡ Some r → xs ≡ r ∷ drop 1 xs
@@ -146,8 +183,7 @@ module _ (old new : Batching Kept) (kept : new ≡ record old { answer = new.ans
   -- a message is given, and none is begun
   given : (limit : ℕ) (singles : Bool) (page xs : List Record) (items : List Sending) (m : Building) → old.state.soft_byte_limit ≡ Some limit → old.state.hard_rr_limit ≡ (if singles then Some 1 else None)
       → page ≢ [] → has_room (transfer_begins old.state old.request) page ≡ true
-      → ((pages : List (List Record)) → IsCutInto (page_room old.request limit) singles (page ++ sendable (page_room old.request limit) xs) pages
-      → FirstPage (page_room old.request limit) singles page (sendable (page_room old.request limit) xs) pages)
+      → IsFirst (page_room old.request limit) singles page xs
       → SendsRest old.request limit singles (page ++ xs) items → m ≡ message_with (transfer_begins old.state old.request) page → new.answer ≡ None
       → (rest : List Sending) × (items ≡ Given (reply_item m) ∷ rest) × Continues new xs rest
   given limit singles page xs items m soft hard some room first sends is none =
@@ -171,67 +207,26 @@ module _ (old new : Batching Kept) (kept : new ≡ record old { answer = new.ans
   pub full : (r : Record) (xs : List Record) (items : List Sending) (m : Building) → (k : Continues old (r ∷ xs) items)
       → Tries (transfer_begins old.state old.request) (transfer_is_full old.state) r k.begun old.answer (Ok (NotPushedMessageFull m)) new.answer
       → (rest : List Sending) × (items ≡ Given (reply_item m) ∷ rest) × Continues new (r ∷ xs) rest
-  full r xs items m k tries = by_mode k.singles k.hard k.sends
-    where
-      room : ℕ
-      room = page_room old.request k.limit
-
-      no_room : nat_le (room_of (k.begun ++ r ∷ [])) room ≡ false
-      no_room = sym (room_is old.state old.request k.limit (k.begun ++ r ∷ []) k.soft (not_nil k.begun r)) ∙ tries.2
-
-      within : nat_le (room_of k.begun) room ≡ true
-      within = sym (room_is old.state old.request k.limit k.begun k.soft tries.0) ∙ tries.1
-
-      by_mode : (singles : Bool) → old.state.hard_rr_limit ≡ (if singles then Some 1 else None) → SendsRest old.request k.limit singles (k.begun ++ r ∷ xs) items
-          → (rest : List Sending) × (items ≡ Given (reply_item m) ∷ rest) × Continues new (r ∷ xs) rest
-      by_mode true hard sends = absurd (tries.0 (none_begun old.state old.request k.begun old.answer hard k.message))
-      by_mode false hard sends =
-          given k.limit false k.begun (r ∷ xs) items m k.soft hard tries.0 tries.1
-          (λ pages cut. first_page room k.begun (sendable room (r ∷ xs)) pages tries.0 within (ends_before room k.begun r xs no_room) cut)
-          sends tries.3 tries.4
+  full r xs items m k tries =
+      given k.limit k.singles k.begun (r ∷ xs) items m k.soft k.hard tries.0 tries.1
+      (full_first old.state old.request k.limit k.begun old.answer k.soft k.message k.singles r xs m new.answer k.hard tries) k.sends tries.3 tries.4
 
   -- the message is full with the record
   pub limited : (r : Record) (xs : List Record) (items : List Sending) (m : Building) → (k : Continues old (r ∷ xs) items)
       → Tries (transfer_begins old.state old.request) (transfer_is_full old.state) r k.begun old.answer (Ok (PushedAndLimitReached m)) new.answer
       → (rest : List Sending) × (items ≡ Given (reply_item m) ∷ rest) × Continues new xs rest
-  limited r xs items m k tries = by_mode k.singles k.hard k.sends
-    where
-      b : Beginning
-      b = transfer_begins old.state old.request
-
-      by_mode : (singles : Bool) → old.state.hard_rr_limit ≡ (if singles then Some 1 else None) → SendsRest old.request k.limit singles (k.begun ++ r ∷ xs) items
-          → (rest : List Sending) × (items ≡ Given (reply_item m) ∷ rest) × Continues new xs rest
-      by_mode false hard sends = absurd (never_full old.state (message_with b (k.begun ++ r ∷ [])) hard tries.1)
-      by_mode true hard sends =
-          let none = none_begun old.state old.request k.begun old.answer hard k.message in
-          let room = subst (λ p. has_room b (p ++ r ∷ []) ≡ true) none tries.0 in
-          let is = subst (λ p. m ≡ message_with b (p ++ r ∷ [])) none tries.2 in
-          let text = subst (λ p. SendsRest old.request k.limit true (p ++ r ∷ xs) items) none sends in
-          given k.limit true (r ∷ []) xs items m k.soft hard (not_nil [] r) room
-          (λ pages cut. first_single (page_room old.request k.limit) r (sendable (page_room old.request k.limit) xs) pages cut)
-          text is tries.3
+  limited r xs items m k tries =
+      given k.limit k.singles (k.begun ++ r ∷ []) xs items m k.soft k.hard (not_nil k.begun r) tries.0
+      (limited_first old.state old.request k.limit k.begun old.answer k.soft k.message k.singles r xs m new.answer k.hard tries)
+      (subst (λ t. SendsRest old.request k.limit k.singles t items) (sym (append_assoc k.begun (r ∷ []) xs)) k.sends) tries.2 tries.3
 
   -- none is left, and a message was begun
   pub last : (m : Building) (items : List Sending) → (k : Continues old [] items) → old.answer ≡ Some m → new.answer ≡ None
       → (rest : List Sending) × (items ≡ Given (reply_item m) ∷ rest) × Continues new [] rest
-  last m items k was none = by_mode k.singles k.hard k.sends
-    where
-      b : Beginning
-      b = transfer_begins old.state old.request
-
-      had : IsBegun b (transfer_is_full old.state) k.begun (Some m)
-      had = subst (λ a. IsBegun b (transfer_is_full old.state) k.begun a) was k.message
-
-      within : nat_le (room_of k.begun) (page_room old.request k.limit) ≡ true
-      within = sym (room_is old.state old.request k.limit k.begun k.soft had.0) ∙ had.2
-
-      by_mode : (singles : Bool) → old.state.hard_rr_limit ≡ (if singles then Some 1 else None) → SendsRest old.request k.limit singles (k.begun ++ []) items
-          → (rest : List Sending) × (items ≡ Given (reply_item m) ∷ rest) × Continues new [] rest
-      by_mode true hard sends = absurd (had.0 (none_begun old.state old.request k.begun old.answer hard k.message))
-      by_mode false hard sends =
-          given k.limit false k.begun [] items m k.soft hard had.0 had.2
-          (λ pages cut. first_page (page_room old.request k.limit) k.begun [] pages had.0 within tt cut)
-          sends had.1 none
+  last m items k was none =
+      let had = subst (λ a. IsBegun (transfer_begins old.state old.request) (transfer_is_full old.state) k.begun a) was k.message in
+      given k.limit k.singles k.begun [] items m k.soft k.hard had.0 had.2
+      (last_first old.state old.request k.limit k.begun old.answer k.soft k.message k.singles k.hard had.0 had.2) k.sends had.1 none
 
 -- ---- the ends
 
