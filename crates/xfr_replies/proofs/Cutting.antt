@@ -249,3 +249,33 @@ sendable_fits room (r ∷ rest) = fits_by_first room r rest (has_page room r) re
 pub has_pages : (room : ℕ) (singles : Bool) (text : List Record) → (pages : List (List Record)) × IsCutInto room singles (sendable room text) pages
 has_pages room true text = has_singles room (sendable room text) (sendable_fits room text)
 has_pages room false text = has_cut room (sendable room text) (sendable_fits room text)
+
+-- ---- .. and only one
+
+ends_first : (room : ℕ) (page : List Record) (more : List (List Record)) (rest : List Record) → is_filled room page more ≡ true → joined_pages more ≡ rest → EndsBefore room page rest
+ends_first room page more [] filled joined = tt
+ends_first room page more (x ∷ rest) filled joined = filled_by room page more x rest filled joined
+
+some_page : (room : ℕ) (page : List Record) (more : List (List Record)) → are_pages room (page ∷ more) ≡ true → page ≢ []
+some_page room [] more each none = true≢false (sym each)
+some_page room (r ∷ page) more each none = cc
+
+one_filled : (room : ℕ) (text : List Record) (pages others : List (List Record)) → IsCutInto room false text pages → IsCutInto room false text others → pages ≡ others
+one_filled room text [] others cut other = sym (no_pages room false others (subst (λ t. IsCutInto room false t others) (sym cut.joined) other))
+one_filled room text (page ∷ more) others cut other =
+    let within = within_first room page more cut.filled in
+    let f = first_page room page (joined_pages more) others (some_page room page more cut.filled) within (ends_first room page more (joined_pages more) (filled_first room page more cut.filled) refl)
+    (subst (λ t. IsCutInto room false t others) (sym cut.joined) other) in
+    ap (λ ps. page ∷ ps) (one_filled room (joined_pages more) more f.more (record { joined = refl; filled = pages_behind room page more cut.filled }) f.cut) ∙ sym f.first
+
+one_single : (room : ℕ) (text : List Record) (pages others : List (List Record)) → IsCutInto room true text pages → IsCutInto room true text others → pages ≡ others
+one_single room [] pages others cut other = no_pages room true pages cut ∙ sym (no_pages room true others other)
+one_single room (r ∷ rest) pages others cut other =
+    let f = first_single room r rest pages cut in
+    let g = first_single room r rest others other in
+    f.first ∙ ap (λ ps. (r ∷ []) ∷ ps) (one_single room rest f.more g.more f.cut g.cut) ∙ sym g.first
+
+-- a text has one cut
+pub one_cut : (room : ℕ) (singles : Bool) (text : List Record) (pages others : List (List Record)) → IsCutInto room singles text pages → IsCutInto room singles text others → pages ≡ others
+one_cut room true text pages others cut other = one_single room text pages others cut other
+one_cut room false text pages others cut other = one_filled room text pages others cut other

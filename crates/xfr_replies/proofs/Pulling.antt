@@ -22,11 +22,11 @@ use Rattle.xfr_batch.proofs.BatchRooms.{not_nil, begun_none}
 use Rattle.xfr_batch.proofs.XfrReady.{fewer, small_batch}
 use Rattle.xfr_services.specs.Items.{Sending, reply_item, feedback_item}
 use Rattle.xfr_services.specs.Items.Sending.{Given}
-use Rattle.xfr_services.specs.declared.services.ServiceFeedback.TheVariants.{EndTransaction}
+use Rattle.xfr_services.specs.declared.services.ServiceFeedback.TheVariants.{BeginTransaction, EndTransaction}
 use Rattle.xfr_replies.specs.TransferPages.{page_answer, page_message, page_room, has_page, sendable, EndsBefore, FirstPage}
-use Rattle.xfr_replies.specs.PagedReplies.{SendsRest, page_sent, end_sent, servfail_sent}
+use Rattle.xfr_replies.specs.PagedReplies.{SendsRest, TransferSends, page_sent, end_sent, servfail_sent}
 use Rattle.xfr_replies.specs.PulledStreams.{Continues, begun_left, messages_left}
-use Rattle.xfr_replies.proofs.Cutting.{room_more, one_room, first_page, first_single, no_pages, sendable_behind, sendable_none, all_behind, has_pages}
+use Rattle.xfr_replies.proofs.Cutting.{room_more, one_room, first_page, first_single, no_pages, sendable_behind, sendable_none, all_behind, has_pages, one_cut}
 
 -- ---- room
 
@@ -293,3 +293,17 @@ begins b q limit singles text asked none state =
         sends = subst (λ r. SendsRest r limit singles text rest) (sym asked) sends;
       },
     )
+
+-- what is sent of a text is one thing
+pub one_sent : (q : List ℕ) (limit : ℕ) (singles : Bool) (text : List Record) (items others : List Sending) → TransferSends q limit singles text items → TransferSends q limit singles text others → items ≡ others
+one_sent q limit singles text items others s t =
+    let room = page_room q limit in
+    let pages = one_cut room singles (sendable room text) s.2.pages t.2.pages s.2.cut t.2.cut in
+    let rest = s.2.sent ∙ ap (λ ps. map (page_sent q limit) ps ++ end_sent q limit text ∷ []) pages ∙ sym t.2.sent in
+    s.1 ∙ ap (λ r. Given (feedback_item BeginTransaction) ∷ r) rest ∙ sym t.1
+
+pub some_sent : (q : List ℕ) (limit : ℕ) (singles : Bool) (text : List Record) → (items : List Sending) × TransferSends q limit singles text items
+some_sent q limit singles text =
+    let pages = has_pages (page_room q limit) singles text in
+    let rest = map (page_sent q limit) pages.0 ++ end_sent q limit text ∷ [] in
+    (Given (feedback_item BeginTransaction) ∷ rest, (rest, refl, record { pages = pages.0; cut = pages.1; sent = refl }))

@@ -8,6 +8,8 @@ ghost use Rattle.xfr_batch.specs.BatchSteps.{Tries};
 ghost use Rattle.xfr_batch.specs.ReadyMessages.{Kept};
 ghost use Rattle.xfr_batch.specs.XfrBatches.{transfer_begins, transfer_is_full};
 ghost use Rattle.xfr_batch.specs.declared.batcher.PushResult.TheVariants.{NotPushedMessageFull, PushedAndLimitReached};
+ghost use Rattle.xfr_services.specs.Items.{Sending};
+ghost use Rattle.xfr_replies.specs.PagedReplies.{TransferSends};
 ghost use Rattle.xfr_replies.specs.TransferPages.{page_message, page_room, sendable, EndsBefore, FirstPage};
 
 /// A page that is within its room, and has none for what stands behind it, is the first of any cut.
@@ -19,10 +21,20 @@ pub fn full_pages_come_first()
     ensures none { (room : ℕ) (singles : Bool) (pages : List (List Record)) → IsCutInto room singles [] pages → pages ≡ [] }
 {}
 
-/// What can be sent of a text can be cut into pages.
-pub fn texts_have_pages()
-    ensures { (room : ℕ) (singles : Bool) (text : List Record)
+/// What can be sent of a text can be cut into pages in just one way.
+pub fn texts_have_one_cut()
+    ensures some { (room : ℕ) (singles : Bool) (text : List Record)
         → (pages : List (List Record)) × IsCutInto room singles (sendable room text) pages }
+    ensures one { (room : ℕ) (singles : Bool) (text : List Record) (pages others : List (List Record))
+        → IsCutInto room singles text pages → IsCutInto room singles text others → pages ≡ others }
+{}
+
+/// Of each text something is sent in answer to a request, and just one thing.
+pub fn transfers_send_one_thing()
+    ensures some { (request : List ℕ) (limit : ℕ) (singles : Bool) (text : List Record)
+        → (items : List Sending) × TransferSends request limit singles text items }
+    ensures one { (request : List ℕ) (limit : ℕ) (singles : Bool) (text : List Record) (items others : List Sending)
+        → TransferSends request limit singles text items → TransferSends request limit singles text others → items ≡ others }
 {}
 
 /// A transfer's message has room for a page exactly where the page is within the room that the limit leaves beside header and question.
