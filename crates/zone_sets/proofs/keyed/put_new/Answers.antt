@@ -5,21 +5,21 @@ use Rattle.zone_values.specs.TypedSets.{set_of}
 use Rattle.zone_sets.specs.SetEdits.{last_set}
 use Rattle.zone_sets.proofs.KeptTypes.{found_own}
 use Rattle.zone_sets.proofs.SetWrites.{stood, stayed, newly, on_ok, on_err}
-use Rattle.zone_sets.proofs.keyed.put_last.Goals as goal
+use Rattle.zone_sets.proofs.keyed.put_new.Goals as goal
 
 -- The set at the key is of the key's type, and so are the data.
-pub append-requires : goal.append-requires
-append-requires c = c.requires.item ∙ sym (found_own c.args.sets.now.entries c.args.key c.into_mut.result.now c.requires.types (sym c.into_mut.ensures.value ∙ ap entry_value (sym c.in-Occupied.is) ∙ c.in-Ok.ensures.value))
+pub append_new-requires : goal.append-requires
+append_new-requires c = c.requires.item ∙ sym (found_own c.args.sets.now.entries c.args.key c.into_mut.result.now c.requires.types (sym c.into_mut.ensures.value ∙ ap entry_value (sym c.in-Occupied.is) ∙ c.in-Ok.ensures.value))
 
 -- The set that stood is written anew, or stays.
 pub returns-in-Occupied-clause-ok : goal.returns-in-Occupied-clause-ok
 returns-in-Occupied-clause-ok c =
-    on_ok c.append.result _ _ c.append.ensures.ok (λ h. stood (last_set c.args.ttl (data_fields c.args.item)) c.args.key c.into_mut.result.now c.append.new.self c.args.sets.now.entries c.requires.types
+    on_ok c.append_new.result _ _ c.append_new.ensures.ok (λ h. stood (last_set c.args.ttl (data_fields c.args.item)) c.args.key c.into_mut.result.now c.append_new.new.self c.args.sets.now.entries c.requires.types
     (sym c.into_mut.ensures.value ∙ ap entry_value (sym c.in-Occupied.is) ∙ c.in-Ok.ensures.value) h _ (search rules))
 
 pub returns-in-Occupied-clause-err : goal.returns-in-Occupied-clause-err
 returns-in-Occupied-clause-err c =
-    on_err c.append.result _ _ c.append.ensures.err (λ h. stayed c.args.key c.into_mut.result.now c.append.new.self c.args.sets.now.entries c.in-Ok.ensures.ordered
+    on_err c.append_new.result _ _ c.append_new.ensures.err (λ h. stayed c.args.key c.into_mut.result.now c.append_new.new.self c.args.sets.now.entries c.in-Ok.ensures.ordered
     (sym c.into_mut.ensures.value ∙ ap entry_value (sym c.in-Occupied.is) ∙ c.in-Ok.ensures.value) h _ (search rules))
 
 -- None stood there.
