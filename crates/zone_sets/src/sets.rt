@@ -179,6 +179,14 @@ impl RecordSet {
     }
 }
 
+/// Whether some of the data are equal to the others, by their fields.
+#[tactic(auto, using(crate::proofs::Equality::list_any_map))]
+fn has_equal(items: &[StoredRecordData], item: &StoredRecordData) -> bool
+    ensures { result ≡ list_any (same_data (data_fields item.now)) (map data_fields items.now) }
+{
+    is_among(items, item)
+}
+
 /// Puts data last, and into the index, unless equal data are there. Tells whether they were put. Without memory both stay.
 fn push_unless_there(
     items: &mut Vec<StoredRecordData>,
@@ -197,7 +205,7 @@ fn push_unless_there(
     match seen {
         Some(keys) => push_into_index(items, keys, item),
         None => {
-            if is_among(items, &item) {
+            if has_equal(items, &item) {
                 drop(item);
                 return Ok(false);
             }
@@ -224,7 +232,7 @@ fn push_into_index(
     let key = match DataKey::of(&item) {
         Ok(key) => key,
         Err(error) => {
-            let there = is_among(items, &item);
+            let there = has_equal(items, &item);
             drop(item);
             return told_or(there, error);
         }

@@ -331,6 +331,7 @@ impl ZoneVersion {
             → IfErr result (λ e. IfSome (refusal_of e) (λ why. edits.add self.old r ≡ Err why)) }
         ensures memory { (r : Record) → StandsAt key ttl (data_fields item) r → result ≡ Err EditError.Memory → IsOk (edits.add self.old r) }
         ensures err { OnErr result (self.new ≡ self.old) }
+        ensures folded { OnOk result (fold key.0 ≡ key.0) }
     {
         if !key.owner().ends_with(&self.apex) {
             drop(item);
