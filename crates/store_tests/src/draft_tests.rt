@@ -8,11 +8,15 @@ use std::process::Abort;
 use std::sync::Arc;
 use zone_changes::{Draft, TouchedKeys};
 use zone_types::InMemoryZoneDiff;
-use zone_versions::ZoneVersion;
+use zone_versions::{SetKey, ZoneVersion};
 
 fn add<R: Abort>(rt: &R, alloc: Global, draft: &mut Draft, added: StoredRecord) {
     assert!(rt; draft.shown().refusal(&added).is_none());
-    draft.append(alloc, added).expect(rt, "memory");
+    let key = SetKey::new(added.owner(), added.rtype());
+    let ttl = added.ttl();
+    draft
+        .add(alloc, key, ttl, added.into_data())
+        .expect(rt, "no refusal");
 }
 
 fn delete<R: Abort>(rt: &R, draft: &mut Draft, deleted: StoredRecord) {

@@ -10,8 +10,7 @@ ghost use Rattle.zone_model.specs.Edits.{add, delete, with_sets};
 ghost use Rattle.zone_versions.specs.Puts.{appended, without, with_soa};
 ghost use Rattle.zone_changes.specs.Drafts.{draft, with_version, without_special};
 
-use crate::changes::difference;
-use crate::touched::TouchedKeys;
+use crate::tracked::TrackedKeys;
 use dns_name::{KeyName, Rtype, StoredName, Ttl};
 use dns_rdata::{Soa, StoredRecord};
 use std::alloc::{AllocError, Global};
@@ -21,23 +20,23 @@ use zone_diffs::InMemoryZoneDiff;
 use zone_sets::SetKey;
 use zone_versions::{RecordSet, ZoneVersion};
 
-/// A version that is edited, and the one that it began as. They agree but at the keys that were touched.
+/// A version that is edited, and the one that it began as. They agree but at the tracked keys.
 #[derive(Drop)]
 pub struct Draft {
     base: Arc<ZoneVersion>,
     version: Arc<ZoneVersion>,
-    touched: TouchedKeys,
+    touched: TrackedKeys,
 }
 
 impl Model for Draft {
-    ghost use Rattle.zone_changes.specs.Touched.{Covers};
+    ghost use Rattle.zone_changes.specs.Touched.{CoversIn};
     ghost use Rattle.zone_changes.specs.Drafts.{Drafted, draft};
 
     ghost Value = { Drafted };
 
     ghost view = { λ d. draft d.base.value d.version.value };
 
-    ghost invariant = { λ d. Covers d.touched d.base.value.sets d.version.value.sets };
+    ghost invariant = { λ d. CoversIn d.touched d.base.value.sets d.version.value.sets };
 }
 
 impl Draft {
@@ -48,7 +47,7 @@ impl Draft {
         Ok(Draft {
             version: base.clone()?,
             base,
-            touched: TouchedKeys::new(alloc),
+            touched: TrackedKeys::new(alloc),
         })
     }
 
@@ -172,10 +171,8 @@ impl Draft {
         ensures ok { OnOk result (self.new ≡ with_version self.old (with_sets self.old.version [])) }
         ensures err { OnErr result (self.new ≡ self.old) }
     {
-        // For the proof: the sets are sound.
-        let _ = self.version.keys();
         let cleared = Arc::new(alloc, self.version.emptied(alloc)?)?;
-        self.touched.note_below(&self.version, self.version.apex())?;
+        self.touched.let_go();
         self.version = cleared;
         Ok(())
     }
@@ -209,7 +206,7 @@ impl Draft {
     pub fn difference(&self, alloc: Global) -> Result<Option<InMemoryZoneDiff>, AllocError>
         ensures { IfOk result (λ d. d ≡ (if diffable self.now.base self.now.version then Some (difference self.now.base self.now.version) else None)) }
     {
-        difference(alloc, &self.base, &self.version, &self.touched)
+        self.touched.difference(alloc, &self.base, &self.version)
     }
 }
 

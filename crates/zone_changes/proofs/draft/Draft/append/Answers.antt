@@ -10,4 +10,4 @@ invariant_of-self c =
     let v = c.self.inside.version.value in
     let base = c.self.inside.base.value.sets in
     covers_edit c.append.result c.self.inside.touched c.note.new.self c.new-key.result (fold c.args.added.owner, c.args.added.rtype) base v c.append.new.pending.value (appended v c.args.added) (c.new-key.ensures ∙ (λ i. (fold (c.owner.ensures i), c.rtype.ensures i))) c.in-Ok.ensures.ok c.append.ensures.ok c.append.ensures.err
-    (λ t h. covers_put _ base v c.args.added.owner c.args.added.rtype _ t h) c.self.invariant
+    (λ all t h. covers_put all base v c.args.added.owner c.args.added.rtype _ t h) c.self.invariant
