@@ -57,13 +57,20 @@ added_is v w r e = by (under r.owner v.apex) (has_data v r) (second_alias v r) e
 abbrev standing : Key → ℕ → List Field → Record
 standing k ttl fields = record { owner = k.0; rtype = k.1; class = 0; ttl = ttl; fields = fields }
 
-pub covers_added : {T E : Type 0} (r : Result T E) (kept now : Option (List Key)) (k : Key) (ttl : ℕ) (fields : List Field) (base : Sets) (v w : Version) → now ≡ noted_in kept k → OnOk r (fold k.0 ≡ k.0)
-    → ((q : Record) → StandsAt k ttl fields q → OnOk r (add v q ≡ Ok w)) → OnErr r (w ≡ v) → CoversIn kept base v.sets → CoversIn now base w.sets
-covers_added (Ok t) kept now k ttl fields base v w note folded done err h =
+pub added_covers : {T E : Type 0} (r : Result T E) (k : Key) (ttl : ℕ) (fields : List Field) (v w : Version) → OnOk r (fold k.0 ≡ k.0) → ((q : Record) → StandsAt k ttl fields q → OnOk r (add v q ≡ Ok w)) → OnErr r (w ≡ v)
+    → (keys : List Key) (base : Sets) → is_touched keys k ≡ true → Covers keys base v.sets → Covers keys base w.sets
+added_covers (Ok o) k ttl fields v w folded done err keys base t h =
     let q : Record = standing k ttl fields in
     let place : (fold k.0, k.1) ≡ k = λ i. (folded i, k.1) in
-    covers_edit (Ok t) kept now k (fold k.0, k.1) base v w (appended v q) (sym place) note (added_is v w q (done q (place, refl, refl))) tt (λ all t h. covers_put all base v k.0 k.1 _ t h) h
-covers_added (Err e) kept now k ttl fields base v w note folded done err h = covers_is (noted_in kept k) now base v w note err (covers_noted_in kept k base v.sets h)
+    subst (λ (x : Version). Covers keys base x.sets) (sym (added_is v w q (done q (place, refl, refl)))) (covers_put keys base v k.0 k.1 _ (ap (is_touched keys) place ∙ t) h)
+added_covers (Err e) k ttl fields v w folded done err keys base t h = subst (λ (x : Version). Covers keys base x.sets) (sym err) h
+
+-- the same edit where keys are kept
+pub covers_added : (kept now : Option (List Key)) (k : Key) (a b c : Sets) → now ≡ noted_in kept k → ((keys : List Key) (base : Sets) → is_touched keys k ≡ true → Covers keys base b → Covers keys base c)
+    → CoversIn kept a b → CoversIn now a c
+covers_added kept now k a b c note edit h =
+    subst (λ (l : Option (List Key)). CoversIn l a c) (sym note)
+    (covers_in (λ keys. noted keys k) kept a b a c (λ keys g. edit (noted keys k) a (noted_itself keys k) (covers_noted keys k a b g)) h)
 
 pub covers_glue : (all : List Key) (base : Sets) (v : Version) (r : Record) → is_touched all (fold r.owner, r.rtype) ≡ true → Covers all base v.sets → Covers all base (add_glue v r).sets
 covers_glue all base v r t h = by (not (is_address_in v r) || has_data v r)
