@@ -64,6 +64,22 @@ fn three_addresses_change_their_ttl(rt: HostRuntime) {
     drop(diff);
 }
 
+#[test]
+fn a_whole_zone_in_place_of_the_old_one(rt: HostRuntime) {
+    let alloc = rt.alloc();
+    let mut draft = Draft::of(alloc, zone(&rt, alloc)).expect(&rt, "memory");
+    draft.clear_all(alloc).expect(&rt, "memory");
+    set_serial(&rt, alloc, &mut draft, 2);
+    add(&rt, alloc, &mut draft, address(&rt, alloc, HOST, 60, 1));
+    add(&rt, alloc, &mut draft, address(&rt, alloc, HOST, 60, 2));
+    add(&rt, alloc, &mut draft, address(&rt, alloc, HOST, 60, 3));
+    let told = draft.difference(alloc).expect(&rt, "memory");
+    drop(draft);
+    let diff = told.expect(&rt, "a difference");
+    changes_the_ttl(&rt, alloc, &diff);
+    drop(diff);
+}
+
 /// Asserts that nothing is told of a change from the serial 1 to this one.
 fn tells_nothing<R: Abort>(rt: &R, alloc: Global, serial: u32) {
     let told = told(rt, alloc, serial);
