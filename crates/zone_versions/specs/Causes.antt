@@ -2,8 +2,6 @@
 use Rattle.std.specs.Prelude.{Option, Some, None}
 use Rattle.zone_model.specs.Edits as edits
 use Rattle.zone_model.specs.Edits.{Refusal}
-use Rattle.zone_sets.specs.declared.keyed.PutError.{PutError}
-use Rattle.zone_sets.specs.declared.keyed.PutError.TheVariants as puts
 use Rattle.zone_versions.specs.declared.errors.EditError.{EditError}
 use Rattle.zone_versions.specs.declared.errors.EditError.TheVariants.{OutOfZone, Incompatible, InvalidData, Memory}
 
@@ -13,9 +11,3 @@ refusal_of OutOfZone = Some edits.OutOfZone
 refusal_of Incompatible = Some edits.Incompatible
 refusal_of InvalidData = Some edits.InvalidData
 refusal_of Memory = None
-
--- what data that a set doesn't take mean for an edit
-abbrev pub cause_of : PutError → EditError
-cause_of puts.Equal = Incompatible
-cause_of puts.Second = InvalidData
-cause_of puts.Memory = Memory

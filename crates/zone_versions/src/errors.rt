@@ -2,7 +2,6 @@
 
 use std::alloc::AllocError;
 use thiserror::Error;
-use zone_sets::PutError;
 
 /// Why an edit is refused. The session is then as before.
 #[derive(Clone, Copy, Debug, PartialEq, Eq, Drop, Error)]
@@ -28,20 +27,5 @@ impl From<AllocError> for EditError {
 
     fn from(_error: AllocError) -> EditError {
         EditError::Memory
-    }
-}
-
-impl From<PutError> for EditError {
-    ghost use Rattle.std.specs.Prelude.{◌≡◌};
-    ghost use Rattle.zone_versions.specs.Causes.{cause_of};
-
-    ghost from_gives = { λ e f. f ≡ cause_of e };
-
-    fn from(error: PutError) -> EditError {
-        match error {
-            PutError::Equal => EditError::Incompatible,
-            PutError::Second => EditError::InvalidData,
-            PutError::Memory => EditError::Memory,
-        }
     }
 }

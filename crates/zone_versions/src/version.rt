@@ -29,7 +29,7 @@ use dns_rdata::{RecordData, Soa, StoredRecord, StoredRecordData, ZoneRecordData}
 use std::alloc::{AllocError, Global};
 use std::collections::btree_map::{Iter, Keys};
 use std::marker::Model;
-use zone_sets::{KeyedSets, RecordSet, SetKey};
+use zone_sets::{KeyedSets, PutError, RecordSet, SetKey};
 
 /// One version of a zone (RFC 1034, 4.2): the apex as it was given, the class, and the RRsets.
 #[derive(Drop)]
@@ -261,6 +261,13 @@ impl ZoneVersion {
         !added.owner().ends_with(&self.apex)
     }
 
+    /// Whether a key's owner is the apex or below it.
+    fn is_in_zone(&self, key: &SetKey) -> bool
+        ensures { result ≡ under key.now.0 self.now.apex }
+    {
+        key.owner().ends_with(&self.apex)
+    }
+
     /// Whether data of a key's type stand alone: below the apex a name has one CNAME record at most (RFC 2181, 10.1).
     fn stands_alone(&self, key: &SetKey) -> bool
         ensures { result ≡ (below_apex self.now key.now.0 && (key.now.1 == type_cname)) }
@@ -277,7 +284,7 @@ impl ZoneVersion {
             → IfSome result (λ e. IsSomeAnd (refusal_of e) (λ why. edits.add self.now r ≡ Err why)) }
         ensures accepted { (r : Record) → StandsAt key.now r.ttl (data_fields item.now) r → IfNone result (edits.add self.now r ≡ Ok (appended self.now r)) }
     {
-        if !key.owner().ends_with(&self.apex) {
+        if !self.is_in_zone(key) {
             return Some(EditError::OutOfZone);
         }
         match self.set_in(key) {
@@ -333,14 +340,18 @@ impl ZoneVersion {
         ensures err { OnErr result (self.new ≡ self.old) }
         ensures folded { OnOk result (fold key.0 ≡ key.0) }
     {
-        if !key.owner().ends_with(&self.apex) {
+        if !self.is_in_zone(&key) {
             drop(item);
             drop(key);
             return Err(EditError::OutOfZone);
         }
         let alone = self.stands_alone(&key);
-        self.sets.put_new(alloc, key, ttl, item, alone)?;
-        Ok(())
+        match self.sets.put_new(alloc, key, ttl, item, alone) {
+            Ok(()) => Ok(()),
+            Err(PutError::Equal) => Err(EditError::Incompatible),
+            Err(PutError::Second) => Err(EditError::InvalidData),
+            Err(PutError::Memory) => Err(EditError::Memory),
+        }
     }
 
     /// Takes the data of a record that isn't refused out of its RRset, whose TTL is then the record's; an emptied RRset goes.
