@@ -165,7 +165,7 @@ impl XfrClient {
         ensures pending { result ≢ Ok None → session.new.pending ≡ session.new.current.version }
         // .. and no difference is wanted of the next commit.
         ensures wish { result ≢ Ok None → session.new.compares ≡ false }
-        // In between one is wanted as before, until a version is committed.
+        // In between one is wanted as before, where no version was committed.
         ensures keeps { result ≡ Ok None → KeepsWish session.old session.new }
     {
         let Some(mut exchange) = self.exchange.take() else {
@@ -312,7 +312,8 @@ fn apply_all<R>(
     Ok(())
 }
 
-/// Applies one update, and adds a handle for the version that it commits, for which there is room beforehand.
+/// Applies one update, and adds a handle for the version that it commits, for which there is room beforehand. What a commit tells isn't
+/// looked at.
 fn apply_one<R>(
     rt: &R,
     session: &mut WriteZone<'_>,
@@ -328,7 +329,10 @@ fn apply_one<R>(
         drop(update);
         return Err(update::Error::Memory);
     }
-    if updater.apply(rt, session, update)? {
+    let commits = update.commits();
+    let told = updater.apply(rt, session, update)?;
+    drop(told);
+    if commits {
         let Ok(handle) = session.handle() else {
             unreachable!()
         };
