@@ -13,7 +13,7 @@ ghost use Rattle.zone_sessions.specs.Pending.{told_of};
 use crate::apex::ZoneApex;
 use crate::read::ReadZone;
 use dns_name::{StoredName, Ttl};
-use dns_rdata::{Soa, StoredRecord};
+use dns_rdata::{ReadRecord, Soa, StoredRecord};
 use std::alloc::{AllocError, Global};
 use std::marker::Model;
 use zone_changes::Draft;
@@ -149,6 +149,31 @@ impl<'z> WriteZone<'z> {
         let removed = pending.remove(deleted);
         self.keep(pending);
         Ok(removed?)
+    }
+
+    /// Adds a record that lies in a message, as `add_record` does. Its data are kept in memory of their own; want of memory may come in the place of
+    /// a refusal.
+    pub fn add_read(&mut self, added: &ReadRecord<'_>) -> Result<(), EditError>
+        ensures ok { OnOk result (add self.old.pending added.now ≡ Ok self.new.pending) }
+        ensures refused { IfErr result (λ e. IfSome (refusal_of e) (λ why. add self.old.pending added.now ≡ Err why)) }
+        ensures else_same { self.new ≡ with_pending self.old self.new.pending }
+        ensures err { OnErr result (self.new ≡ self.old) }
+    {
+        let stored = added.flatten(self.alloc)?;
+        self.add_record(stored)
+    }
+
+    /// Deletes a record that lies in a message, as `delete_record` does. Want of memory may come in the place of a refusal.
+    pub fn delete_read(&mut self, deleted: &ReadRecord<'_>) -> Result<(), EditError>
+        ensures ok { OnOk result (delete self.old.pending deleted.now ≡ Ok self.new.pending) }
+        ensures refused { IfErr result (λ e. IfSome (refusal_of e) (λ why. delete self.old.pending deleted.now ≡ Err why)) }
+        ensures else_same { self.new ≡ with_pending self.old self.new.pending }
+        ensures err { OnErr result (self.new ≡ self.old) }
+    {
+        let stored = deleted.flatten(self.alloc)?;
+        let removed = self.delete_record(&stored);
+        drop(stored);
+        removed
     }
 
     /// Makes the apex SOA set this one record.
