@@ -15,7 +15,7 @@ ghost use Rattle.xfr_client.specs.Updating.{Leaves, progress_of, new_version, ne
 
 use crate::update::{Error, ZoneUpdate};
 use dns_name::{StoredName, Ttl};
-use dns_rdata::{ReadRecord, RecordData, Soa, StoredRecord, ZoneRecordData};
+use dns_rdata::{ReadRecord, RecordData, Soa, ZoneRecordData};
 use std::alloc::{AllocError, Global};
 use std::marker::Model;
 use zone_diffs::InMemoryZoneDiff;
@@ -161,12 +161,8 @@ impl ZoneUpdater {
     }
 
     // One record less.
-    #[tactic(auto, using(crate::proofs::Deleting::update_deleted, crate::proofs::Deleting::update_not_deleted, crate::proofs::Adding::and_none))]
-    fn delete(
-        &mut self,
-        session: &mut WriteZone<'_>,
-        deleted: &ReadRecord<'_>,
-    ) -> Result<(), Error>
+    #[tactic(auto, using(crate::proofs::Deleting::update_deleted, crate::proofs::Deleting::update_not_deleted))]
+    fn delete(&mut self, session: &mut WriteZone<'_>, deleted: &ReadRecord<'_>) -> Result<(), Error>
         ensures ok { (before : List Version) → self.old.finished ≡ false → OnOk result (apply_update (progress_of self.old session.old before) (updates.DeleteRecord deleted.now) ≡ Ok (progress_of self.new session.new before)) }
         ensures refused { (before : List Version) → self.old.finished ≡ false → IfErr result (λ e. IfSome (update_fault_of e) (λ why. (apply_update (progress_of self.old session.old before) (updates.DeleteRecord deleted.now) ≡ Err why) × (progress_of self.new session.new before ≡ after_refusal (progress_of self.old session.old before) why))) }
         ensures numbered { result ≡ Err VersionsExhausted → ⊥ }
@@ -174,10 +170,7 @@ impl ZoneUpdater {
         ensures err { OnErr result (session.new ≡ session.old) }
         ensures unchanged { IfErr result (λ e. update_fault_of e ≡ None → self.new ≡ self.old) }
     {
-        let stored = stored(self.alloc, deleted)?;
-        let removed = session.delete_record(&stored);
-        drop(stored);
-        match removed {
+        match session.delete_read(deleted) {
             Ok(()) => Ok(()),
             Err(EditError::Incompatible) => {
                 self.is_finished = true;
@@ -190,7 +183,7 @@ impl ZoneUpdater {
     }
 
     // One record more; data that the set has are passed over while the zone is replaced (RFC 5936, 2.2).
-    #[tactic(auto, using(crate::proofs::Adding::update_added, crate::proofs::Adding::update_passed, crate::proofs::Adding::update_not_passed, crate::proofs::Adding::update_outside, crate::proofs::Adding::update_bad_data, crate::proofs::Adding::and_none))]
+    #[tactic(auto, using(crate::proofs::Adding::update_added, crate::proofs::Adding::update_passed, crate::proofs::Adding::update_not_passed, crate::proofs::Adding::update_outside, crate::proofs::Adding::update_bad_data))]
     fn add(&mut self, session: &mut WriteZone<'_>, added: &ReadRecord<'_>) -> Result<(), Error>
         ensures ok { (before : List Version) → self.old.finished ≡ false → OnOk result (apply_update (progress_of self.old session.old before) (updates.AddRecord added.now) ≡ Ok (progress_of self.new session.new before)) }
         ensures refused { (before : List Version) → self.old.finished ≡ false → IfErr result (λ e. IfSome (update_fault_of e) (λ why. (apply_update (progress_of self.old session.old before) (updates.AddRecord added.now) ≡ Err why) × (progress_of self.new session.new before ≡ after_refusal (progress_of self.old session.old before) why))) }
@@ -199,8 +192,7 @@ impl ZoneUpdater {
         ensures err { OnErr result (session.new ≡ session.old) }
         ensures unchanged { IfErr result (λ e. update_fault_of e ≡ None → self.new ≡ self.old) }
     {
-        let stored = stored(self.alloc, added)?;
-        match session.add_record(stored) {
+        match session.add_read(added) {
             Ok(()) => Ok(()),
             Err(EditError::Incompatible) => {
                 if self.is_replacing {
@@ -213,17 +205,6 @@ impl ZoneUpdater {
             Err(EditError::InvalidData) => Err(Error::InvalidData),
             Err(EditError::Memory) => Err(Error::Memory),
         }
-    }
-}
-
-// A copy that holds its octets.
-fn stored(alloc: Global, found: &ReadRecord<'_>) -> Result<StoredRecord, Error>
-    ensures ok { IfOk result (λ r. r ≡ found.now) }
-    ensures err { IfErr result (λ e. e ≡ Memory) }
-{
-    match found.flatten(alloc) {
-        Ok(stored) => Ok(stored),
-        Err(_) => Err(Error::Memory),
     }
 }
 
@@ -271,10 +252,7 @@ fn put_data(session: &mut WriteZone<'_>, ttl: Ttl, data: Soa<StoredName>) -> Res
 }
 
 // What is pending is published, and told is what the commit tells.
-fn commit<R>(
-    rt: &R,
-    session: &mut WriteZone<'_>,
-) -> Result<Option<InMemoryZoneDiff>, Error>
+fn commit<R>(rt: &R, session: &mut WriteZone<'_>) -> Result<Option<InMemoryZoneDiff>, Error>
     ensures ok { OnOk result (session.new ≡ committed session.old false) }
     ensures difference { IfOk result (λ told. told ≡ told_difference session.old false) }
     ensures err { IfErr result (λ e. (session.new ≡ session.old) × (update_fault_of e ≡ None)) }
