@@ -13,7 +13,7 @@ ghost use Rattle.zone_sync.specs.Modes.{mode_of};
 ghost use Rattle.zone_sync.specs.SoFar.{Asking, asked_octets, asked_mac, asked_id, asked_question, message_so_far, asking, asks_other, IsTooLong};
 ghost use Rattle.zone_sync.specs.Standing.{asking_of, Stands, TakesReply, ExchangeStands, IsUnderWay};
 ghost use Rattle.zone_sync.specs.Replies.{AnswersReply, AnswersRequest, IsAnswerTo, TestsReply, TakesMessage};
-ghost use Rattle.zone_sync.specs.Steps.{Ahead, KeepsWish, TakesOne, TakesAll};
+ghost use Rattle.zone_sync.specs.Steps.{Ahead, KeepsWish, StaysStill, TakesOne, TakesAll};
 
 use crate::outcome::{SyncError, SyncOk};
 use dns_name::{KeyName, Labelled, ParsedName, Rtype, ToName};
@@ -165,8 +165,11 @@ impl XfrClient {
         ensures pending { result ≢ Ok None → session.new.pending ≡ session.new.current.version }
         // .. and no difference is wanted of the next commit.
         ensures wish { result ≢ Ok None → session.new.compares ≡ false }
-        // In between one is wanted as before, until a version is committed.
+        // In between one is wanted as before, where no version was committed ..
         ensures keeps { result ≡ Ok None → KeepsWish session.old session.new }
+        // .. and of the replies of a whole text none is before its end.
+        ensures still { (base : Commit) (taken : List (List ℕ)) (before : List Commit) → result ≡ Ok None → Stands self.old session.old (asking_of self.old base) taken before made.old.items
+            → StaysStill session.old session.new }
     {
         let Some(mut exchange) = self.exchange.take() else {
             unreachable!()
@@ -312,7 +315,8 @@ fn apply_all<R>(
     Ok(())
 }
 
-/// Applies one update, and adds a handle for the version that it commits, for which there is room beforehand.
+/// Applies one update, and adds a handle for the version that it commits, for which there is room beforehand. What a commit tells isn't
+/// looked at.
 fn apply_one<R>(
     rt: &R,
     session: &mut WriteZone<'_>,
@@ -328,7 +332,10 @@ fn apply_one<R>(
         drop(update);
         return Err(update::Error::Memory);
     }
-    if updater.apply(rt, session, update)? {
+    let commits = update.commits();
+    let told = updater.apply(rt, session, update)?;
+    drop(told);
+    if commits {
         let Ok(handle) = session.handle() else {
             unreachable!()
         };
