@@ -2,20 +2,20 @@
 use Rattle.std.proofs.Common.{◌≡◌, ℕ, ◌+◌, ◌<◌, true, false, List, [], ◌∷◌, ◌++◌, length, length-append, refl, sym, ap, ◌∙◌, arith, Some, lt-ltb, add-zero, eq-eqb, ne_eqb, lit<}
 use Rattle.std.specs.Prelude.{flat_map}
 use Rattle.std.specs.List.{AllByRecursion}
-use Rattle.std.proofs.lemmas.List.{append-nil}
-use Rattle.dns_name.specs.Octets.{u32_octets, u16_octets}
+use Rattle.std.proofs.lemmas.List.{append_assoc, append-nil}
+use Rattle.dns_name.specs.Octets.{u32_octets, u16_octets, u48_octets}
 use Rattle.dns_name.specs.Names.{Name, name_wire, is_name}
 use Rattle.dns_rdata.specs.Records.{Record, record_wire, data_wire}
 use Rattle.dns_wire.specs.Wire.{Message, message_wire, header_wire, question_wire, counts_wire, counts_of, with_additional}
 use Rattle.dns_wire.specs.Parse.{parsed}
 use Rattle.dns_rdata.specs.Heads.{RawRecord}
-use Rattle.tsig_port.specs.Tsig.{Tsig, tsig_wire, tsig_rest, tsig_record, tsig_of, is_tsig, signature_in, signature_by, signature_of}
+use Rattle.tsig_port.specs.Tsig.{Tsig, tsig_wire, tsig_rest, tsig_at, tsig_record, tsig_of, is_tsig, signature_in, signature_by, signature_of}
 use Rattle.tsig_port.specs.Tsig.Signature.{Signed}
 use Rattle.dns_wire.specs.Written.{IsRecord, IsMessage, head_at, heads_from, parsed_of}
 use Rattle.tsig_port.specs.Signing.{IsTsig, NoTsigs}
 use Rattle.dns_wire.proofs.DataWriting.{front_length}
 use Rattle.dns_wire.proofs.Pushing.{with_more, additional_more, message_wire-more_additional}
-use Rattle.dns_wire.proofs.ItemWriting.{parsed-message_wire, shifted}
+use Rattle.dns_wire.proofs.ItemWriting.{parsed-message_wire, octets_read, name_read, shifted, u16_read}
 use Rattle.tsig_rdata.proofs.DataReading.{tsig_read}
 
 -- ---- the last additional record
