@@ -1,5 +1,5 @@
 -- What is told of data that are put, or not put.
-use Rattle.std.proofs.Common.{◌≡◌, Bool, true, false, ◌&&◌, List, [], ◌∷◌, ◌++◌, All, refl, sym, subst, Option, Some, None, Result, Ok, Err, is_some, map}
+use Rattle.std.proofs.Common.{◌≡◌, Bool, true, false, ◌&&◌, List, [], ◌∷◌, ◌++◌, All, refl, sym, subst, Option, None, Result, Ok, Err, is_some, map}
 use Rattle.std.specs.Map.{lookup}
 use Rattle.std.proofs.lemmas.List.Elements.{All-push}
 use Rattle.dns_rdata.specs.Records.{Field}

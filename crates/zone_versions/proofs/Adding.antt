@@ -4,7 +4,7 @@ use Rattle.dns_name.specs.Names.{fold, under}
 use Rattle.dns_name.specs.Codes.{type_cname}
 use Rattle.dns_rdata.specs.Records.{Field, Record}
 use Rattle.zone_model.specs.Version.{RecordSet, Key, Sets, Version, set_in, below_apex}
-use Rattle.zone_model.specs.Edits.{Refusal, OutOfZone, Incompatible, InvalidData, add, has_data, second_alias, with_sets}
+use Rattle.zone_model.specs.Edits.{OutOfZone, Incompatible, InvalidData, add, has_data, second_alias, with_sets}
 use Rattle.zone_model.proofs.Folded.{fold-fold, under_alike, same_name_alike}
 use Rattle.zone_sets.specs.SetEdits.{put_with, last_set}
 use Rattle.zone_sets.specs.PutCauses.{has_equal, TellsPut}

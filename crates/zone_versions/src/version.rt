@@ -238,10 +238,10 @@ impl ZoneVersion {
     pub fn is_second_alias(&self, added: &StoredRecord) -> bool
         ensures { result ≡ edits.second_alias self.now added.now }
     {
-        if !self.is_below_apex(added.owner()) {
+        if added.rtype() != Rtype::CNAME {
             return false;
         }
-        if added.rtype() != Rtype::CNAME {
+        if !self.is_below_apex(added.owner()) {
             return false;
         }
         self.has_set(added.owner(), Rtype::CNAME)

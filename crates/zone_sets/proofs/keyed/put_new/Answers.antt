@@ -1,4 +1,4 @@
-use Rattle.std.proofs.Common.{◌≡◌, ℕ, [], ◌∷◌, ◌∙◌, ap, sym, subst, Option, rules}
+use Rattle.std.proofs.Common.{ℕ, [], ◌∷◌, ◌∙◌, ap, sym, subst, Option, rules}
 use Rattle.std.specs.BTreeMap.Entry.{entry_value}
 use Rattle.dns_rdata.specs.ZoneData.{data_fields}
 use Rattle.zone_model.specs.Version.{RecordSet}

@@ -1,4 +1,4 @@
-use Rattle.std.proofs.Common.{◌≡◌, true, ap, sym, ◌∙◌, ◌&&◌, is_some}
+use Rattle.std.proofs.Common.{ap, sym, ◌∙◌, ◌&&◌, is_some}
 use Rattle.dns_rdata.specs.ZoneData.{data_fields}
 use Rattle.zone_model.specs.Version.{set_in}
 use Rattle.zone_sets.specs.PutCauses.{has_equal}
