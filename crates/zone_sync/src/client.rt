@@ -21,7 +21,7 @@ use dns_rdata::ReadRecord;
 use dns_wire::{AdditionalBuilder, Header, MessageBuf, MessageBuilder, PushError, Question};
 use std::alloc::Global;
 use std::marker::Model;
-use tsig_port::{ClientSequence, Key, Time48, ValidationError};
+use tsig_port::{ClientSequence, Key, Time48};
 use xfr_client::{
     XfrResponseInterpreter, XfrZoneUpdateIterator, ZoneUpdate, ZoneUpdater, protocol, update,
 };
@@ -215,8 +215,7 @@ impl Exchange {
         }
     }
 
-    /// A reply that has a header, and whose signature passes the tests after those taken before; it loses its TSIG. An unsigned one
-    /// is refused, though the sequence takes it: a transfer's replies are each to be covered as they are applied (RFC 8945, 5.3.1).
+    /// A reply that has a header, and whose signature passes the tests after those taken before; it loses its TSIG.
     fn checked(&mut self, octets: Vec<u8>, at: Time48) -> Result<MessageBuf, SyncError>
         ensures answers { (a : Asking) (taken : List (List ℕ)) → a.at ≡ at → self.old.sequence.key ≡ a.key → ClientStands (λ k. k) self.old.sequence (asked_mac a) taken
             → AnswersReply a taken octets.items self.new.sequence result }
@@ -224,9 +223,6 @@ impl Exchange {
     {
         let mut message = MessageBuf::from_octets(octets)?;
         self.sequence.answer(&mut message, at)?;
-        if self.sequence.unsigned() > 0 {
-            return Err(SyncError::Tsig(ValidationError::TooManyUnsigned));
-        }
         Ok(message)
     }
 

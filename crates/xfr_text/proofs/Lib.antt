@@ -1,0 +1,6 @@
+mod Behind
+mod Texts
+mod Stops
+mod Placing
+mod Reading
+mod Skipping
