@@ -28,7 +28,8 @@ fn last_tsig<'m>(message: &Message<'m>) -> Result<Option<ParsedRecord<'m>>, Pars
     ensures found { IfOk result (λ o. MatchOption o (signature_of message.now ≡ Unsigned) (λ r. signature_of message.now ≡ signature_by r.raw (tsig_of message.now r.raw))) }
     ensures none { OnErr result (signature_of message.now ≡ Malformed) }
 {
-    message.end()?;
+    // For the proof: a message has a header.
+    let _ = message.as_slice();
     let mut records = message.additional()?;
     while let Some(reading) = records.next_record() {
         let record = reading?;

@@ -10,7 +10,7 @@ use Rattle.dns_wire.specs.Wire.{Message, header_in, message_wire}
 use Rattle.dns_wire.specs.Parse.{Parsed, parsed, questions_in}
 use Rattle.dns_wire.specs.Written.{IsMessage, IsRecord, head_at, heads_from, parsed_of}
 use Rattle.dns_wire.proofs.ItemWriting.{parsed-message_wire}
-use Rattle.tsig_port.specs.Tsig.{mac_in, is_signed, tsig_record, answer_tsig, signed_answer, signed_from}
+use Rattle.tsig_port.specs.Tsig.{mac_in, tsig_record, answer_tsig, signed_answer, signed_from}
 use Rattle.tsig_port.specs.Checked.{answer_fault, taken_message}
 use Rattle.tsig_port.specs.Signing.{CanSign}
 use Rattle.tsig_port.proofs.SignedAnswers as answers
@@ -107,8 +107,8 @@ module _ (a : Asking) (at : ℕ) (v : Version) (f : Fits a at v) where
   pub faultless : fault_so_far a [] w ≡ None
   unfolding fault_so_far
   faultless =
-      ap (λ mac. answer_fault 0 a.key mac a.at [] w) (sym (requests.mac_read_is a f.is_key f.asked_early (apex_is_name a at v f) (small_class a at v f)))
-      ∙ answers.passes a.key (mac_in (asked_octets a)) at a.at 300 f.is_key f.early (lit< tt) f.near 0 [] None M can_sign refl refl
+      ap (λ mac. answer_fault a.key mac a.at [] w) (sym (requests.mac_read_is a f.is_key f.asked_early (apex_is_name a at v f) (small_class a at v f)))
+      ∙ answers.passes a.key (mac_in (asked_octets a)) at a.at 300 f.is_key f.early (lit< tt) f.near [] None M can_sign refl
 
   pub all_passed : Passed (fault_so_far a) (w ∷ [])
   all_passed = one_passed (fault_so_far a) [] w (none_passed (fault_so_far a)) faultless (reply_header a at v)
@@ -120,5 +120,4 @@ module _ (a : Asking) (at : ℕ) (v : Version) (f : Fits a at v) where
       let r = record_wire (tsig_record a.key.name (answer_tsig a.key (mac_in (asked_octets a)) None (message_wire M) at 300)) in
       let taken : taken_message w ≡ message_wire M ++ r = answers.taken_is a.key (mac_in (asked_octets a)) at a.at 300 f.is_key f.early (lit< tt) f.near None M can_sign in
       let read : message_so_far (taken_message w) ≡ read_of M = ap message_so_far taken ∙ read_so_far (message_wire M ++ r) (read_of M) (built_is_read M r is_message f.have) in
-      let signed : is_signed w ≡ true = answers.is_signed_sent a.key (mac_in (asked_octets a)) at a.at 300 f.is_key f.early (lit< tt) f.near None M can_sign in
-      ap (λ x. record { message = x; signed = is_signed w }) read ∙ ap (λ b. record { message = read_of M; signed = b }) signed
+      ap (λ x. record { message = x }) read

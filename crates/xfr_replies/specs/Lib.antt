@@ -1,0 +1,3 @@
+pub mod TransferPages
+pub mod PagedReplies
+pub mod PulledStreams
