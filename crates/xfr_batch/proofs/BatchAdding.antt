@@ -38,7 +38,7 @@ longer h qs xs ys =
       length-append (flat_map record_wire xs) (flat_map record_wire ys),
     )
 
-record_long : (r : Record) → 10 ≤ length (record_wire r)
+pub record_long : (r : Record) → 10 ≤ length (record_wire r)
 record_long r =
     let d = data_wire r.fields in
     let a = name_wire r.owner ++ u16_octets r.rtype in

@@ -35,13 +35,13 @@ counted q s rs small = answers-counted (axfr_header (header_in q)) (questions_in
 below : (n k : ℕ) → nat_le n k ≡ false → k < n
 below n k e = grind (arith, nat_tests)
 
-fewer : (q : List ℕ) (s : Kept) (rs : List Record) (n : ℕ) → s.hard_rr_limit ≡ Some n → length rs < 65535 → transfer_is_full s (message_with (transfer_begins s q) rs) ≡ false → length rs < n
+pub fewer : (q : List ℕ) (s : Kept) (rs : List Record) (n : ℕ) → s.hard_rr_limit ≡ Some n → length rs < 65535 → transfer_is_full s (message_with (transfer_begins s q) rs) ≡ false → length rs < n
 fewer q s rs n limit small not_full =
     let P : Option ℕ → Type 0 = λ l. has_reached l (ancount_in (message_with (transfer_begins s q) rs).octets) ≡ false in
     let Q : ℕ → Type 0 = λ k. nat_le n k ≡ false in
     below n (length rs) (subst Q (counted q s rs small) (subst P limit not_full))
 
-small_batch : (q : List ℕ) (s : Kept) (rs : List Record) → has_room (transfer_begins s q) rs ≡ true → length rs < 65535
+pub small_batch : (q : List ℕ) (s : Kept) (rs : List Record) → has_room (transfer_begins s q) rs ≡ true → length rs < 65535
 small_batch q s rs room = few (transfer_begins s q).limit (axfr_header (header_in q)) (questions_in q) rs room
 
 -- all records but the last, and the last

@@ -1,5 +1,5 @@
 -- The steps that a push is made of.
-use Rattle.std.specs.Prelude.{◌≡◌, ◌≢◌, ℕ, Bool, true, false, List, [], ◌∷◌, ◌++◌, Option, Some, None, Result, Ok, Err}
+use Rattle.std.specs.Prelude.{◌≡◌, ◌≢◌, ℕ, Bool, true, false, List, [], ◌∷◌, ◌++◌, Option, Some, None, is_some, Result, Ok, Err}
 use Rattle.dns_rdata.specs.Records.{Record}
 use Rattle.dns_wire.specs.Wire.{Building}
 use Rattle.dns_wire.specs.declared.builder.PushError.{PushError}
@@ -52,6 +52,22 @@ Tries b is_full r begun old (Ok Retry) new = ⊥
 Tries b is_full r begun old (Err ShortBuf) new = (begun ≡ []) × (has_room b (r ∷ []) ≡ false) × (new ≡ None)
 Tries b is_full r begun old (Err CountOverflow) new = ⊥
 Tries b is_full r begun old (Err Memory) new = new ≡ old
+
+-- where a message is given back that has no room for a record, what is kept stays
+abbrev pub KeepsWhereFull : Option Building → Result PushResult PushError → Option Building → Type 0
+KeepsWhereFull old (Ok (NotPushedMessageFull m)) new = new ≡ old
+KeepsWhereFull old (Ok PushedAndReadyForMore) new = Unit {0}
+KeepsWhereFull old (Ok (PushedAndLimitReached m)) new = Unit {0}
+KeepsWhereFull old (Ok Retry) new = Unit {0}
+KeepsWhereFull old (Err e) new = Unit {0}
+
+-- .. that message is the one that was begun, and none is begun then
+abbrev pub GivesBack : Option Building → Result PushResult PushError → Option Building → Type 0
+GivesBack old (Ok (NotPushedMessageFull m)) new = (is_some old ≡ true) × (new ≡ None)
+GivesBack old (Ok PushedAndReadyForMore) new = Unit {0}
+GivesBack old (Ok (PushedAndLimitReached m)) new = Unit {0}
+GivesBack old (Ok Retry) new = Unit {0}
+GivesBack old (Err e) new = Unit {0}
 
 -- a message handed on that others follow: whether the record was pushed, as it was told
 abbrev pub HandedOn : {T E : Type 0} → (T → Building → Bool → Result (Unit {0}) E → T → Type 0) → T → Building → Bool → Result Bool E → T → Type 0

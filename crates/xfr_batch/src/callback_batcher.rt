@@ -2,12 +2,13 @@
 ghost use Rattle.std.specs.Prelude.{◌≡◌, [], List, None, IsOk};
 ghost use Rattle.dns_rdata.specs.Records.{Record};
 ghost use Rattle.dns_wire.specs.Builds.{Builds};
-ghost use Rattle.xfr_batch.specs.Batches.{Batch, Stands, message_with};
+ghost use Rattle.xfr_batch.specs.Batches.{Batch, IsBegun, Stands, message_with};
+ghost use Rattle.xfr_batch.specs.BatchSteps.{Tries, GivesBack};
 ghost use Rattle.xfr_batch.specs.BatchCalls.{Pushes, Finishes};
 
 use crate::batcher::{PushResult, ResourceRecordBatcher};
 use crate::callbacks::Callbacks;
-use crate::pushing::{hand_on_last, push_or_retry};
+use crate::pushing::{hand_on_last, push_into, push_or_retry};
 use dns_rdata::ComposeRecord;
 use dns_wire::{AnswerBuilder, Message, MessageBuf, PushError};
 use std::alloc::Global;
@@ -38,6 +39,13 @@ impl<C, T> CallbackBatcher<C, T> {
         ensures { result.now ≡ self.now.state }
     {
         &self.callback_state
+    }
+
+    /// The request that is answered.
+    pub fn request(&self) -> &MessageBuf
+        ensures { result.now ≡ self.now.request }
+    {
+        &self.request
     }
 
     /// The callbacks' state as a value of its own. A message that is begun is lost.
@@ -91,6 +99,37 @@ impl<T, C: Callbacks<T>> CallbackBatcher<C, T> {
             &mut self.callback_state,
             item,
         )
+    }
+
+    /// Tries once to add a record to the message that is begun, or to a new one, and hands nothing on: a message that is full is given back,
+    /// with the record (`PushedAndLimitReached`) or, where it has no room for that, without (`NotPushedMessageFull`). None is begun then, and
+    /// the record can be tried again. `Retry` never comes.
+    ///
+    /// `ShortBuf` tells that the record has no room in a message of its own. Without memory nothing has changed. It is for a caller that
+    /// keeps what is made itself, as a stream that is pulled.
+    pub fn try_push<R: ComposeRecord>(&mut self, item: &R) -> Result<PushResult, PushError>
+        ensures tries { (begun : List Record)
+            → IsBegun (C.begins self.old.state self.old.request) (C.is_full self.old.state) begun self.old.answer
+            → Tries (C.begins self.old.state self.old.request) (C.is_full self.old.state) (R.record_of item.now)
+            begun self.old.answer result self.new.answer }
+        ensures kept { self.new ≡ record self.old { answer = self.new.answer } }
+        ensures given { GivesBack self.old.answer result self.new.answer }
+    {
+        push_into::<T, C, R>(
+            self.alloc,
+            &self.request.as_message(),
+            &mut self.answer,
+            &self.callback_state,
+            item,
+        )
+    }
+
+    /// Takes out the message that is begun, if there is one, and hands nothing on: the end for a caller that keeps what is made itself.
+    pub fn take_answer(&mut self) -> Option<AnswerBuilder>
+        ensures taken { result ≡ self.old.answer }
+        ensures after { self.new ≡ record self.old { answer = None } }
+    {
+        self.answer.take()
     }
 
     /// Hands the message that is begun to `batch_ready`, as the last one. Nothing is called where none is begun. Where

@@ -4,7 +4,7 @@ ghost use Rattle.dns_rdata.specs.Records.{Record};
 ghost use Rattle.dns_wire.specs.Builds.{Builds};
 ghost use Rattle.xfr_batch.specs.Batches.{Beginning, Batch, Stands, IsBegun, message_with, has_room, batching};
 ghost use Rattle.xfr_batch.specs.BatchCalls.{Pushes, Finishes};
-ghost use Rattle.xfr_batch.specs.BatchSteps.{Settles, Joins, Opens, Tries, HandedOn, TriesOnce, TriesAgain};
+ghost use Rattle.xfr_batch.specs.BatchSteps.{Settles, Joins, Opens, Tries, KeepsWhereFull, GivesBack, HandedOn, TriesOnce, TriesAgain};
 
 use crate::batcher::PushResult;
 use crate::callbacks::Callbacks;
@@ -34,8 +34,9 @@ fn push_next<T, C: Callbacks<T>, R: ComposeRecord>(
     answer: AnswerBuilder,
     item: &R,
 ) -> Result<PushResult, PushError>
-    ensures { (b : Beginning) (begun : List Record) → answer ≡ message_with b begun → has_room b begun ≡ true
+    ensures joins { (b : Beginning) (begun : List Record) → answer ≡ message_with b begun → has_room b begun ≡ true
         → Joins b (C.is_full state.now) (R.record_of item.now) begun kept.old result kept.new }
+    ensures keeps { KeepsWhereFull kept.old result kept.new }
 {
     let mut answer = answer;
     match answer.push(item) {
@@ -98,17 +99,18 @@ fn push_first<T, C: Callbacks<T>, R: ComposeRecord>(
 }
 
 /// Adds a record to the message that is kept, or to a new one, and gives back a message that is full with it or has no room for it.
-fn push_into<T, C: Callbacks<T>, R: ComposeRecord>(
+pub(crate) fn push_into<T, C: Callbacks<T>, R: ComposeRecord>(
     alloc: Global,
     request: &Message<'_>,
     kept: &mut Option<AnswerBuilder>,
     state: &T,
     item: &R,
 ) -> Result<PushResult, PushError>
-    ensures { (begun : List Record)
+    ensures tries { (begun : List Record)
         → IsBegun (C.begins state.now request.now) (C.is_full state.now) begun kept.old
         → Tries (C.begins state.now request.now) (C.is_full state.now) (R.record_of item.now)
         begun kept.old result kept.new }
+    ensures given { GivesBack kept.old result kept.new }
 {
     match kept.take() {
         Some(answer) => push_next::<T, C, R>(kept, state, answer, item),

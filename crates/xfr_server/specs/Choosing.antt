@@ -2,16 +2,16 @@
 use Rattle.std.specs.Prelude.{◌≡◌, ℕ, Bool, false, Option, Some, None, Result, Ok, Err}
 use Rattle.dns_name.specs.Serial.{serial_upto}
 use Rattle.xfr_server.specs.Transfers.{Choice}
-use Rattle.xfr_server.specs.Transfers.Choice.{Refuse, SoaAlone as TheSoa, Whole as TheText}
+use Rattle.xfr_server.specs.Transfers.Choice.{Refuse, SoaAlone as TheSoa, Text as TheText}
 use Rattle.xfr_services.specs.declared.services.ServiceError.{ServiceError}
 use Rattle.xfr_services.specs.declared.services.ServiceError.TheVariants.{InternalError, Memory}
 use Rattle.xfr_server.specs.declared.transfer.Reply.{Reply}
-use Rattle.xfr_server.specs.declared.transfer.Reply.TheVariants.{Error, SoaAlone, Whole}
+use Rattle.xfr_server.specs.declared.transfer.Reply.TheVariants.{Error, SoaAlone, Text}
 
 abbrev pub choice_shown : Reply → Choice
 choice_shown (Error rcode) = Refuse rcode
 choice_shown (SoaAlone zone) = TheSoa zone.version
-choice_shown (Whole zone) = TheText zone.version
+choice_shown (Text text singles) = TheText text.zone.version singles text.records
 
 -- One case for each answer: this choice, or want of memory.
 abbrev pub Chooses : Choice → Result Reply ServiceError → Type 0

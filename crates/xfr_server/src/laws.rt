@@ -1,6 +1,7 @@
 // Laws of what a primary sends, each the contract of a function with an empty body.
 ghost use Rattle.std.specs.Prelude.{List, Option};
 ghost use Rattle.tsig_port.specs.Tsig.{TsigKey};
+ghost use Rattle.dns_rdata.specs.Records.{Record};
 ghost use Rattle.zone_model.specs.Offer.{Offer};
 ghost use Rattle.xfr_server.specs.Items.{Sending};
 ghost use Rattle.xfr_server.specs.Offers.{CommitsMayBePushed, HistoryGrants, HistoryIsOffered};
@@ -10,18 +11,18 @@ ghost use Rattle.xfr_services.specs.declared.requests.Request.{Request as Reques
 use crate::{PrimaryStack, Service, XfrDataProvider};
 use tsig_port::KeyStore;
 
-/// A signed request for a full transfer that a primary accepts and its provider grants is answered with the whole text in one
-/// message, signed as the first answer.
+/// A signed request for a full transfer that a primary accepts and its provider grants is answered with the whole text, a message for each
+/// of its pages, signed one after another.
 pub fn full_transfers_are_sent<
     KS: KeyStore + Drop,
     N: Service<Option<KS::Key>> + Drop,
     X: XfrDataProvider<Option<KS::Key>> + Drop,
 >()
-    ensures { (next : N) (provider : X) (keys : KS) (r : RequestOf (Unit {0})) (key : TsigKey) (offer : Offer) (sent : Option (List Sending))
-        → SendsWhole (⟦<PrimaryStack<N, X, KS> as Service<()>>⟧.Sends ((next, provider), keys)) KS.Key.the_key (KS.key_of keys) (X.told provider) r key offer sent }
+    ensures { (next : N) (provider : X) (keys : KS) (r : RequestOf (Unit {0})) (key : TsigKey) (offer : Offer) (pages : List (List Record)) (sent : Option (List Sending))
+        → SendsWhole (⟦<PrimaryStack<N, X, KS> as Service<()>>⟧.Sends ((next, provider), keys)) KS.Key.the_key (KS.key_of keys) (X.told provider) r key offer pages sent }
 {}
 
-/// Nothing refuses that message as the first answer to its request, and it has a wire form where its records have one.
+/// Nothing refuses these messages as the answers to their request, and each has a wire form where its records have one.
 pub fn full_transfers_are_taken()
     ensures taken { WholeIsTaken }
     ensures wire { TransferIsMessage }

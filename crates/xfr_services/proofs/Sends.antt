@@ -1,6 +1,6 @@
 -- What the service that signs sends, item by item.
-use Rattle.std.proofs.Common.{◌≡◌, ℕ, ◌+◌, List, [], ◌∷◌, length, Option, Some, None, refl, sym, ap, ◌∙◌, arith}
-use Rattle.std.specs.Prelude.{Result, Ok, Err, option_map}
+use Rattle.std.proofs.Common.{◌≡◌, ℕ, List, [], ◌∷◌, Option, Some, None, refl, sym, ap, ◌∙◌}
+use Rattle.std.specs.Prelude.{◌≢◌, Result, Ok, Err, option_map}
 use Rattle.dns_name.specs.Names.{fold}
 use Rattle.tsig_port.specs.Tsig.{TsigKey, mac_in}
 use Rattle.tsig_port.specs.ServerCheck.{Keys}
@@ -8,7 +8,7 @@ use Rattle.tsig_port.specs.States.{ServerStands}
 use Rattle.xfr_services.specs.Items.{Sending, NextOf, Gives}
 use Rattle.xfr_services.specs.Items.Sending.{Given, Failed}
 use Rattle.xfr_services.specs.Signing.{Signer, Signs, StepsTo, begun, step_item, signed_items}
-use Rattle.xfr_services.specs.SignedStreams.{GivesSigned, SignedLeft, KeepsSigning}
+use Rattle.xfr_services.specs.SignedStreams.{GivesSigned, SignedLeft}
 use Rattle.xfr_services.specs.SignedServing.{SendsSigned, accepted_request, signer_for}
 use Rattle.xfr_services.specs.declared.requests.Request.{Request}
 use Rattle.xfr_services.specs.declared.requests.TransportSpecificContext.{TransportSpecificContext}
@@ -20,49 +20,52 @@ use Rattle.xfr_services.specs.declared.signing.Signing.{Signing}
 use Rattle.xfr_services.specs.declared.signing.Signing.TheVariants.{First}
 use Rattle.xfr_services.specs.declared.signing.TsigStream.TheVariants.{Signed}
 
--- as many items are given as there are
-as_many : (s : Signer) (signing : Signing) (prior : Option (List ℕ)) (items : List Sending) → length (signed_items s signing prior items) ≡ length items
-as_many s signing prior [] = refl
-as_many s signing prior (Failed ∷ more) = rw (as_many s signing prior more) refl
-as_many s signing prior (Given item ∷ more) =
-    let step = step_item s signing prior item in
-    rw (as_many s step.signing step.prior more) refl
+-- what the next service's stream gives, signed, once its first item was
+signed_behind : {S K : Type 0} (LeftOf : S → List Sending → Type 0) (the_key : K → TsigKey) (old new : S) (state after : PostprocessingState K) (items : List Sending) (item : CallResult) (sending : Sending)
+    → (g : GivesSigned LeftOf the_key old state items) → (found : (rest : List Sending) × (g.given ≡ Given item ∷ rest) × LeftOf new rest)
+    → (step_item g.signer g.signing g.prior item).sending ≡ sending
+    → Signs the_key after g.signer (step_item g.signer g.signing g.prior item).signing (step_item g.signer g.signing g.prior item).prior
+    → (rest : List Sending) × (items ≡ sending ∷ rest) × GivesSigned LeftOf the_key new after rest
+signed_behind LeftOf the_key old new state after items item sending g found is signs =
+    let step = step_item g.signer g.signing g.prior item in
+    let rest = signed_items g.signer step.signing step.prior found.0 in (
+      rest,
+      g.signed ∙ ap (signed_items g.signer g.signing g.prior) found.1 ∙ ap (λ s. s ∷ rest) is,
+      record { given = found.0; signer = g.signer; signing = step.signing; prior = step.prior; left = found.2; signs = signs; signed = refl },
+    )
 
-one_more : (x : Sending) (xs : List Sending) → length (x ∷ xs) ≡ length xs + 1
-one_more x xs = omega arith
+module _ {S K : Type 0} (LeftOf : S → List Sending → Type 0) (the_key : K → TsigKey) (old new : S) (state after : PostprocessingState K) (items : List Sending) (item : CallResult) (g : GivesSigned LeftOf the_key old state items)
+    (next : (given : List Sending) → LeftOf old given → (rest : List Sending) × (given ≡ Given item ∷ rest) × LeftOf new rest) where
+  -- the next service's item, signed
+  pub next_made : (made : CallResult)
+      → ((s : Signer) (signing : _) (prior : Option (List ℕ)) → Signs the_key state s signing prior → StepsTo the_key s (begun signing item.feedback) prior (step_item s signing prior item) (Ok made) after)
+      → NextOf (λ xs. GivesSigned LeftOf the_key new after xs) items (Some (Ok made))
+  next_made made steps =
+      let to = steps g.signer g.signing g.prior g.signs in
+      signed_behind LeftOf the_key old new state after items item (Given made) g (next g.given g.left) to.0 to.1
 
--- the next service's item, signed
-pub next_item : {S K : Type 0} (LeftOf : S → List Sending → Type 0) (the_key : K → TsigKey) (old new : S) (state after : PostprocessingState K) (items : List Sending) (item : CallResult) (r : Result CallResult ServiceError)
+  -- .. which has no room for that
+  pub next_refused : ((s : Signer) (signing : _) (prior : Option (List ℕ)) → Signs the_key state s signing prior → StepsTo the_key s (begun signing item.feedback) prior (step_item s signing prior item) (Err InternalError) after)
+      → NextOf (λ xs. GivesSigned LeftOf the_key new after xs) items (Some (Err InternalError))
+  next_refused steps =
+      let to = steps g.signer g.signing g.prior g.signs in
+      signed_behind LeftOf the_key old new state after items item Failed g (next g.given g.left) to.0 to.1
+
+-- .. which is lost for want of memory: there was one
+pub some_item : {S K : Type 0} (LeftOf : S → List Sending → Type 0) (the_key : K → TsigKey) (old new : S) (state : PostprocessingState K) (items : List Sending) (item : CallResult)
     → GivesSigned LeftOf the_key old state items
     → ((given : List Sending) → LeftOf old given → (rest : List Sending) × (given ≡ Given item ∷ rest) × LeftOf new rest)
-    → ((s : Signer) (signing : _) (prior : Option (List ℕ)) → Signs the_key state s signing prior → StepsTo the_key s (begun signing item.feedback) prior (step_item s signing prior item) r after)
-    → NextOf (λ xs. GivesSigned LeftOf the_key new after xs) items (Some r)
-next_item LeftOf the_key old new state after items item (Ok made) g next steps =
+    → items ≢ []
+some_item LeftOf the_key old new state items item g next none =
     let found = next g.given g.left in
-    let step = step_item g.signer g.signing g.prior item in
-    let to = steps g.signer g.signing g.prior g.signs in
-    let rest = signed_items g.signer step.signing step.prior found.0 in (
-      rest,
-      g.signed ∙ ap (signed_items g.signer g.signing g.prior) found.1 ∙ ap (λ s. s ∷ rest) to.0,
-      record { given = found.0; signer = g.signer; signing = step.signing; prior = step.prior; left = found.2; signs = to.1; signed = refl },
-    )
-next_item LeftOf the_key old new state after items item (Err InternalError) g next steps =
-    let found = next g.given g.left in
-    let step = step_item g.signer g.signing g.prior item in
-    let to = steps g.signer g.signing g.prior g.signs in
-    let rest = signed_items g.signer step.signing step.prior found.0 in (
-      rest,
-      g.signed ∙ ap (signed_items g.signer g.signing g.prior) found.1 ∙ ap (λ s. s ∷ rest) to.0,
-      record { given = found.0; signer = g.signer; signing = step.signing; prior = step.prior; left = found.2; signs = to.1; signed = refl },
-    )
-next_item LeftOf the_key old new state after items item (Err Memory) g next steps =
-    let found = next g.given g.left in
-    let begun_now = begun g.signing item.feedback in
-    let rest = signed_items g.signer begun_now g.prior found.0 in (
-      rest,
-      ap length g.signed ∙ as_many g.signer g.signing g.prior g.given ∙ ap length found.1 ∙ one_more (Given item) found.0 ∙ ap (λ n. n + 1) (sym (as_many g.signer begun_now g.prior found.0)),
-      record { given = found.0; signer = g.signer; signing = begun_now; prior = g.prior; left = found.2; signs = steps g.signer g.signing g.prior g.signs; signed = refl },
-    )
+    let first : signed_items g.signer g.signing g.prior (Given item ∷ found.0) ≡ [] = sym (g.signed ∙ ap (signed_items g.signer g.signing g.prior) found.1) ∙ none in
+    cc
+
+-- none is signed where none is given
+some_signed : (s : Signer) (signing : Signing) (prior : Option (List ℕ)) (given items : List Sending) → items ≡ signed_items s signing prior given → given ≢ [] → items ≢ []
+some_signed s signing prior [] items is some none = some refl
+some_signed s signing prior (Failed ∷ more) items is some none = let e = sym is ∙ none in cc
+some_signed s signing prior (Given item ∷ more) items is some none = let e = sym is ∙ none in cc
 
 -- the next service's stream can't make one, or loses one
 pub next_failed : {S K : Type 0} (LeftOf : S → List Sending → Type 0) (the_key : K → TsigKey) (e : ServiceError) (old new : S) (state : PostprocessingState K) (items : List Sending)
@@ -77,23 +80,10 @@ next_failed LeftOf the_key InternalError old new state items g next =
       record { given = found.0; signer = g.signer; signing = g.signing; prior = g.prior; left = found.2; signs = g.signs; signed = refl },
     )
 next_failed LeftOf the_key Memory old new state items g next =
-    let found = next g.given g.left in
-    let rest = signed_items g.signer g.signing g.prior found.0 in (
-      rest,
-      ap length g.signed ∙ as_many g.signer g.signing g.prior g.given ∙ found.1 ∙ ap (λ n. n + 1) (sym (as_many g.signer g.signing g.prior found.0)),
-      record { given = found.0; signer = g.signer; signing = g.signing; prior = g.prior; left = found.2; signs = g.signs; signed = refl },
+    let ended = next g.given g.left in (
+      some_signed g.signer g.signing g.prior g.given items g.signed ended.0,
+      record { given = []; signer = g.signer; signing = g.signing; prior = g.prior; left = ended.1; signs = g.signs; signed = refl },
     )
-
--- what is left where an item can't be signed for want of memory
-pub loses : {S K : Type 0} (LeftOf : S → List Sending → Type 0) (the_key : K → TsigKey) (old new : S) (state after : PostprocessingState K) (item : CallResult) (r : Result CallResult ServiceError)
-    → ((given : List Sending) → LeftOf old given → (rest : List Sending) × (given ≡ Given item ∷ rest) × LeftOf new rest)
-    → ((s : Signer) (signing : _) (prior : Option (List ℕ)) → Signs the_key state s signing prior → StepsTo the_key s (begun signing item.feedback) prior (step_item s signing prior item) r after)
-    → KeepsSigning LeftOf the_key (Signed old state) (Some r) (Signed new after)
-loses LeftOf the_key old new state after item (Ok made) next steps = tt
-loses LeftOf the_key old new state after item (Err InternalError) next steps = tt
-loses LeftOf the_key old new state after item (Err Memory) next steps = λ given s signing prior left signs.
-    let found = next given left in
-    record { rest = found.0; one_less = ap length found.1 ∙ one_more (Given item) found.0; left = found.2; feedback = item.feedback; signs = steps s signing prior signs }
 
 -- ---- the call
 

@@ -1,5 +1,5 @@
 -- What services send: the items of a stream of replies, and what its calls answer.
-use Rattle.std.specs.Prelude.{◌≡◌, ℕ, ◌+◌, Bool, true, false, List, [], ◌∷◌, ◌++◌, length, map, Option, Some, None, Result, Ok, Err}
+use Rattle.std.specs.Prelude.{◌≡◌, ◌≢◌, ℕ, Bool, true, false, List, [], ◌∷◌, ◌++◌, map, Option, Some, None, Result, Ok, Err}
 use Rattle.dns_wire.specs.Wire.{Building}
 use Rattle.dns_wire.specs.declared.builder.PushError.{PushError}
 use Rattle.dns_wire.specs.declared.builder.PushError.TheVariants.{ShortBuf, CountOverflow, Memory as OutOfMemory}
@@ -44,13 +44,13 @@ all_given items = map Given items
 
 -- ---- the calls
 
--- What a stream answers that still gives these items, `After` telling what it gives from then on. Where memory runs out one item is lost,
--- and as many as stood after it are still given.
+-- What a stream answers that still gives these items, `After` telling what it gives from then on. Where memory runs out it has ended:
+-- nothing follows an item that is lost.
 abbrev pub NextOf : (List Sending → Type 0) → List Sending → Option (Result CallResult ServiceError) → Type 0
 NextOf After items None = (items ≡ []) × After []
 NextOf After items (Some (Ok item)) = (rest : List Sending) × (items ≡ Given item ∷ rest) × After rest
 NextOf After items (Some (Err InternalError)) = (rest : List Sending) × (items ≡ Failed ∷ rest) × After rest
-NextOf After items (Some (Err Memory)) = (rest : List Sending) × (length items ≡ length rest + 1) × After rest
+NextOf After items (Some (Err Memory)) = (items ≢ []) × After []
 
 -- a stream that gives what is sent
 pub record Gives {S : Type 0} (Sends : Option (List Sending) → Type 0) (LeftOf : S → List Sending → Type 0) (stream : S) : Type 0 where

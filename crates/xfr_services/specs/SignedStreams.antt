@@ -1,13 +1,9 @@
 -- Which items the stream of signed replies still gives.
-use Rattle.std.specs.Prelude.{◌≡◌, ℕ, ◌+◌, List, [], ◌∷◌, length, Option, Some, None, Result, Err}
+use Rattle.std.specs.Prelude.{◌≡◌, ℕ, List, [], ◌∷◌, Option, Some, None}
 use Rattle.tsig_port.specs.Tsig.{TsigKey}
 use Rattle.xfr_services.specs.Items.{Sending, reply_item}
 use Rattle.xfr_services.specs.Items.Sending.{Given}
-use Rattle.xfr_services.specs.Signing.{Signer, Signs, begun, signed_items}
-use Rattle.xfr_services.specs.declared.services.CallResult.{CallResult}
-use Rattle.xfr_services.specs.declared.services.ServiceError.{ServiceError}
-use Rattle.xfr_services.specs.declared.services.ServiceError.TheVariants.{Memory}
-use Rattle.xfr_services.specs.declared.services.ServiceFeedback.{ServiceFeedback}
+use Rattle.xfr_services.specs.Signing.{Signer, Signs, signed_items}
 use Rattle.xfr_services.specs.declared.signing.Signing.{Signing}
 use Rattle.xfr_services.specs.declared.signing.PostprocessingState.{PostprocessingState}
 use Rattle.xfr_services.specs.declared.signing.TsigStream.{TsigStream}
@@ -35,19 +31,3 @@ SignedLeft LeftOf the_key (Refused None) items = items ≡ []
 SignedLeft LeftOf the_key (Refused (Some reply)) items = items ≡ Given (reply_item reply) ∷ []
 SignedLeft LeftOf the_key (Unsigned replies) items = LeftOf replies items
 SignedLeft LeftOf the_key (Signed replies state) items = GivesSigned LeftOf the_key replies state items
-
--- One item of the next service's stream is lost, and the rest is signed by the same signer after the same MAC: as many replies as before,
--- or all where the lost item began a transaction.
-pub record StaysSigned {S K : Type 0} (LeftOf : S → List Sending → Type 0) (the_key : K → TsigKey) (given : List Sending) (s : Signer) (signing : Signing) (prior : Option (List ℕ)) (replies : S) (state : PostprocessingState K) : Type 0 where
-  pub rest : List Sending
-  pub one_less : length given ≡ length rest + 1
-  pub left : LeftOf replies rest
-  pub feedback : Option ServiceFeedback
-  pub signs : Signs the_key state s (begun signing feedback) prior
-
--- what is left of a stream of signed replies where memory runs out
-abbrev pub KeepsSigning : {S K : Type 0} → (S → List Sending → Type 0) → (K → TsigKey) → TsigStream S K → Option (Result CallResult ServiceError) → TsigStream S K → Type 0
-KeepsSigning LeftOf the_key (Signed old before) (Some (Err Memory)) (Signed new after) = (given : List Sending) (s : Signer) (signing : Signing) (prior : Option (List ℕ))
-    → LeftOf old given → Signs the_key before s signing prior → StaysSigned LeftOf the_key given s signing prior new after
-KeepsSigning LeftOf the_key (Signed old before) (Some (Err Memory)) _ = ⊥
-KeepsSigning LeftOf the_key _ _ _ = Unit {0}

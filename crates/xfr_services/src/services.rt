@@ -119,7 +119,8 @@ pub trait ReplyStream: Drop {
     /// These items are left.
     ghost LeftOf: { Self → List Sending → Type 0 };
 
-    /// The next item; None once there is no more.
+    /// The next item; None once there is no more. Where memory runs out an item is lost, and the stream has ended: who is sent what came
+    /// before never takes what comes later for what follows it.
     fn next_item(&mut self) -> Option<Result<CallResult, ServiceError>>
         ensures progress { OnSome result (remaining self.new < remaining self.old) }
         ensures item { (items : List Sending) → LeftOf self.old items → NextOf (LeftOf self.new) items result };

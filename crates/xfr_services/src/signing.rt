@@ -102,7 +102,6 @@ pub enum TsigStream<S: ReplyStream, K: KeyRef> {
 impl<S: ReplyStream, K: KeyRef> ReplyStream for TsigStream<S, K> {
     ghost use Rattle.std.specs.Prelude.{◌<◌, OnSome};
     ghost use Rattle.xfr_services.specs.Items.{Sending, NextOf};
-    ghost use Rattle.xfr_services.specs.SignedStreams.{KeepsSigning};
 
     ghost remaining = { signed_items_left S.remaining };
 
@@ -112,13 +111,19 @@ impl<S: ReplyStream, K: KeyRef> ReplyStream for TsigStream<S, K> {
         ensures progress { OnSome result (signed_items_left S.remaining self.new < signed_items_left S.remaining self.old) }
         ensures item { (items : List Sending) → SignedLeft S.LeftOf K.the_key self.old items
             → NextOf (SignedLeft S.LeftOf K.the_key self.new) items result }
-        ensures lost { KeepsSigning S.LeftOf K.the_key self.old result self.new }
     {
         match self {
             TsigStream::Refused(reply) => Some(Ok(CallResult::new(reply.take()?))),
             TsigStream::Unsigned(replies) => replies.next_item(),
             TsigStream::Signed(replies, state) => match replies.next_item()? {
-                Ok(item) => Some(state.sign_item(item)),
+                Ok(item) => match state.sign_item(item) {
+                    Ok(signed) => Some(Ok(signed)),
+                    Err(ServiceError::InternalError) => Some(Err(ServiceError::InternalError)),
+                    Err(ServiceError::Memory) => {
+                        *self = TsigStream::Refused(None);
+                        Some(Err(ServiceError::Memory))
+                    }
+                },
                 Err(error) => Some(Err(error)),
             },
         }

@@ -1,9 +1,10 @@
 // The sets that a version has and another lacks.
-ghost use Rattle.std.specs.Prelude.{◌≡◌, ◌==◌, [], length, map, IsTrue, IsSome, IsOk, OnOk, OnErr, option_map, option_copied, slice_get};
+ghost use Rattle.std.specs.Prelude.{◌≡◌, ◌==◌, [], length, map, IsTrue, IsSome, IsOk, OnOk, OnErr, option_map, option_copied, slice_get, find};
 ghost use Rattle.std.specs.List.{list_all};
 ghost use Rattle.std.specs.List.Sorted.{IsStrictlySortedBy};
 ghost use Rattle.std.specs.Map.{keys_of};
 ghost use Rattle.std.specs.Map.Iter.{deref_pair};
+ghost use Rattle.std.specs.Ordering.{is_lt};
 ghost use Rattle.dns_rdata.specs.Soa.{serial_of};
 ghost use Rattle.dns_rdata.specs.ZoneData.{data_fields};
 ghost use Rattle.zone_model.specs.Version.{key_cmp, set_in};
@@ -17,6 +18,7 @@ use std::alloc::{AllocError, Global};
 use std::collections::BTreeMap;
 use std::collections::btree_map::Iter;
 use std::marker::Model;
+use std::ops::Bound;
 use zone_sets::SetKey;
 use zone_values::{Rrset, SharedRrset};
 
@@ -85,6 +87,15 @@ impl DiffSets {
         ensures { option_map deref_pair result ≡ slice_get (map item_of self.now) index }
     {
         self.iter().nth(index)
+    }
+
+    /// The first RRset after a key, with its own key: one search of the map.
+    pub fn first_behind(&self, key: &SetKey) -> Option<(&SetKey, &SharedRrset)>
+        ensures { option_map deref_pair result ≡ option_map item_of (find (λ e. is_lt (key_cmp key.now e.0)) self.now) }
+    {
+        self.entries
+            .range((Bound::Excluded(key), Bound::Unbounded))
+            .next()
     }
 
     /// Puts an RRset of the key's type in place of the one at the key; an empty one removes that. Memory is only needed where there was none.

@@ -1,0 +1,4 @@
+pub mod TransferPages
+pub mod PagedReplies
+pub mod StubTexts
+pub mod PulledStreams

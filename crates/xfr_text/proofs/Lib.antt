@@ -1,0 +1,4 @@
+mod Behind
+mod Texts
+mod Stops
+mod Placing
