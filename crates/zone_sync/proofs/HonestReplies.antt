@@ -6,6 +6,7 @@ use Rattle.std.proofs.lemmas.Bool.{and_parts}
 use Rattle.std.proofs.lemmas.Bool.Decides.{nat_tests}
 use Rattle.std.proofs.lemmas.List.Concat.{length-flat_map}
 use Rattle.std.proofs.lemmas.List.Sums.{sum_by-cons}
+use Rattle.std.proofs.lemmas.List.{length-map}
 use Rattle.dns_name.specs.Names.{is_name, name_wire}
 use Rattle.dns_name.specs.Octets.{u16_octets, u32_octets}
 use Rattle.dns_rdata.specs.Records.{Record, record_wire, data_wire, is_data}
@@ -32,7 +33,7 @@ use Rattle.xfr_course.specs.Honest.{carrier_of}
 use Rattle.xfr_course.specs.Success.{signed_checked}
 use Rattle.zone_sync.specs.SoFar.{Asking, asked_question, request_message, asked_octets, checked_so_far, fault_so_far, message_so_far, header_alone}
 use Rattle.zone_sync.specs.Standing.{Passed}
-use Rattle.zone_sync.specs.Fitting.{answer_room, page_answers, sent_whole, Fits, SendsEach}
+use Rattle.zone_sync.specs.Fitting.{answer_room, answer_with, sent_whole, Fits, SendsEach}
 use Rattle.zone_sync.proofs.Standings.{none_passed, one_passed}
 use Rattle.zone_sync.proofs.HonestNames.{same_is_name}
 use Rattle.zone_sync.proofs.HonestRequests as requests
@@ -66,6 +67,10 @@ all_within : (room : ℕ) (singles : Bool) (text : List Record) (pages : List (L
 all_within room true text pages cut = single_within room pages cut.filled
 all_within room false text pages cut = filled_within room pages cut.filled
 
+-- a text that one message has room for is one page
+pub one_cut : (room : ℕ) (text : List Record) → not (length text == 0) ≡ true → room_of text ≤ room → IsCutInto room false text (text ∷ [])
+one_cut room text full fits = let within : nat_le (room_of text) room ≡ true = le-leb _ _ fits in record { joined = append-nil text; filled = rw (full, within) refl }
+
 -- what holds of all records of a text holds of those of each page
 all_front : (P : Record → Type 0) (xs ys : List Record) → AllByRecursion P (xs ++ ys) → AllByRecursion P xs
 all_front P [] ys h = tt
@@ -89,8 +94,19 @@ long_records : (rs : List Record) → length rs * 10 ≤ room_of rs
 long_records [] = lit≤ tt
 long_records (r ∷ rs) =
     let d = data_wire r.fields in
-    let front = name_wire r.owner ++ u16_octets r.rtype ++ u16_octets r.class ++ u32_octets r.ttl in
-    omega (arith, long_records rs, sum_by-cons (λ r. length (record_wire r)) r rs, length-append (front ++ u16_octets (length d)) d, length-append front (u16_octets (length d)))
+    let a = name_wire r.owner ++ u16_octets r.rtype in
+    let b = a ++ u16_octets r.class in
+    let front = b ++ u32_octets r.ttl in
+    omega (
+      arith,
+      long_records rs,
+      sum_by-cons (λ r. length (record_wire r)) r rs,
+      length-append (front ++ u16_octets (length d)) d,
+      length-append front (u16_octets (length d)),
+      length-append b (u32_octets r.ttl),
+      length-append a (u16_octets r.class),
+      length-append (name_wire r.owner) (u16_octets r.rtype),
+    )
 
 -- ---- the built message as it is read
 
@@ -115,17 +131,15 @@ small_class a at c v f = omega (arith, f.same_class, (soa_is_record a at c v f).
 
 -- ---- what is sent
 
-as_many : (key : TsigKey) (mac : List ℕ) (at fudge : ℕ) (prior : Option (List ℕ)) (ms : List Message) → length (signed_from key mac at fudge prior (map message_wire ms)) ≡ length ms
+as_many : (key : TsigKey) (mac : List ℕ) (at fudge : ℕ) (prior : Option (List ℕ)) (ms : List (List ℕ)) → length (signed_from key mac at fudge prior ms) ≡ length ms
 unfolding signed_from
 as_many key mac at fudge prior [] = refl
-as_many key mac at fudge prior (m ∷ ms) = ap suc (as_many key mac at fudge (Some (answer_tsig key mac prior (message_wire m) at fudge).mac) ms)
-
-as_many_pages : (request : List ℕ) (pages : List (List Record)) → length (map (page_answer request) pages) ≡ length pages
-as_many_pages request [] = refl
-as_many_pages request (page ∷ more) = ap suc (as_many_pages request more)
+as_many key mac at fudge prior (m ∷ ms) = ap suc (as_many key mac at fudge (Some (answer_tsig key mac prior m at fudge).mac) ms)
 
 pub sends_each : SendsEach
-sends_each a at pages = as_many a.key (mac_in (asked_octets a)) at 300 None (page_answers a pages) ∙ as_many_pages (taken_message (asked_octets a)) pages
+sends_each a at pages =
+    let message : List Record → List ℕ = λ page. message_wire (answer_with a page) in
+    as_many a.key (mac_in (asked_octets a)) at 300 None (map message pages) ∙ length-map pages message
 
 pub signed_header : (key : TsigKey) (mac : List ℕ) (prior : Option (List ℕ)) (m : Message) (at fudge : ℕ) → has_header (signed_answer key mac prior (message_wire m) at fudge) ≡ true
 signed_header key mac prior m at fudge =
@@ -164,13 +178,13 @@ module _ (a : Asking) (at : ℕ) (c : Bool) (v : Version) (f : Fits a at c v) wh
   asked_length : length (flat_map question_wire (questions_in request)) ≡ length (question_wire q)
   asked_length = ap (λ qs. length (flat_map question_wire qs)) asked_alone ∙ ap length (append-nil (question_wire q))
 
-  pub page_length : (page : List Record) → length (message_wire (page_answer request page)) ≡ 12 + (length (question_wire q) + room_of page)
+  pub page_length : (page : List Record) → length (message_wire (answer_with a page)) ≡ 12 + (length (question_wire q) + room_of page)
   page_length page = omega (arith, wire_length h (questions_in request) page, asked_length, length-flat_map record_wire page)
 
   pub room_is : answer_room a ≡ 65535 - 12 - length (question_wire q) - compose_len a.key
   room_is = omega (arith, page_length [])
 
-  page_is_message : (page : List Record) → IsWithin (answer_room a) page → AllByRecursion IsRecord page → IsMessage (page_answer request page)
+  page_is_message : (page : List Record) → IsWithin (answer_room a) page → AllByRecursion IsRecord page → IsMessage (answer_with a page)
   page_is_message page within records =
       let P : List Question → Type 0 = λ qs. AllByRecursion IsQuestion qs in
       let Q : List Question → Type 0 = λ qs. length qs < 2 ^ 16 in
@@ -190,7 +204,7 @@ module _ (a : Asking) (at : ℕ) (c : Bool) (v : Version) (f : Fits a at c v) wh
   short_page : (n : ℕ) → not (n == 0) ≡ true → 1 ≤ n
   short_page n some = grind (arith, nat_tests)
 
-  can_sign : (page : List Record) → IsWithin (answer_room a) page → AllByRecursion IsRecord page → CanSign a.key (page_answer request page)
+  can_sign : (page : List Record) → IsWithin (answer_room a) page → AllByRecursion IsRecord page → CanSign a.key (answer_with a page)
   can_sign page within records = record {
     message = page_is_message page within records;
     unsigned = tt;
@@ -198,22 +212,25 @@ module _ (a : Asking) (at : ℕ) (c : Bool) (v : Version) (f : Fits a at c v) wh
     room = omega (arith, page_length page, long_records page, short_page (length page) within.full, within.fits, room_is);
   }
 
-  all_can_sign : (pages : List (List Record)) → AllByRecursion (IsWithin (answer_room a)) pages → AllByRecursion (λ page. AllByRecursion IsRecord page) pages
-      → AllByRecursion (CanSign a.key) (map (page_answer request) pages)
+  -- the pages' messages, one after another
+  abbrev pub messages : List (List Record) → List Message
+  messages pages = map (answer_with a) pages
+
+  all_can_sign : (pages : List (List Record)) → AllByRecursion (IsWithin (answer_room a)) pages → AllByRecursion (λ page. AllByRecursion IsRecord page) pages → AllByRecursion (CanSign a.key) (messages pages)
   all_can_sign [] within records = tt
   all_can_sign (page ∷ more) within records = (can_sign page within.0 records.0, all_can_sign more within.1 records.1)
 
-  all_have : (pages : List (List Record)) → AllByRecursion (λ page. HaveData page) pages → AllByRecursion (λ (m : Message). HaveData m.answers) (map (page_answer request) pages)
+  all_have : (pages : List (List Record)) → AllByRecursion (λ page. HaveData page) pages → AllByRecursion (λ (m : Message). HaveData m.answers) (messages pages)
   all_have [] have = tt
   all_have (page ∷ more) have = (have.0, all_have more have.1)
 
   pub within : AllByRecursion (IsWithin (answer_room a)) f.pages
   within = all_within (answer_room a) c (whole_text v) f.pages f.cut
 
-  pub signable : AllByRecursion (CanSign a.key) (page_answers a f.pages)
+  pub signable : AllByRecursion (CanSign a.key) (messages f.pages)
   signable = all_can_sign f.pages within (in_pages IsRecord (answer_room a) c (whole_text v) f.pages f.cut f.records)
 
-  pub readable : AllByRecursion (λ (m : Message). HaveData m.answers) (page_answers a f.pages)
+  pub readable : AllByRecursion (λ (m : Message). HaveData m.answers) (messages f.pages)
   readable = all_have f.pages (in_pages (λ r. IsTrue (is_data r.rtype r.fields)) (answer_room a) c (whole_text v) f.pages f.cut f.have)
 
   -- ---- in sequence
@@ -229,6 +246,13 @@ module _ (a : Asking) (at : ℕ) (c : Bool) (v : Version) (f : Fits a at c v) wh
 
   abbrev pub sequence : Option (List ℕ) → List Message → List (List ℕ)
   sequence prior ms = signed_from a.key mac at 300 prior (map message_wire ms)
+
+  as_wires : (pages : List (List Record)) → map (λ page. message_wire (answer_with a page)) pages ≡ map message_wire (messages pages)
+  as_wires [] = refl
+  as_wires (page ∷ more) = ap (λ l. message_wire (answer_with a page) ∷ l) (as_wires more)
+
+  sent_is : sent_whole a at f.pages ≡ sequence None (messages f.pages)
+  sent_is = ap (signed_from a.key mac at 300 None) (as_wires f.pages)
 
   -- each passes after those before it
   faultless : (taken : List (List ℕ)) (prior : Option (List ℕ)) (m : Message) → CanSign a.key m → prior_mac taken ≡ prior → unsigned_since taken ≡ [] → fault_so_far a taken (signed prior m) ≡ None
@@ -254,7 +278,7 @@ module _ (a : Asking) (at : ℕ) (c : Bool) (v : Version) (f : Fits a at c v) wh
       subst (Passed (fault_so_far a)) (append_assoc taken (s ∷ []) xs ∙ ap (λ y. taken ++ y ∷ xs) first) all
 
   pub front_passed : (xs rest : List (List ℕ)) → sent_whole a at f.pages ≡ xs ++ rest → Passed (fault_so_far a) xs
-  front_passed xs rest e = part_passed [] None (page_answers a f.pages) xs rest signable refl refl e (none_passed (fault_so_far a))
+  front_passed xs rest e = part_passed [] None (messages f.pages) xs rest signable refl refl (sym sent_is ∙ e) (none_passed (fault_so_far a))
 
   -- each says what it was built of
   checked_is : (prior : Option (List ℕ)) (m : Message) → CanSign a.key m → HaveData m.answers → checked_so_far (signed prior m) ≡ signed_checked (carrier_of m)
@@ -275,5 +299,5 @@ module _ (a : Asking) (at : ℕ) (c : Bool) (v : Version) (f : Fits a at c v) wh
       ap (λ (k : Checked). k ∷ map checked_so_far (sequence (next prior m) ms)) (checked_is prior m can.0 have.0)
       ∙ ap (λ (ks : List Checked). signed_checked (carrier_of m) ∷ ks) (all_checked (next prior m) ms can.1 have.1)
 
-  pub sent_checked : map checked_so_far (sent_whole a at f.pages) ≡ map signed_checked (map carrier_of (page_answers a f.pages))
-  sent_checked = all_checked None (page_answers a f.pages) signable readable
+  pub sent_checked : map checked_so_far (sent_whole a at f.pages) ≡ map signed_checked (map carrier_of (messages f.pages))
+  sent_checked = ap (map checked_so_far) sent_is ∙ all_checked None (messages f.pages) signable readable
