@@ -1,18 +1,17 @@
 -- What is pulled of a text, message by message.
 use Rattle.std.proofs.Common.{◌≡◌, ℕ, ◌+◌, ◌-◌, ◌≤◌, ◌<◌, Bool, true, false, true≢false, List, [], ◌∷◌, ◌++◌, length, map, drop, refl, sym, ap, ◌∙◌, subst, arith}
-use Rattle.std.specs.Prelude.{◌≢◌, ◌&&◌, nat_le, min, flat_map, slice_get, Option, Some, None, Result, Ok, Err, if◌then◌else◌}
+use Rattle.std.specs.Prelude.{◌≢◌, nat_le, min, flat_map, slice_get, Option, Some, None, Ok, Err, if◌then◌else◌}
 use Rattle.std.specs.List.{list_all}
 use Rattle.std.proofs.lemmas.Bool.{and_left}
 use Rattle.std.proofs.lemmas.Bool.Decides.{nat_tests}
-use Rattle.std.proofs.lemmas.List.{append_assoc, append-nil, length-append}
+use Rattle.std.proofs.lemmas.List.{append_assoc, length-append}
 use Rattle.std.proofs.lemmas.List.Sums.{sum_by-cons, sum_by_push}
-use Rattle.dns_name.specs.Codes.{servfail}
 use Rattle.dns_rdata.specs.Records.{Record, record_wire}
 use Rattle.dns_wire.specs.Wire.{Building, header_in, ancount_in, message_wire, fits}
 use Rattle.dns_wire.specs.Parse.{questions_in}
 use Rattle.dns_wire.specs.declared.builder.PushError.TheVariants.{ShortBuf}
 use Rattle.zone_model.specs.Offer.{room_of, IsCutInto}
-use Rattle.xfr_batch.specs.Batches.{Beginning, Batching, IsBegun, message_with, has_room}
+use Rattle.xfr_batch.specs.Batches.{Batching, IsBegun, message_with, has_room}
 use Rattle.xfr_batch.specs.BatchSteps.{Tries}
 use Rattle.xfr_batch.specs.ReadyMessages.{Kept, none_ready}
 use Rattle.xfr_batch.specs.XfrBatches.{axfr_header, push_limit, has_reached, transfer_begins, transfer_is_full}
@@ -26,7 +25,7 @@ use Rattle.xfr_services.specs.declared.services.ServiceFeedback.TheVariants.{Beg
 use Rattle.xfr_replies.specs.TransferPages.{page_answer, page_message, page_room, has_page, sendable, EndsBefore, FirstPage}
 use Rattle.xfr_replies.specs.PagedReplies.{SendsRest, TransferSends, page_sent, end_sent, servfail_sent}
 use Rattle.xfr_replies.specs.PulledStreams.{Continues, begun_left, messages_left}
-use Rattle.xfr_replies.proofs.Cutting.{room_more, one_room, first_page, first_single, no_pages, sendable_behind, sendable_none, all_behind, has_pages, one_cut}
+use Rattle.xfr_replies.proofs.Cutting.{one_room, first_page, first_single, no_pages, sendable_behind, sendable_none, all_behind, has_pages, one_cut}
 
 -- ---- room
 
