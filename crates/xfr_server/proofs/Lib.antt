@@ -7,5 +7,6 @@ pub mod Adding
 pub mod Loops
 pub mod Choice
 pub mod Room
+pub mod Pages
 pub mod FullTransfer
 pub mod Accepted

@@ -22,17 +22,9 @@ use Rattle.xfr_services.specs.declared.requests.Request.{Request}
 use Rattle.xfr_services.specs.declared.requests.TransportSpecificContext.TheVariants.{NonUdp}
 use Rattle.xfr_server.specs.declared.transfer.XfrMode.TheVariants.{Axfr}
 
--- the message that answers a request with a page of a text
-abbrev pub answer_with : {M : Type 0} → Request M → List Record → Message
-answer_with r page = page_answer (taken_message r.message) page
-
--- how many octets of records it has room for, beside a signature with a key
-abbrev pub signed_room : {M : Type 0} → Request M → TsigKey → ℕ
-signed_room r key = page_room (taken_message r.message) (65535 - compose_len key)
-
--- a signed request for a full transfer by a stream that the server accepts and the provider grants, and the pages of its answer, for each
--- record of which there is room
-pub record IsGrantedAxfr {M K : Type 0} (the_key : K → TsigKey) (keys : Keys) (told : List ℕ → Option K → Option ℕ → Result Offer XfrDataProviderError) (r : Request M) (key : TsigKey) (offer : Offer) (pages : List (List Record)) : Type 0 where
+-- a signed request for a full transfer by a stream that the server accepts and the provider grants, and the pages of its answer: there is room
+-- for each record
+pub record IsGrantedAxfr {M K : Type 0} (the_key : K → TsigKey) (keys : Keys) (told : List ℕ → Option K → Option ℕ → Result Offer XfrDataProviderError) (r : Request M) (key : TsigKey) (offer : Offer) : Type 0 where
   pub accepted : verdict keys r.at r.message ≡ Accepted key
   pub known : keys (fold key.name) key.algorithm ≡ Some key
   pub macs : IsTrue (is_mac_len key.algorithm key.signing_len)
@@ -42,18 +34,19 @@ pub record IsGrantedAxfr {M K : Type 0} (the_key : K → TsigKey) (keys : Keys) 
   pub granted : (k : K) → the_key k ≡ key → told (taken_message r.message) (Some k) (asked_serial (taken_message r.message)) ≡ Ok offer
   pub apex : asks_for_apex (sole_question_in (taken_message r.message)) offer.version ≡ true
   pub one_soa : has_one_apex_soa offer.version ≡ true
-  pub cut : IsCutInto (signed_room r key) offer.compatibility (whole_text offer.version) pages
+  pub pages : List (List Record)
+  pub cut : IsCutInto (page_room (taken_message r.message) (65535 - compose_len key)) offer.compatibility (whole_text offer.version) pages
 
 -- what is sent is a message for each page, signed one after another as the answers to the request (RFC 8945, 5.3.1)
 pub record IsSentWhole {M : Type 0} (r : Request M) (key : TsigKey) (pages : List (List Record)) (sent : Option (List Sending)) : Type 0 where
   pub items : List Sending
   pub some : sent ≡ Some items
-  pub messages : sent_by items ≡ record { messages = signed_answers key (mac_in r.message) r.at 300 (map (λ page. message_wire (answer_with r page)) pages); fails = false }
+  pub messages : sent_by items ≡ record { messages = signed_answers key (mac_in r.message) r.at 300 (map message_wire (map (page_answer (taken_message r.message)) pages)); fails = false }
 
 -- the law of full transfers: a primary of these services sends that
 abbrev pub SendsWhole : {M K : Type 0} → (Request M → Option (List Sending) → Type 0) → (K → TsigKey) → Keys → (List ℕ → Option K → Option ℕ → Result Offer XfrDataProviderError)
-    → Request M → TsigKey → Offer → List (List Record) → Option (List Sending) → Type 0
-SendsWhole Sends the_key keys told r key offer pages sent = IsGrantedAxfr the_key keys told r key offer pages → Sends r sent → IsSentWhole r key pages sent
+    → Request M → TsigKey → Offer → Option (List Sending) → Type 0
+SendsWhole Sends the_key keys told r key offer sent = (g : IsGrantedAxfr the_key keys told r key offer) → Sends r sent → IsSentWhole r key g.pages sent
 
 -- the law of what is taken: nothing refuses the first page's message as the first answer to a request that asks so, nor the others as later
 -- ones (RFC 5936, 2.2.1)

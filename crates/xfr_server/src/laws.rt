@@ -1,7 +1,6 @@
 // Laws of what a primary sends, each the contract of a function with an empty body.
 ghost use Rattle.std.specs.Prelude.{List, Option};
 ghost use Rattle.tsig_port.specs.Tsig.{TsigKey};
-ghost use Rattle.dns_rdata.specs.Records.{Record};
 ghost use Rattle.zone_model.specs.Offer.{Offer};
 ghost use Rattle.xfr_server.specs.Items.{Sending};
 ghost use Rattle.xfr_server.specs.Offers.{CommitsMayBePushed, HistoryGrants, HistoryIsOffered};
@@ -18,8 +17,8 @@ pub fn full_transfers_are_sent<
     N: Service<Option<KS::Key>> + Drop,
     X: XfrDataProvider<Option<KS::Key>> + Drop,
 >()
-    ensures { (next : N) (provider : X) (keys : KS) (r : RequestOf (Unit {0})) (key : TsigKey) (offer : Offer) (pages : List (List Record)) (sent : Option (List Sending))
-        → SendsWhole (⟦<PrimaryStack<N, X, KS> as Service<()>>⟧.Sends ((next, provider), keys)) KS.Key.the_key (KS.key_of keys) (X.told provider) r key offer pages sent }
+    ensures { (next : N) (provider : X) (keys : KS) (r : RequestOf (Unit {0})) (key : TsigKey) (offer : Offer) (sent : Option (List Sending))
+        → SendsWhole (⟦<PrimaryStack<N, X, KS> as Service<()>>⟧.Sends ((next, provider), keys)) KS.Key.the_key (KS.key_of keys) (X.told provider) r key offer sent }
 {}
 
 /// Nothing refuses these messages as the answers to their request, and each has a wire form where its records have one.
