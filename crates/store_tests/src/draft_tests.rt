@@ -8,11 +8,15 @@ use std::process::Abort;
 use std::sync::Arc;
 use zone_changes::{Draft, TouchedKeys};
 use zone_types::InMemoryZoneDiff;
-use zone_versions::ZoneVersion;
+use zone_versions::{SetKey, ZoneVersion};
 
 fn add<R: Abort>(rt: &R, alloc: Global, draft: &mut Draft, added: StoredRecord) {
     assert!(rt; draft.shown().refusal(&added).is_none());
-    draft.append(alloc, added).expect(rt, "memory");
+    let key = SetKey::new(added.owner(), added.rtype());
+    let ttl = added.ttl();
+    draft
+        .add(alloc, key, ttl, added.into_data())
+        .expect(rt, "no refusal");
 }
 
 fn delete<R: Abort>(rt: &R, draft: &mut Draft, deleted: StoredRecord) {
@@ -56,6 +60,22 @@ fn told<R: Abort>(rt: &R, alloc: Global, serial: u32) -> Option<InMemoryZoneDiff
 fn three_addresses_change_their_ttl(rt: HostRuntime) {
     let alloc = rt.alloc();
     let diff = told(&rt, alloc, 2).expect(&rt, "a difference");
+    changes_the_ttl(&rt, alloc, &diff);
+    drop(diff);
+}
+
+#[test]
+fn a_whole_zone_in_place_of_the_old_one(rt: HostRuntime) {
+    let alloc = rt.alloc();
+    let mut draft = Draft::of(alloc, zone(&rt, alloc)).expect(&rt, "memory");
+    draft.clear_all(alloc).expect(&rt, "memory");
+    set_serial(&rt, alloc, &mut draft, 2);
+    add(&rt, alloc, &mut draft, address(&rt, alloc, HOST, 60, 1));
+    add(&rt, alloc, &mut draft, address(&rt, alloc, HOST, 60, 2));
+    add(&rt, alloc, &mut draft, address(&rt, alloc, HOST, 60, 3));
+    let told = draft.difference(alloc).expect(&rt, "memory");
+    drop(draft);
+    let diff = told.expect(&rt, "a difference");
     changes_the_ttl(&rt, alloc, &diff);
     drop(diff);
 }

@@ -2,7 +2,7 @@
 
 use crate::common::{APEX, SERVER, add, address, alias, commit, filled, is, name, server, zone};
 use dns_name::{Class, NameRef, Rtype, Ttl};
-use dns_rdata::StoredRecord;
+use dns_rdata::{StoredRecord, record_from_octets};
 use std::alloc::Global;
 use std::process::Abort;
 use zone_store::{EditError, InsertError, ReadZone, WriteZone, ZoneBuilder};
@@ -10,6 +10,9 @@ use zone_store::{EditError, InsertError, ReadZone, WriteZone, ZoneBuilder};
 const A: &[u8] = b"\x01a\x07example\x00";
 
 const B: &[u8] = b"\x01b\x07example\x00";
+
+/// An address record of b, as it is sent.
+const SENT: &[u8] = b"\x01B\x07example\x00\x00\x01\x00\x01\x00\x00\x00\x3c\x00\x04\xc0\x00\x02\x07";
 
 /// Whether a version has a set.
 fn has_set<R: Abort>(rt: &R, zone: &ReadZone, owner: &[u8], rtype: Rtype) -> bool {
@@ -207,6 +210,28 @@ fn deleted(session: &mut WriteZone<'_>, record: StoredRecord) -> Result<(), Edit
     let told = session.delete_record(&record);
     drop(record);
     told
+}
+
+#[test]
+fn takes_a_record_as_it_is_sent(rt: HostRuntime) {
+    let alloc = rt.alloc();
+    let mut zone = filled(&rt, alloc);
+    let mut session = zone.write(alloc);
+    let sent = record_from_octets(SENT).expect(&rt, "a record");
+    let lacking = session.delete_read(&sent);
+    is(&rt, lacking, Err(EditError::Incompatible));
+    is(&rt, session.add_read(&sent), Ok(()));
+    let again = session.add_record(address(&rt, alloc, B, 60, 7));
+    is(&rt, again, Err(EditError::Incompatible));
+    let there = session.add_read(&sent);
+    is(&rt, there, Err(EditError::Incompatible));
+    commit(&rt, &mut session);
+    let first = session.add_read(&sent);
+    is(&rt, first, Err(EditError::Incompatible));
+    is(&rt, session.delete_read(&sent), Ok(()));
+    drop(sent);
+    drop(session);
+    drop(zone);
 }
 
 #[test]

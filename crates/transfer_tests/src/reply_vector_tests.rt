@@ -168,7 +168,8 @@ fn apply_message<R: Abort>(
             drop(update);
             return;
         }
-        updater.apply(rt, session, update).expect(rt, "a fit");
+        let told = updater.apply(rt, session, update).expect(rt, "a fit");
+        drop(told);
     }
 }
 

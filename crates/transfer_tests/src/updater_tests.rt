@@ -2,13 +2,13 @@
 
 use crate::common::{append_set, digits_of, is, octets_of, stored_name};
 use crate::transfer_vectors::{RECORDS, octets_at};
-use dns_name::{Class, Rtype, Serial, StoredName};
+use dns_name::{Class, Rtype, StoredName};
 use dns_rdata::{ReadRecord, RecordData, record_from_octets};
 use std::alloc::Global;
 use std::process::Abort;
 use xfr_client::{ZoneUpdate, ZoneUpdater, update};
 use zone_store::{EditError, ReadZone, RecordSet, WriteZone, ZoneApex, look_up};
-use zone_types::ZoneDiff;
+use zone_types::{InMemoryZoneDiff, ZoneDiff};
 
 /// `jain.ad.jp.`
 pub(crate) const JAIN: &str = "046a61696e026164026a7000";
@@ -21,23 +21,23 @@ const EXAMPLE: &str = "076578616d706c6500";
 
 /// The first version of RFC 1995, 7: in each line an update, its record, and what it answers.
 pub(crate) const FIRST: &str = "\
-AddRecord soa-1 Ok(false)
-AddRecord ns Ok(false)
-AddRecord ns-a Ok(false)
-AddRecord nezu-5 Ok(false)";
+AddRecord soa-1 Ok(None)
+AddRecord ns Ok(None)
+AddRecord ns-a Ok(None)
+AddRecord nezu-5 Ok(None)";
 
 /// What leads to the second version, up to its commit.
 const SECOND: &str = "\
-DeleteRecord nezu-5 Ok(false)
-BeginBatchAdd soa-2 Ok(false)
-AddRecord bb-4 Ok(false)
-AddRecord bb-2 Ok(false)";
+DeleteRecord nezu-5 Ok(None)
+BeginBatchAdd soa-2 Ok(None)
+AddRecord bb-4 Ok(None)
+AddRecord bb-2 Ok(None)";
 
 /// What leads to the third version, up to its commit.
 const THIRD: &str = "\
-DeleteRecord bb-4 Ok(false)
-BeginBatchAdd soa-3 Ok(false)
-AddRecord bb-3 Ok(false)";
+DeleteRecord bb-4 Ok(None)
+BeginBatchAdd soa-3 Ok(None)
+AddRecord bb-3 Ok(None)";
 
 /// The zone of this apex in class IN without records.
 pub(crate) fn zone_at<R: Abort>(rt: &R, alloc: Global, apex: &str) -> ZoneApex {
@@ -74,6 +74,22 @@ fn update_of<'m>(kind: &str, found: ReadRecord<'m>) -> Option<ZoneUpdate<ReadRec
     None
 }
 
+/// What an update tells: the serials of its difference, and how many sets are removed and added.
+type Told = Option<(u32, u32, usize, usize)>;
+
+/// Counts the sets of a difference.
+fn counted(told: Option<InMemoryZoneDiff>) -> Told {
+    let told = told?;
+    let counted = (
+        told.start_serial().into_int(),
+        told.end_serial().into_int(),
+        told.removed_len(),
+        told.added_len(),
+    );
+    drop(told);
+    Some(counted)
+}
+
 /// Applies an update, its record by a word.
 fn apply<R: Abort>(
     rt: &R,
@@ -82,13 +98,16 @@ fn apply<R: Abort>(
     session: &mut WriteZone<'_>,
     kind: &str,
     word: &str,
-) -> Result<bool, update::Error> {
+) -> Result<Told, update::Error> {
     let octets = octets_at(rt, alloc, RECORDS, word);
     let found = record_from_octets(octets.as_slice()).expect(rt, "a record");
     let update = update_of(kind, found).expect(rt, "a kind of update");
     let told = updater.apply(rt, session, update);
     drop(octets);
-    told
+    match told {
+        Ok(told) => Ok(counted(told)),
+        Err(error) => Err(error),
+    }
 }
 
 /// Applies the updates of lines, and asserts what each answers.
@@ -146,7 +165,7 @@ fn session_walks<R: Abort>(rt: &R, alloc: Global, session: &mut WriteZone<'_>, w
     drop(version);
 }
 
-// Each batch begins with a commit, the first of the version so far; the walk has four sets.
+// Each batch begins with a commit, the first of the version so far, of which no difference is told; the walk has four sets.
 #[test]
 fn rfc_1995_by_the_updater(rt: HostRuntime) {
     let alloc = rt.alloc();
@@ -154,52 +173,23 @@ fn rfc_1995_by_the_updater(rt: HostRuntime) {
     let mut session = zone.write(alloc);
     let mut updater = ZoneUpdater::new(alloc);
     applies(&rt, alloc, &mut updater, &mut session, FIRST);
-    let begins = "BeginBatchDelete soa-1 Ok(true)";
+    let begins = "BeginBatchDelete soa-1 Ok(None)";
     applies(&rt, alloc, &mut updater, &mut session, begins);
     session_walks(&rt, alloc, &mut session, "ns soa-1 nezu-5 ns-a");
     applies(&rt, alloc, &mut updater, &mut session, SECOND);
-    let begins = "BeginBatchDelete soa-2 Ok(true)";
+    let begins = "BeginBatchDelete soa-2 Ok(Some((1, 2, 2, 2)))";
     applies(&rt, alloc, &mut updater, &mut session, begins);
     session_walks(&rt, alloc, &mut session, "ns soa-2 bb-4 bb-2 ns-a");
     applies(&rt, alloc, &mut updater, &mut session, THIRD);
-    let ends = "Finished soa-3 Ok(true)\nAddRecord nezu-5 Err(Finished)";
+    let ends = "\
+Finished soa-3 Ok(Some((2, 3, 2, 2)))
+AddRecord nezu-5 Err(Finished)";
     applies(&rt, alloc, &mut updater, &mut session, ends);
     session_walks(&rt, alloc, &mut session, "ns soa-3 bb-2 bb-3 ns-a");
     is(&rt, updater.is_finished(), true);
     drop(updater);
     drop(session);
     is(&rt, zone.versions(), 3);
-    drop(zone);
-}
-
-/// Asks for a difference, and commits: the serials that the commit tells, and how many sets are removed and added.
-fn told<R: Abort>(rt: &R, session: &mut WriteZone<'_>) -> Option<(Serial, Serial, usize, usize)> {
-    session.want_difference(true);
-    let told = session.commit(rt, false).expect(rt, "a version")?;
-    let counted = (
-        told.start_serial(),
-        told.end_serial(),
-        told.removed_len(),
-        told.added_len(),
-    );
-    drop(told);
-    Some(counted)
-}
-
-// What the commits tell in whose place the batches' begins and the end commit.
-#[test]
-fn rfc_1995_by_differences(rt: HostRuntime) {
-    let alloc = rt.alloc();
-    let mut zone = zone_at(&rt, alloc, JAIN);
-    let mut session = zone.write(alloc);
-    let (one, two, three) = (Serial::from(1), Serial::from(2), Serial::from(3));
-    applies_anew(&rt, alloc, &mut session, FIRST);
-    is(&rt, told(&rt, &mut session), None);
-    applies_anew(&rt, alloc, &mut session, SECOND);
-    is(&rt, told(&rt, &mut session), Some((one, two, 2, 2)));
-    applies_anew(&rt, alloc, &mut session, THIRD);
-    is(&rt, told(&rt, &mut session), Some((two, three, 2, 2)));
-    drop(session);
     drop(zone);
 }
 
@@ -259,34 +249,31 @@ fn write_soa_read_soa(rt: HostRuntime) {
     let alloc = rt.alloc();
     let mut zone = zone_at(&rt, alloc, COM);
     let mut session = zone.write(alloc);
-    let updates = "AddRecord com-soa Ok(false)\nFinished com-soa Ok(true)";
+    let updates = "AddRecord com-soa Ok(None)\nFinished com-soa Ok(None)";
     applies_anew(&rt, alloc, &mut session, updates);
     answers(&rt, alloc, &mut session, COM, Rtype::SOA, COM_SOA);
     drop(session);
     drop(zone);
 }
 
-// The second updater's end puts its SOA in the place of both.
+// The second updater's end puts its SOA in the place of both, and tells the difference that the session was asked for.
 #[test]
 fn diff_check(rt: HostRuntime) {
     let alloc = rt.alloc();
     let mut zone = zone_at(&rt, alloc, COM);
     let mut session = zone.write(alloc);
     let mut updater = ZoneUpdater::new(alloc);
-    let updates = "AddRecord com-soa-22 Ok(false)\nFinished com-soa-22 Ok(true)";
+    let updates = "AddRecord com-soa-22 Ok(None)\nFinished com-soa-22 Ok(None)";
     applies(&rt, alloc, &mut updater, &mut session, updates);
     is(&rt, updater.is_finished(), true);
     let updates = "AddRecord com-soa-22 Err(Finished)";
     applies(&rt, alloc, &mut updater, &mut session, updates);
     drop(updater);
-    let updates = "AddRecord com-soa-23 Ok(false)\nBeginBatchAdd com-soa-23 Ok(false)";
+    session.want_difference(true);
+    let updates = "\
+AddRecord com-soa-23 Ok(None)
+Finished com-soa-23 Ok(Some((20240922, 20240923, 1, 1)))";
     applies_anew(&rt, alloc, &mut session, updates);
-    let serials = (Serial::from(20_240_922), Serial::from(20_240_923));
-    is(
-        &rt,
-        told(&rt, &mut session),
-        Some((serials.0, serials.1, 1, 1)),
-    );
     drop(session);
     drop(zone);
 }
@@ -309,7 +296,7 @@ fn ixfr_add_existing_record(rt: HostRuntime) {
     let mut zone = zone_at(&rt, alloc, COM);
     let mut session = zone.write(alloc);
     let updates = "\
-AddRecord com-soa Ok(false)
+AddRecord com-soa Ok(None)
 AddRecord com-soa Err(IncompatibleUpdate)
 AddRecord com-soa Err(Finished)";
     applies_anew(&rt, alloc, &mut session, updates);
@@ -377,7 +364,7 @@ fn clear_special_on_delete(rt: HostRuntime) {
     let edits = "ns2-1 ns2-2 cname2 ns3-1 ns4-ds ns5-ds";
     deletes(&rt, alloc, &mut session, edits, Ok(()));
     adds(&rt, alloc, &mut session, "ns5-ds-99");
-    applies_anew(&rt, alloc, &mut session, "Finished soa Ok(true)");
+    applies_anew(&rt, alloc, &mut session, "Finished soa Ok(None)");
     for line in SPECIAL_ANSWERS.split('\n') {
         let (label, wanted) = line.split_once(' ').expect(&rt, "a label");
         let qname = format!(in alloc; "{label}{EXAMPLE}").expect(&rt, "memory");

@@ -46,7 +46,9 @@ fn apply_all<R: Abort>(
             return committed;
         };
         let update = update.expect(rt, "an update");
-        committed = updater.apply(rt, session, update).expect(rt, "a fit");
+        committed = update.commits();
+        let told = updater.apply(rt, session, update).expect(rt, "a fit");
+        drop(told);
     }
     false
 }

@@ -10,13 +10,13 @@ use dns_wire::{
 use hex::FromHexError;
 use std::alloc::Global;
 use std::process::Abort;
-use tsig_port::{Key, Time48, ValidationError};
+use tsig_port::{Key, ServerSequence, Time48, ValidationError};
 use xfr_client::{protocol, update};
 use xfr_server::{
     CallResult, Replies, Request, Service, ServiceError, ServiceFeedback, TsigMiddlewareSvc,
 };
 use zone_store::{ReadZone, WriteZone};
-use zone_sync::{MemoryLink, Moments, SyncError, SyncOk, XfrMode, sync_zone};
+use zone_sync::{MemoryLink, Moments, SyncError, SyncOk, XfrClient, XfrMode, sync_zone};
 
 /// Words, and the octets that they stand for: the question for the whole of `example.`, none, and those of another name, type and class;
 /// the numbers of versions, as they stand before their records; the zone's SOA records with serials 1 and 2, both names the root; the
@@ -335,6 +335,66 @@ fn a_request_that_the_link_has_no_room_for(rt: HostRuntime) {
     let answer = answer_to(&rt, alloc, 0, 101, &mut made);
     is(&rt, answer, Ok(SyncOk::Updated));
     drop(made);
+}
+
+/// A reply of one SOA, which the server signs.
+fn signed_soa<R: Abort>(
+    rt: &R,
+    alloc: Global,
+    server: &mut ServerSequence<Key>,
+    id: u16,
+    now: Time48,
+) -> Vec<u8> {
+    let mut message = reply(alloc, id, "asked soa").expect(rt, "a reply");
+    server.answer(&mut message, now).expect(rt, "room");
+    message.finish().into_octets()
+}
+
+/// Asserts what a client says of a reply, and that it makes nothing.
+fn makes_nothing<R: Abort>(
+    rt: &R,
+    alloc: Global,
+    client: &mut XfrClient,
+    session: &mut WriteZone<'_>,
+    octets: Vec<u8>,
+    wanted: Result<Option<SyncOk>, SyncError>,
+) {
+    let open = client.is_open();
+    assert!(rt; open);
+    let mut made = Vec::new(alloc);
+    let taken = client.take(rt, session, octets, &mut made);
+    is(rt, taken, wanted);
+    is(rt, made.len(), 0);
+    drop(made);
+}
+
+/// An SOA in a signed message, and the one that would end the zone in an unsigned one (RFC 8945, 5.3.1, would have it taken).
+#[test]
+fn an_unsigned_reply_after_a_signed_one(rt: HostRuntime) {
+    let alloc = rt.alloc();
+    let now = Time48::from_u64(1000);
+    let key = shared_key(&rt, KEY);
+    let mut zone = empty_zone(&rt, alloc);
+    let mut session = zone.write(alloc);
+    let mut client = XfrClient::new(alloc, &key, XfrMode::Axfr, now);
+    let asked = client.request(&mut session, 65_535);
+    let mut request = asked.expect(&rt, "a request");
+    let id = request.header().id;
+    let checked = ServerSequence::request(&key, &mut request, now);
+    drop(request);
+    let found = checked.ok().expect(&rt, "accepted");
+    let mut server = found.expect(&rt, "a TSIG");
+    let signed = signed_soa(&rt, alloc, &mut server, id, now);
+    drop(server);
+    makes_nothing(&rt, alloc, &mut client, &mut session, signed, Ok(None));
+    let bare = reply(alloc, id, "asked soa").expect(&rt, "a reply");
+    let octets = bare.finish().into_octets();
+    let wanted = Err(SyncError::Tsig(ValidationError::TooManyUnsigned));
+    makes_nothing(&rt, alloc, &mut client, &mut session, octets, wanted);
+    drop(client);
+    drop(session);
+    drop(zone);
+    drop(key);
 }
 
 /// The versions of a zone without records that gets the first case, and after it the second.

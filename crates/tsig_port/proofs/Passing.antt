@@ -1,15 +1,11 @@
 -- Lists of answers, each judged after those before it.
-use Rattle.std.proofs.Common.{◌≡◌, ℕ, ◌-◌, true, List, [], ◌∷◌, ◌++◌, length, take, refl, sym, ap, ◌∙◌, subst, arith, Option, Some, None, le-ltb}
-use Rattle.std.specs.Prelude.{is_some, if◌then◌else◌}
+use Rattle.std.proofs.Common.{◌≡◌, ℕ, List, [], ◌∷◌, ◌++◌, refl, sym, ap, ◌∙◌, subst, Option, Some, None}
 use Rattle.std.specs.Option.{option_or}
-use Rattle.std.proofs.lemmas.List.{append_assoc, append-nil, take_all}
-use Rattle.tsig_port.specs.Tsig.{TsigKey, Signature, signature_of, is_signed, tsig_by, mac_in}
-use Rattle.tsig_port.specs.Tsig.Signature.{Malformed, Unsigned, Signed}
-use Rattle.tsig_port.specs.Checked.{unsigned_since, up_to_signed, unsigned_fault, fault_by, answer_fault, pass_on, passing, first_fault}
-use Rattle.tsig_port.specs.OneByOne.{EachPasses, PassesOneMore, EachIsChecked, EachIsFaultless, RefusalIsTheFault, RefusalEndsTheChecked, FaultIsARefusal, PrefixStays, PrefixIsFaultless, CheckedPasses, StrictIsChecked, StrictIsFaultless}
+use Rattle.std.proofs.lemmas.List.{append_assoc, append-nil}
+use Rattle.tsig_port.specs.Tsig.{mac_in}
+use Rattle.tsig_port.specs.Checked.{answer_fault, pass_on, passing, first_fault}
+use Rattle.tsig_port.specs.OneByOne.{EachPasses, PassesOneMore, EachIsChecked, EachIsFaultless, RefusalIsTheFault, RefusalEndsTheChecked, FaultIsARefusal, PrefixStays, PrefixIsFaultless, CheckedPasses}
 use Rattle.tsig_port.specs.declared.errors.ValidationError.{ValidationError}
-use Rattle.tsig_port.specs.declared.errors.ValidationError.TheVariants.{TooManyUnsigned}
-use Rattle.tsig_port.proofs.Sequences.{unsigned_after}
 
 module _ (fault : List (List ℕ) → List ℕ → Option ValidationError) where
   -- each passes, after these and those before it
@@ -116,75 +112,39 @@ module _ (fault : List (List ℕ) → List ℕ → Option ValidationError) where
           (message, (more, (ap (λ l. x ∷ l) facts.0, sym (ap (λ b. fault b message) (append_assoc behind (x ∷ []) (passing fault (behind ++ x ∷ []) xs))) ∙ facts.1)))
       by (Some f) refused found later = (x, (xs, (refl, ap (λ b. fault b x) (append-nil behind) ∙ refused ∙ found)))
 
--- ---- where no unsigned answer may follow
-
--- whatever passes there passes also where some may, and is signed
-looser_by : (key : TsigKey) (request_mac : List ℕ) (now : ℕ) (taken : List (List ℕ)) (m : List ℕ) (s : Signature) → fault_by 0 key request_mac now taken m s ≡ None
-    → (fault_by 99 key request_mac now taken m s ≡ None) × (is_some (tsig_by s) ≡ true)
-looser_by key request_mac now taken m Malformed none = absurd (cc none)
-looser_by key request_mac now [] m Unsigned none = absurd (cc none)
-looser_by key request_mac now (x ∷ taken) m Unsigned none =
-    let refused : unsigned_fault 0 (x ∷ taken) ≡ Some TooManyUnsigned = ap (λ b. if b then None else Some TooManyUnsigned) (le-ltb (length (unsigned_since (x ∷ taken))) 0 (omega arith)) in
-    absurd (cc (none, refused))
-looser_by key request_mac now taken m (Signed start owner t) none = (none, refl)
-
-module _ (key : TsigKey) (request_mac : List ℕ) (now : ℕ) where
-  looser : (taken : List (List ℕ)) (m : List ℕ) → answer_fault 0 key request_mac now taken m ≡ None
-      → (answer_fault 99 key request_mac now taken m ≡ None) × (is_signed m ≡ true)
-  looser taken m none = looser_by key request_mac now taken m (signature_of m) none
-
-  each_looser : (taken : List (List ℕ)) → EachPasses key request_mac now taken → Each (answer_fault 99 key request_mac now) [] taken
-  each_looser taken each before after message e = (looser before message (each before after message e)).0
-
-  none_unsigned : (behind taken : List (List ℕ)) → Each (answer_fault 0 key request_mac now) behind taken → unsigned_since behind ≡ [] → unsigned_since (behind ++ taken) ≡ []
-  none_unsigned behind [] each signed = ap unsigned_since (append-nil behind) ∙ signed
-  none_unsigned behind (m ∷ taken) each signed =
-      let fault = answer_fault 0 key request_mac now in
-      let one = (looser behind m (first_of fault behind m taken each)).1 in
-      ap unsigned_since (sym (append_assoc behind (m ∷ []) taken)) ∙ none_unsigned (behind ++ m ∷ []) taken (rest_of fault behind m taken each) (unsigned_after behind m one)
-
 -- ---- the statements
 
 pub passes_one_more : PassesOneMore
-passes_one_more key request_mac now taken message each none = one_more (answer_fault 0 key request_mac now) [] taken message each none
+passes_one_more key request_mac now taken message each none = one_more (answer_fault key request_mac now) [] taken message each none
 
 pub each_is_checked : EachIsChecked
 each_is_checked key request now taken =
-    let fault = answer_fault 0 key (mac_in request) now in
+    let fault = answer_fault key (mac_in request) now in
     (λ each. passing_all fault [] taken each, λ is. subst (λ (l : List (List ℕ)). EachPasses key (mac_in request) now l) is (passing_each fault [] taken))
 
 pub each_is_faultless : EachIsFaultless
 each_is_faultless key request now taken =
-    let fault = answer_fault 0 key (mac_in request) now in
+    let fault = answer_fault key (mac_in request) now in
     (λ each. first_fault_none fault [] taken each, λ none. faultless_each fault [] taken none)
 
 pub refusal_is_the_fault : RefusalIsTheFault
 refusal_is_the_fault key request now taken more message e each is =
-    let fault = answer_fault 0 key (mac_in request) now in
+    let fault = answer_fault key (mac_in request) now in
     first_fault-append fault [] taken (message ∷ more) each ∙ first_fault-refused fault taken message more e is
 
 pub refusal_ends_the_checked : RefusalEndsTheChecked
 refusal_ends_the_checked key request now taken more message e each is =
-    let fault = answer_fault 0 key (mac_in request) now in
+    let fault = answer_fault key (mac_in request) now in
     passing-append fault [] taken (message ∷ more) each ∙ ap (λ l. taken ++ l) (passing-refused fault taken message more e is) ∙ append-nil taken
 
 pub fault_is_a_refusal : FaultIsARefusal
-fault_is_a_refusal key request now answers e is = fault_found (answer_fault 0 key (mac_in request) now) [] answers e is
+fault_is_a_refusal key request now answers e is = fault_found (answer_fault key (mac_in request) now) [] answers e is
 
 pub prefix_stays : PrefixStays
-prefix_stays key request now taken more each = passing-append (answer_fault 0 key (mac_in request) now) [] taken more each
+prefix_stays key request now taken more each = passing-append (answer_fault key (mac_in request) now) [] taken more each
 
 pub prefix_is_faultless : PrefixIsFaultless
-prefix_is_faultless key request now taken more each = first_fault-append (answer_fault 0 key (mac_in request) now) [] taken more each
+prefix_is_faultless key request now taken more each = first_fault-append (answer_fault key (mac_in request) now) [] taken more each
 
 pub checked_passes : CheckedPasses
-checked_passes key request now answers = passing_each (answer_fault 0 key (mac_in request) now) [] answers
-
-pub strict_is_checked : StrictIsChecked
-strict_is_checked key request now taken each =
-    let all = passing_all (answer_fault 99 key (mac_in request) now) [] taken (each_looser key (mac_in request) now taken each) in
-    let none = none_unsigned key (mac_in request) now [] taken each refl in
-    ap up_to_signed all ∙ ap (λ u. take (length taken - length u) taken) none ∙ take_all (length taken - 0) taken (omega arith)
-
-pub strict_is_faultless : StrictIsFaultless
-strict_is_faultless key request now taken each = first_fault_none (answer_fault 99 key (mac_in request) now) [] taken (each_looser key (mac_in request) now taken each)
+checked_passes key request now answers = passing_each (answer_fault key (mac_in request) now) [] answers

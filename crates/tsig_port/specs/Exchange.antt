@@ -1,19 +1,18 @@
 -- One exchange: what the server signs of a built message is taken by the client (RFC 8945, 5.3 and 5.4).
-use Rattle.std.specs.Prelude.{◌≡◌, ◌≤◌, ◌<◌, ◌^◌, ℕ, List, [], ◌∷◌, ◌++◌, map, Some, None, IsTrue}
+use Rattle.std.specs.Prelude.{◌≡◌, ◌≤◌, ◌<◌, ◌^◌, ℕ, List, [], ◌∷◌, ◌++◌, map, Some, None}
 use Rattle.std.specs.Int.{abs_diff}
-use Rattle.std.specs.List.{AllByRecursion, last_or}
+use Rattle.std.specs.List.{last_or}
 use Rattle.dns_rdata.specs.Records.{record_wire}
 use Rattle.dns_wire.specs.Wire.{Message, message_wire}
 use Rattle.dns_wire.specs.Parse.{parsed}
 use Rattle.dns_wire.specs.Written.{parsed_of}
-use Rattle.tsig_port.specs.Tsig.{TsigKey, Tsig, tsig_record, is_signed, mac_in, answer_tsig, signed_answer, signed_answers}
-use Rattle.tsig_port.specs.Checked.{answer_fault, taken_message, strictly_checked, strict_fault}
+use Rattle.tsig_port.specs.Tsig.{TsigKey, Tsig, tsig_record, mac_in, answer_tsig, signed_answer}
+use Rattle.tsig_port.specs.Checked.{answer_fault, taken_message}
 use Rattle.tsig_port.specs.Signing.{IsKey, CanSign}
 
--- the client has taken the answers that the server has signed: all are signed, with these MACs
-pub record IsInStep (taken macs : List (List ℕ)) : Type 0 where
-  pub all_signed : AllByRecursion (λ m. IsTrue (is_signed m)) taken
-  pub same_macs : macs ≡ map mac_in taken
+-- the client has taken the answers that the server has signed with these MACs
+abbrev pub IsInStep : List (List ℕ) → List (List ℕ) → Type 0
+IsInStep taken macs = macs ≡ map mac_in taken
 
 -- the TSIG of the server's next answer, after answers with these MACs
 abbrev pub next_tsig : TsigKey → List ℕ → List (List ℕ) → Message → ℕ → ℕ → Tsig
@@ -31,10 +30,10 @@ pub record IsExchange (key : TsigKey) (m : Message) (at now fudge : ℕ) : Type 
   pub small : fudge < 2 ^ 16
   pub near : abs_diff at now ≤ fudge
 
--- the client accepts the answer, however many unsigned ones may follow each other
+-- the client accepts the answer
 abbrev pub AnswerIsAccepted : Type 0
-AnswerIsAccepted = (most : ℕ) (key : TsigKey) (request : List ℕ) (taken macs : List (List ℕ)) (m : Message) (at now fudge : ℕ) → IsExchange key m at now fudge → IsInStep taken macs
-    → answer_fault most key (mac_in request) now taken (next_answer key request macs m at fudge) ≡ None
+AnswerIsAccepted = (key : TsigKey) (request : List ℕ) (taken macs : List (List ℕ)) (m : Message) (at now fudge : ℕ) → IsExchange key m at now fudge → IsInStep taken macs
+    → answer_fault key (mac_in request) now taken (next_answer key request macs m at fudge) ≡ None
 
 -- which then has the header, the question and the records that it had before it was signed
 abbrev pub AnswerIsKept : Type 0
@@ -50,14 +49,3 @@ AnswerKeepsOctets = (key : TsigKey) (request : List ℕ) (macs : List (List ℕ)
 abbrev pub StaysInStep : Type 0
 StaysInStep = (key : TsigKey) (request : List ℕ) (taken macs : List (List ℕ)) (m : Message) (at now fudge : ℕ) → IsExchange key m at now fudge → IsInStep taken macs
     → IsInStep (taken ++ next_answer key request macs m at fudge ∷ []) (macs ++ (next_tsig key request macs m at fudge).mac ∷ [])
-
--- a whole list of answers to a request, signed in sequence, is strictly checked
-abbrev pub AnswersAreStrictlyChecked : Type 0
-AnswersAreStrictlyChecked = (key : TsigKey) (request : List ℕ) (messages : List Message) (at now fudge : ℕ) → AllByRecursion (λ m. IsExchange key m at now fudge) messages
-    → strictly_checked key request now (signed_answers key (mac_in request) at fudge (map message_wire messages))
-    ≡ signed_answers key (mac_in request) at fudge (map message_wire messages)
-
--- and has no fault
-abbrev pub AnswersAreStrictlyFaultless : Type 0
-AnswersAreStrictlyFaultless = (key : TsigKey) (request : List ℕ) (messages : List Message) (at now fudge : ℕ) → AllByRecursion (λ m. IsExchange key m at now fudge) messages
-    → strict_fault key request now (signed_answers key (mac_in request) at fudge (map message_wire messages)) ≡ None

@@ -1,10 +1,10 @@
 -- Which messages the state of a signed exchange stands for, one fact for each of its fields.
-use Rattle.std.specs.Prelude.{◌≡◌, ◌↔◌, ℕ, Bool, true, false, List, [], ◌++◌, length, nat_lt, not, ◌≢◌, IsTrue, IsSome, Option, Some, None, unwrap_or, IsSomeAnd, Result, Ok, Err, if◌then◌else◌}
-use Rattle.std.specs.List.{concat, last_or}
+use Rattle.std.specs.Prelude.{◌≡◌, ◌↔◌, ℕ, Bool, true, false, List, [], length, nat_lt, not, ◌≢◌, IsTrue, Option, Some, None, unwrap_or, IsSomeAnd, Result, Ok, Err, if◌then◌else◌}
+use Rattle.std.specs.List.{last_or}
 use Rattle.dns_name.specs.Codes.{formerr, badsig, badtime, badtrunc}
 use Rattle.tsig_port.specs.Tsig.{TsigKey, Tsig, Signature, with_len, tsig_in, mac_in, is_mac}
 use Rattle.tsig_port.specs.Tsig.Signature.{Malformed, Unsigned, Signed}
-use Rattle.tsig_port.specs.Checked.{answer_fault, prior_mac, unsigned_since, taken_message}
+use Rattle.tsig_port.specs.Checked.{answer_fault, prior_mac, taken_message}
 use Rattle.tsig_port.specs.ServerCheck.{Verdict}
 use Rattle.tsig_port.specs.ServerCheck.Verdict.{NoTsig, Accepted, Refused, BadTime}
 use Rattle.tsig_port.specs.HmacState.{HoldsHmac}
@@ -15,33 +15,30 @@ use Rattle.tsig_port.specs.declared.server.ServerSequence.{ServerSequence}
 use Rattle.tsig_port.specs.declared.server.ServerError.{ServerError}
 use Rattle.tsig_port.specs.declared.server.ServerError.TheVariants as errors
 
--- what is digested before the next signed answer: the prior MAC with its length, and the unsigned messages since (RFC 8945, 5.3.1)
-abbrev pub digested_before : List ℕ → Option (List ℕ) → List (List ℕ) → List ℕ
-digested_before request_mac prior unsigned = with_len (unwrap_or prior request_mac) ++ concat unsigned
+-- what is digested before the next answer: the prior MAC, or that of the request, with its length (RFC 8945, 5.3 and 5.3.1)
+abbrev pub digested_before : List ℕ → Option (List ℕ) → List ℕ
+digested_before request_mac prior = with_len (unwrap_or prior request_mac)
 
--- the client's state, after a request with this MAC and the messages taken since, of which the first was signed
+-- the client's state, after a request with this MAC and the messages taken since
 pub record ClientStands {K : Type 0} (the_key : K → TsigKey) (s : ClientSequence K) (request_mac : List ℕ) (taken : List (List ℕ)) : Type 0 where
-  pub context : HoldsHmac s.context (the_key s.key).algorithm (the_key s.key).secret (digested_before request_mac (prior_mac taken) (unsigned_since taken))
+  pub context : HoldsHmac s.context (the_key s.key).algorithm (the_key s.key).secret (digested_before request_mac (prior_mac taken))
   pub first : IsTrue s.first ↔ (taken ≡ [])
-  pub begun : taken ≢ [] → IsSome (prior_mac taken)
-  pub unsigned : s.unsigned ≡ length (unsigned_since taken)
 
 -- an answer is taken where no test fails, and is then without its TSIG; else it is refused with the first test's fault, and stays
-abbrev pub Answers : ℕ → TsigKey → List ℕ → ℕ → List (List ℕ) → List ℕ → Result (Unit {0}) ValidationError → List ℕ → Type 0
-Answers most key request_mac now taken old (Ok u) new = (answer_fault most key request_mac now taken old ≡ None) × (new ≡ taken_message old)
-Answers most key request_mac now taken old (Err e) new = (answer_fault most key request_mac now taken old ≡ Some e) × (new ≡ old)
+abbrev pub Answers : TsigKey → List ℕ → ℕ → List (List ℕ) → List ℕ → Result (Unit {0}) ValidationError → List ℕ → Type 0
+Answers key request_mac now taken old (Ok u) new = (answer_fault key request_mac now taken old ≡ None) × (new ≡ taken_message old)
+Answers key request_mac now taken old (Err e) new = (answer_fault key request_mac now taken old ≡ Some e) × (new ≡ old)
 
--- the fault of an answer whose TSIG isn't there to be checked: the first answer or a later one, after so many unsigned ones since the
--- last signed one, of which at most so many may follow each other (RFC 8945, 5.3.1)
-abbrev pub bare_fault : ℕ → Bool → ℕ → Signature → Option ValidationError
-bare_fault most first unsigned Malformed = Some FormErr
-bare_fault most true unsigned Unsigned = Some ServerUnsigned
-bare_fault most false unsigned Unsigned = if nat_lt unsigned most then None else Some TooManyUnsigned
-bare_fault most first unsigned (Signed start owner t) = None
+-- the fault of an answer, the first or a later one, whose TSIG isn't there to be checked (RFC 8945, 5.2 and 5.3)
+abbrev pub bare_fault : Bool → Signature → Option ValidationError
+bare_fault first Malformed = Some FormErr
+bare_fault true Unsigned = Some ServerUnsigned
+bare_fault false Unsigned = Some TooManyUnsigned
+bare_fault first (Signed start owner t) = None
 
 -- the server's state, after a request with this MAC and signed answers with those MACs
 pub record ServerStands {K : Type 0} (the_key : K → TsigKey) (s : ServerSequence K) (request_mac : List ℕ) (macs : List (List ℕ)) : Type 0 where
-  pub context : HoldsHmac s.context (the_key s.key).algorithm (the_key s.key).secret (digested_before request_mac (last_or None macs) [])
+  pub context : HoldsHmac s.context (the_key s.key).algorithm (the_key s.key).secret (digested_before request_mac (last_or None macs))
   pub first : IsTrue s.first ↔ (macs ≡ [])
 
 -- what is wrong with a request's MAC, by what is digested for it: its length, or its octets (RFC 8945, 5.2.4 and 5.2.2)

@@ -1,14 +1,10 @@
 -- TSIG (RFC 8945): the record, the octets that are digested, and the MAC.
-use Rattle.std.specs.Prelude.{ℕ, ◌+◌, ◌-◌, ◌==◌, ◌&&◌, nat_lt, nat_le, Bool, List, [], ◌∷◌, ◌++◌, length, take, drop, slice_range, nat_eq, Option, Some, None, is_some, if◌then◌else◌}
+use Rattle.std.specs.Prelude.{ℕ, ◌-◌, ◌==◌, Bool, List, [], ◌∷◌, ◌++◌, length, take, drop, slice_range, nat_eq, Option, Some, None, if◌then◌else◌}
 use Rattle.std.specs.Option.{option_map_or}
-use Rattle.std.specs.List.{concat, starts_with}
-use Rattle.std.specs.Int.{abs_diff}
-use Rattle.dns_name.specs.Octets.{◌>>=◌, u16_octets, u32_octets, u48_octets, octets_at, u16_at, u48_at}
+use Rattle.std.specs.List.{starts_with}
+use Rattle.dns_name.specs.Octets.{u16_octets, u32_octets, u48_octets}
 use Rattle.dns_name.specs.Codes.{noerror, badtime, type_tsig, class_any}
 use Rattle.dns_name.specs.Names.{Name, name_wire, fold}
-use Rattle.dns_name.specs.Compression.{name_at}
-use Rattle.dns_rdata.specs.Records.{Record}
-use Rattle.dns_rdata.specs.Records.Field.{Octets, DomainName}
 use Rattle.dns_wire.specs.Wire.{id_in, arcount_in, with_additional}
 use Rattle.dns_wire.specs.Parse.{Parsed, parsed}
 use Rattle.dns_rdata.specs.Heads.{RawRecord}
@@ -61,10 +57,6 @@ tsig_by (Signed start owner t) = Some t
 abbrev pub tsig_in : List ℕ → Option Tsig
 tsig_in message = tsig_by (signature_of message)
 
--- whether it has one
-abbrev pub is_signed : List ℕ → Bool
-is_signed message = is_some (tsig_in message)
-
 -- the MAC as its octets stand in the message, and no octets without a TSIG
 abbrev pub mac_in : List ℕ → List ℕ
 mac_in message = option_map_or (λ t. t.mac) (tsig_in message) []
@@ -100,15 +92,14 @@ request_input message owner t = message ++ variables owner t
 abbrev pub first_input : List ℕ → List ℕ → Name → Tsig → List ℕ
 first_input request_mac message owner t = with_len request_mac ++ message ++ variables owner t
 
--- what is digested for a later signed answer: the prior MAC, the unsigned messages since, the message and the timers (RFC 8945, 5.3.1)
-abbrev pub later_input : List ℕ → List (List ℕ) → List ℕ → Tsig → List ℕ
-later_input prior_mac unsigned message t = with_len prior_mac ++ concat unsigned ++ message ++ timers t
+-- what is digested for a later answer: the prior MAC, the message and the timers (RFC 8945, 5.3.1, where no message came unsigned)
+abbrev pub later_input : List ℕ → List ℕ → Tsig → List ℕ
+later_input prior_mac message t = with_len prior_mac ++ message ++ timers t
 
--- what is digested for an answer, from the request's MAC, the MAC of the signed answer before it where there is one, and the
--- unsigned messages since that one (RFC 8945, 5.3 and 5.3.1)
-abbrev pub answer_input : List ℕ → Option (List ℕ) → List (List ℕ) → List ℕ → Name → Tsig → List ℕ
-answer_input request_mac None unsigned message owner t = first_input request_mac message owner t
-answer_input request_mac (Some prior_mac) unsigned message owner t = later_input prior_mac unsigned message t
+-- what is digested for an answer, from the request's MAC, and the MAC of the answer before it where there is one (RFC 8945, 5.3 and 5.3.1)
+abbrev pub answer_input : List ℕ → Option (List ℕ) → List ℕ → Name → Tsig → List ℕ
+answer_input request_mac None message owner t = first_input request_mac message owner t
+answer_input request_mac (Some prior_mac) message owner t = later_input prior_mac message t
 
 -- ---- the MAC
 
@@ -148,11 +139,11 @@ request_tsig key message time_signed fudge =
     let t = blank_tsig key time_signed fudge (id_in message) noerror [] in
     with_mac key t (request_input message key.name t)
 
--- the TSIG that signs an answer to a request with this MAC, after signed answers the last of which had that MAC (RFC 8945, 5.3 and 5.3.1)
+-- the TSIG that signs an answer to a request with this MAC, after answers the last of which had that MAC (RFC 8945, 5.3 and 5.3.1)
 abbrev pub answer_tsig : TsigKey → List ℕ → Option (List ℕ) → List ℕ → ℕ → ℕ → Tsig
 answer_tsig key request_mac prior_mac message time_signed fudge =
     let t = blank_tsig key time_signed fudge (id_in message) noerror [] in
-    with_mac key t (answer_input request_mac prior_mac [] message key.name t)
+    with_mac key t (answer_input request_mac prior_mac message key.name t)
 
 -- the TSIG that signs a BADTIME answer: the request's time and fudge, and the server's time as other data (RFC 8945, 5.2.3)
 abbrev pub badtime_tsig : TsigKey → List ℕ → List ℕ → ℕ → ℕ → ℕ → Tsig
@@ -172,7 +163,7 @@ abbrev pub signed_answer : TsigKey → List ℕ → Option (List ℕ) → List �
 signed_answer key request_mac prior_mac message time_signed fudge =
     signed_by key message (answer_tsig key request_mac prior_mac message time_signed fudge)
 
--- answers signed one after another at one moment, after signed answers the last of which had that MAC (RFC 8945, 5.3.1)
+-- answers signed one after another at one moment, after answers the last of which had that MAC (RFC 8945, 5.3.1)
 unfoldable pub signed_from : TsigKey → List ℕ → ℕ → ℕ → Option (List ℕ) → List (List ℕ) → List (List ℕ)
 signed_from key request_mac time_signed fudge prior_mac [] = []
 signed_from key request_mac time_signed fudge prior_mac (message ∷ messages) =

@@ -1,13 +1,13 @@
 // The client's half of a signed exchange (RFC 8945, 5.1, 5.3 and 5.4).
-ghost use Rattle.std.specs.Prelude.{◌≡◌, ◌≢◌, ◌≤◌, ◌<◌, ◌++◌, ◌∷◌, [], ℕ, List, false, length, Some, IfOk, IfErr, IfSome, OnOk, OnErr, MatchOption, MatchResult};
+ghost use Rattle.std.specs.Prelude.{◌≡◌, ◌≤◌, ◌<◌, ◌++◌, ◌∷◌, [], ℕ, List, length, Some, IfOk, IfErr, OnOk, OnErr, Ok};
 ghost use Rattle.dns_rdata.specs.Records.{record_wire};
 ghost use Rattle.dns_wire.specs.Builds.{Adds};
-ghost use Rattle.tsig_port.specs.Checked.{unsigned_since, server_time as server_time_of, signed_fault as signed_fault_of};
+ghost use Rattle.tsig_port.specs.Checked.{server_time as server_time_of, signed_fault as signed_fault_of};
 ghost use Rattle.tsig_port.specs.HmacState.{HoldsHmac};
 ghost use Rattle.tsig_port.specs.Signers.{behind_message};
 ghost use Rattle.tsig_port.specs.States.{Answers, ClientStands, bare_fault};
 ghost use Rattle.tsig_port.specs.Tsig.{request_tsig, tsig_record, signature_of as signature_in_octets, digested_message};
-ghost use Rattle.tsig_port.specs.Tsig.Signature.{Signed, Unsigned};
+ghost use Rattle.tsig_port.specs.Tsig.Signature.{Signed};
 ghost use Rattle.tsig_keys.specs.declared.algorithms.Algorithm.{Algorithm};
 
 use crate::errors::ValidationError;
@@ -18,16 +18,12 @@ use dns_wire::{AdditionalBuilder, Message, MessageBuf, PushError};
 use tsig_keys::{Hmac, Key, KeyRef};
 use tsig_rdata::{ReadTsig, Time48};
 
-/// How many unsigned answers may follow a signed one (RFC 8945, 5.3.1).
-const MOST_UNSIGNED: u64 = 99;
-
 /// The client's state between the answers to a signed request: the MAC of the next answer is under way.
 #[derive(Drop)]
 pub struct ClientSequence<K: KeyRef> {
     key: K,
     context: Hmac,
     first: bool,
-    unsigned: u64,
 }
 
 impl<K: KeyRef> ClientSequence<K> {
@@ -64,29 +60,25 @@ impl<K: KeyRef> ClientSequence<K> {
             key,
             context,
             first: true,
-            unsigned: 0,
         })
     }
 
-    /// Takes the next answer: its TSIG is taken off, and its id is set to the original one. After a signed answer up to 99 in a row may
-    /// have no TSIG: such a one stays as it came, and is not to be trusted before the next signed one, which covers it, was taken.
+    /// Takes the next answer: its TSIG is taken off, and its id is set to the original one. Each answer has to be signed, where
+    /// RFC 8945, 5.3.1, lets up to 99 pass without a TSIG between signed ones.
     /// The first test that an answer fails is the refusal, and leaves state and message as before: `FormErr` where it doesn't parse
-    /// or its TSIG isn't the last record; `ServerUnsigned` for a first answer without TSIG, `TooManyUnsigned` for one after 99
-    /// unsigned ones; `ServerBadKey` and `ServerBadSig` as the server says; `BadKey` where the TSIG is of another key; `BadTrunc`
+    /// or its TSIG isn't the last record; `ServerUnsigned` for a first answer without TSIG, `TooManyUnsigned` for a later one;
+    /// `ServerBadKey` and `ServerBadSig` as the server says; `BadKey` where the TSIG is of another key; `BadTrunc`
     /// where its MAC is too short; `BadSig` where the MAC is another; `ServerBadTime` as the server says; `BadTime` where the moment
     /// isn't within the fudge. In this order: the tests are those of RFC 8945, 5.3.1 and 5.4, where truncation is the last one.
     pub fn answer(&mut self, message: &mut MessageBuf, now: Time48) -> Result<(), ValidationError>
         // It is Ok exactly where the answer passes each test.
-        ensures checked { (request_mac : List ℕ) (taken : List (List ℕ)) → ClientStands K.the_key self.old request_mac taken → Answers 99 (K.the_key self.old.key) request_mac now taken message.old result message.new }
+        ensures checked { (request_mac : List ℕ) (taken : List (List ℕ)) → ClientStands K.the_key self.old request_mac taken → Answers (K.the_key self.old.key) request_mac now taken message.old result message.new }
         // The state stands for that answer too.
         ensures taken { OnOk result ((self.new.key ≡ self.old.key) × ((request_mac : List ℕ) (taken : List (List ℕ)) → ClientStands K.the_key self.old request_mac taken → ClientStands K.the_key self.new request_mac (taken ++ message.old ∷ []))) }
         ensures kept { OnErr result (self.new ≡ self.old) }
     {
         let received = message.as_message();
-        let Some(signed) = self.signature_of(&received)? else {
-            self.take_unsigned(&received);
-            return Ok(());
-        };
+        let signed = self.signature_of(&received)?;
         let key = self.key.key_ref();
         let context = answer_context(self.context.duplicate(), self.first, &received, &signed);
         if let Some(fault) = signed_fault(key, context, received.header().rcode, &signed, now) {
@@ -96,42 +88,23 @@ impl<K: KeyRef> ClientSequence<K> {
         let original_id = signed.tsig.original_id();
         self.context = context;
         self.first = false;
-        self.unsigned = 0;
         message.set_id(original_id);
         message.remove_last_additional();
         Ok(())
     }
 
-    /// The TSIG of an answer; None where it has none and needs none; or the fault of one that lacks it.
-    fn signature_of<'m>(
-        &self,
-        received: &Message<'m>,
-    ) -> Result<Option<SignedBy<'m>>, ValidationError>
-        ensures found { IfOk result (λ o. MatchOption o (signature_in_octets received.now ≡ Unsigned) (λ s. signature_in_octets received.now ≡ Signed s.start s.owner s.tsig)) }
-        ensures begun { IfOk result (λ o. MatchOption o (self.now.first ≡ false) (λ s. Unit {0})) }
-        ensures room { IfOk result (λ o. MatchOption o (self.now.unsigned < 99) (λ s. Unit {0})) }
-        ensures fault { IfErr result (λ e. bare_fault 99 self.now.first self.now.unsigned (signature_in_octets received.now) ≡ Some e) }
-        ensures places { IfOk result (λ o. IfSome o (λ s. (12 ≤ s.start) × (s.start < length received.now))) }
+    /// The TSIG of an answer, or the fault of one that lacks it.
+    fn signature_of<'m>(&self, received: &Message<'m>) -> Result<SignedBy<'m>, ValidationError>
+        ensures found { IfOk result (λ s. signature_in_octets received.now ≡ Signed s.start s.owner s.tsig) }
+        ensures fault { IfErr result (λ e. bare_fault self.now.first (signature_in_octets received.now) ≡ Some e) }
+        ensures places { IfOk result (λ s. (12 ≤ s.start) × (s.start < length received.now)) }
     {
         match signature(received) {
             Err(_) => Err(ValidationError::FormErr),
-            Ok(Some(signed)) => Ok(Some(signed)),
+            Ok(Some(signed)) => Ok(signed),
             Ok(None) if self.first => Err(ValidationError::ServerUnsigned),
-            Ok(None) if self.unsigned < MOST_UNSIGNED => Ok(None),
             Ok(None) => Err(ValidationError::TooManyUnsigned),
         }
-    }
-
-    /// Takes an answer without a TSIG: the next signed one covers all its octets (RFC 8945, 5.3.1).
-    fn take_unsigned(&mut self, received: &Message<'_>)
-        requires unsigned { signature_in_octets received.now ≡ Unsigned }
-        requires begun { self.old.first ≡ false }
-        requires room { self.old.unsigned < 99 }
-        ensures key { self.new.key ≡ self.old.key }
-        ensures stands { (request_mac : List ℕ) (taken : List (List ℕ)) → ClientStands K.the_key self.old request_mac taken → ClientStands K.the_key self.new request_mac (taken ++ received.now ∷ []) }
-    {
-        self.context.update(received.as_slice());
-        self.unsigned += 1;
     }
 
     /// The same state again, with a copy of the key.
@@ -143,26 +116,23 @@ impl<K: KeyRef> ClientSequence<K> {
             key: self.key.key_ref().duplicate(),
             context: self.context.duplicate(),
             first: self.first,
-            unsigned: self.unsigned,
         }
     }
 
-    /// The end of the answers, of which the last must be signed: `TooManyUnsigned` where unsigned ones, of which `answer` takes up to 99
-    /// in a row, came since the last signed one (RFC 8945, 5.3.1). Ok where no answer came.
+    /// The end of the answers, of which the last must be signed (RFC 8945, 5.3.1). It is always Ok, since `answer` takes none that isn't
+    /// signed; it stands here so that callers written for the crate `domain`, in which it can be refused, need no change.
     pub fn done(self) -> Result<(), ValidationError>
-        ensures { (request_mac : List ℕ) (taken : List (List ℕ)) → ClientStands K.the_key self request_mac taken → MatchResult result (λ u. unsigned_since taken ≡ []) (λ e. (unsigned_since taken ≢ []) × (e ≡ ValidationError.TooManyUnsigned)) }
+        ensures { result ≡ Ok tt }
     {
-        if self.unsigned > 0 {
-            return Err(ValidationError::TooManyUnsigned);
-        }
         Ok(())
     }
 
-    /// How many unsigned answers came since the last signed one, at most 99.
+    /// How many unsigned answers came since the last signed one. It is always 0, since `answer` takes none that isn't signed; it stays
+    /// for callers who asked for it while `answer` still took up to 99 in a row.
     pub fn unsigned(&self) -> u64
-        ensures { (request_mac : List ℕ) (taken : List (List ℕ)) → ClientStands K.the_key self.now request_mac taken → result ≡ length (unsigned_since taken) }
+        ensures { result ≡ 0 }
     {
-        self.unsigned
+        0
     }
 
     /// The key.

@@ -53,7 +53,7 @@ impl<K: KeyRef> ClientTransaction<K> {
     /// Takes the answer, as `ClientSequence::answer` takes a first one. After a refusal another message can be tried, since the
     /// refused one may not come from the server (RFC 8945, 5.3).
     pub fn answer(&self, message: &mut MessageBuf, now: Time48) -> Result<(), ValidationError>
-        ensures { (request_mac : List ℕ) → ClientStands K.the_key self.now.sequence request_mac [] → Answers 99 (K.the_key self.now.sequence.key) request_mac now [] message.old result message.new }
+        ensures { (request_mac : List ℕ) → ClientStands K.the_key self.now.sequence request_mac [] → Answers (K.the_key self.now.sequence.key) request_mac now [] message.old result message.new }
     {
         let mut sequence = self.sequence.duplicate();
         sequence.answer(message, now)

@@ -1,9 +1,10 @@
 -- What an updater keeps beside its session, and what both stand for.
-use Rattle.std.specs.Prelude.{◌≡◌, ◌⊎◌, ℕ, ◌+◌, ◌-◌, ◌^◌, ◌==◌, ◌&&◌, Bool, true, false, List, [], ◌∷◌}
+use Rattle.std.specs.Prelude.{◌≡◌, ◌⊎◌, ℕ, ◌+◌, ◌-◌, ◌^◌, ◌==◌, ◌&&◌, Bool, true, false, List, [], ◌∷◌, Option, None}
 use Rattle.zone_model.specs.Version.{Version}
 use Rattle.zone_model.specs.Commits.{Commit}
-use Rattle.zone_model.specs.Session.{Session, with_pending}
-use Rattle.zone_model.specs.Updates.{Update, Finished, Progress}
+use Rattle.zone_model.specs.Difference.{Difference}
+use Rattle.zone_model.specs.Session.{Session, with_pending, told_difference}
+use Rattle.zone_model.specs.Updates.{Update, BeginBatchDelete, Finished, Progress}
 use Rattle.xfr_model.specs.Applying.{commits}
 use Rattle.zone_model.specs.Edits.{set_soa}
 
@@ -34,3 +35,15 @@ lacks_number number u = commits u && (number == 2 ^ 64 - 1)
 abbrev pub Leaves : Update → Session → Session → Type 0
 Leaves (Finished r) old new = (new ≡ old) ⊎ (new ≡ with_pending old (set_soa old.pending r))
 Leaves _ old new = new ≡ old
+
+-- the difference that an update tells of a session: the one of its commit, where one is wanted (RFC 1995, 4)
+abbrev pub told_by : Session → Update → Option Difference
+told_by s (BeginBatchDelete r) = told_difference s false
+told_by s (Finished r) = told_difference (with_pending s (set_soa s.pending r)) false
+told_by s _ = None
+
+-- whether a difference is wanted of the next commit after an update
+abbrev pub wants_after : Bool → Update → Bool
+wants_after wanted (BeginBatchDelete r) = true
+wants_after wanted (Finished r) = false
+wants_after wanted _ = wanted

@@ -1,5 +1,10 @@
 //! One update of a zone, and why it isn't applied.
 
+ghost use Rattle.std.specs.Prelude.{◌≡◌};
+ghost use Rattle.xfr_model.specs.Applying.{commits};
+ghost use Rattle.xfr_client.specs.Causes.{update_of};
+
+use dns_rdata::ReadRecord;
 use std::fmt;
 use thiserror::Error;
 
@@ -18,6 +23,21 @@ pub enum ZoneUpdate<R> {
     BeginBatchAdd(R),
     /// The end; what is pending is committed. The record is the zone's SOA.
     Finished(R),
+}
+
+impl<'m> ZoneUpdate<ReadRecord<'m>> {
+    /// Whether it commits a version where it is applied: a batch's begin and the end do (RFC 1995, 4).
+    pub fn commits(&self) -> bool
+        ensures { result ≡ commits (update_of self.now) }
+    {
+        match self {
+            ZoneUpdate::BeginBatchDelete(_) | ZoneUpdate::Finished(_) => true,
+            ZoneUpdate::DeleteAllRecords
+            | ZoneUpdate::DeleteRecord(_)
+            | ZoneUpdate::AddRecord(_)
+            | ZoneUpdate::BeginBatchAdd(_) => false,
+        }
+    }
 }
 
 impl<R> fmt::Display for ZoneUpdate<R> {

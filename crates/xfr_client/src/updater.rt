@@ -3,7 +3,7 @@ ghost use Rattle.std.specs.Prelude.{◌≡◌, ◌↔◌, ◌++◌, ◌^◌, ◌
 ghost use Rattle.zone_model.specs.TransferText.{is_soa};
 ghost use Rattle.zone_model.specs.Version.{Version};
 ghost use Rattle.zone_model.specs.Edits.{with_sets, set_soa};
-ghost use Rattle.zone_model.specs.Session.{with_pending, committed};
+ghost use Rattle.zone_model.specs.Session.{with_pending, committed, told_difference};
 ghost use Rattle.zone_model.specs.Updates as updates;
 ghost use Rattle.zone_model.specs.Updates.{UpdateFault, apply_update, after_refusal};
 ghost use Rattle.xfr_model.specs.Applying.{commits};
@@ -11,13 +11,14 @@ ghost use Rattle.xfr_client.specs.declared.update.Error.TheVariants.{VersionsExh
 ghost use Rattle.dns_rdata.specs.DataFields.{soa_fields};
 ghost use Rattle.zone_versions.specs.Puts.{with_soa};
 ghost use Rattle.xfr_client.specs.Causes.{update_of, update_fault_of};
-ghost use Rattle.xfr_client.specs.Updating.{Leaves, progress_of, new_version, next_commit, lacks_number};
+ghost use Rattle.xfr_client.specs.Updating.{Leaves, progress_of, new_version, next_commit, lacks_number, told_by, wants_after};
 
 use crate::update::{Error, ZoneUpdate};
 use dns_name::{StoredName, Ttl};
-use dns_rdata::{ReadRecord, RecordData, Soa, StoredRecord, ZoneRecordData};
+use dns_rdata::{ReadRecord, RecordData, Soa, ZoneRecordData};
 use std::alloc::{AllocError, Global};
 use std::marker::Model;
+use zone_diffs::InMemoryZoneDiff;
 use zone_sessions::{CommitError, EditError, ReadZone, WriteZone};
 
 /// Applies the updates of one transfer to a writing session (RFC 5936, 3; RFC 1995, 4).
@@ -69,7 +70,9 @@ impl ZoneUpdater {
         session.handle()
     }
 
-    /// Applies one update, and tells whether it committed a version. Nothing waits, so nothing is asked of `rt`.
+    /// Applies one update. What it commits is published without a new serial, and the difference that the commit tells is told
+    /// (RFC 1995, 4), where one was wanted of it: after `BeginBatchDelete` one is wanted of the next commit. None is told of an update
+    /// that commits nothing; `ZoneUpdate::commits` says beforehand which does. Nothing waits, so nothing is asked of `rt`.
     ///
     /// `Finished` comes after the end and after `IncompatibleUpdate`; after the other refusals the updater goes on.
     /// After `Memory` or `VersionsExhausted` the same update may be applied again; where it was `Finished` the new SOA
@@ -79,19 +82,19 @@ impl ZoneUpdater {
         rt: &R,
         session: &mut WriteZone<'_>,
         update: ZoneUpdate<ReadRecord<'_>>,
-    ) -> Result<bool, Error>
-        ensures ok { (before : List Version) → IfOk result (λ told. apply_update (progress_of self.old session.old before) (update_of update.entry) ≡ Ok (progress_of self.new session.new (before ++ new_version told session.new))) }
+    ) -> Result<Option<InMemoryZoneDiff>, Error>
+        ensures ok { (before : List Version) → OnOk result (apply_update (progress_of self.old session.old before) (update_of update.entry) ≡ Ok (progress_of self.new session.new (before ++ new_version (commits (update_of update.entry)) session.new))) }
         ensures refused { (before : List Version) → IfErr result (λ e. IfSome (update_fault_of e) (λ why. (apply_update (progress_of self.old session.old before) (update_of update.entry) ≡ Err why) × (progress_of self.new session.new before ≡ after_refusal (progress_of self.old session.old before) why))) }
-        ensures told { IfOk result (λ told. told ≡ commits (update_of update.entry)) }
-        ensures current { IfOk result (λ told. session.new.current ≡ next_commit told session.old.current session.new.current.version) }
-        ensures ready { IfOk result (λ told. told ≡ true → session.new.has_handle ≡ true) }
-        // A commit leaves no wish for a difference.
-        ensures wish { IfOk result (λ told. told ≡ true → session.new.compares ≡ false) }
-        ensures kept { IfOk result (λ told. told ≡ false → session.new ≡ with_pending session.old session.new.pending) }
+        ensures difference { IfOk result (λ told. told ≡ told_by session.old (update_of update.entry)) }
+        // A batch's begin leaves the wish for a difference, and the end leaves none.
+        ensures wish { OnOk result (session.new.compares ≡ wants_after session.old.compares (update_of update.entry)) }
+        ensures current { OnOk result (session.new.current ≡ next_commit (commits (update_of update.entry)) session.old.current session.new.current.version) }
+        ensures ready { OnOk result (commits (update_of update.entry) ≡ true → session.new.has_handle ≡ true) }
+        ensures kept { OnOk result (commits (update_of update.entry) ≡ false → session.new ≡ with_pending session.old session.new.pending) }
         ensures err { OnErr result (session.new ≡ with_pending session.old session.new.pending) }
         ensures left { OnErr result (Leaves (update_of update.entry) session.old session.new) }
         // No commit goes past the greatest number.
-        ensures numbered { IfOk result (λ told. lacks_number session.old.current.number (update_of update.entry) ≡ false) }
+        ensures numbered { OnOk result (lacks_number session.old.current.number (update_of update.entry) ≡ false) }
         ensures exhausted { (before : List Version) → result ≡ Err VersionsExhausted → (lacks_number session.old.current.number (update_of update.entry) ≡ true) × IsOk (apply_update (progress_of self.old session.old before) (update_of update.entry)) }
         // Want of memory or of a number changes nothing of the updater.
         ensures unchanged { IfErr result (λ e. update_fault_of e ≡ None → self.new ≡ self.old) }
@@ -104,71 +107,71 @@ impl ZoneUpdater {
             ZoneUpdate::DeleteAllRecords => {
                 clear(session)?;
                 self.is_replacing = true;
-                Ok(false)
+                Ok(None)
             }
             ZoneUpdate::DeleteRecord(deleted) => {
-                let told = self.delete(session, &deleted);
+                let done = self.delete(session, &deleted);
                 drop(deleted);
-                told
+                done?;
+                Ok(None)
             }
             ZoneUpdate::AddRecord(added) => {
-                let told = self.add(session, &added);
+                let done = self.add(session, &added);
                 drop(added);
-                told
+                done?;
+                Ok(None)
             }
             ZoneUpdate::BeginBatchDelete(soa) => {
                 drop(soa);
-                self.publish(rt, session)
+                let told = self.publish(rt, session)?;
+                session.want_difference(true);
+                Ok(told)
             }
             ZoneUpdate::BeginBatchAdd(soa) => {
                 let put = put_soa(self.alloc, session, &soa);
                 drop(soa);
                 put?;
-                Ok(false)
+                Ok(None)
             }
             ZoneUpdate::Finished(soa) => {
                 let put = put_soa(self.alloc, session, &soa);
                 drop(soa);
                 put?;
-                self.publish(rt, session)?;
+                let told = self.publish(rt, session)?;
                 self.is_finished = true;
-                Ok(true)
+                Ok(told)
             }
         }
     }
 
-    // What is pending is published.
-    fn publish<R>(&mut self, rt: &R, session: &mut WriteZone<'_>) -> Result<bool, Error>
+    // What is pending is published, and told is what the commit tells.
+    fn publish<R>(
+        &mut self,
+        rt: &R,
+        session: &mut WriteZone<'_>,
+    ) -> Result<Option<InMemoryZoneDiff>, Error>
         ensures ok { OnOk result ((self.new ≡ record { replacing = false; finished = self.old.finished }) × (session.new ≡ committed session.old false)) }
-        ensures told { IfOk result (λ told. told ≡ true) }
+        ensures difference { IfOk result (λ told. told ≡ told_difference session.old false) }
         ensures err { IfErr result (λ e. (self.new ≡ self.old) × (session.new ≡ session.old) × (update_fault_of e ≡ None)) }
         ensures exhausted { (result ≡ Err VersionsExhausted) ↔ (session.old.current.number ≡ 2 ^ 64 - 1) }
     {
-        commit(rt, session)?;
+        let told = commit(rt, session)?;
         self.is_replacing = false;
-        Ok(true)
+        Ok(told)
     }
 
     // One record less.
-    #[tactic(auto, using(crate::proofs::Deleting::update_deleted, crate::proofs::Deleting::update_not_deleted, crate::proofs::Adding::and_none))]
-    fn delete(
-        &mut self,
-        session: &mut WriteZone<'_>,
-        deleted: &ReadRecord<'_>,
-    ) -> Result<bool, Error>
-        ensures ok { (before : List Version) → self.old.finished ≡ false → IfOk result (λ told. apply_update (progress_of self.old session.old before) (updates.DeleteRecord deleted.now) ≡ Ok (progress_of self.new session.new (before ++ new_version told session.new))) }
+    #[tactic(auto, using(crate::proofs::Deleting::update_deleted, crate::proofs::Deleting::update_not_deleted))]
+    fn delete(&mut self, session: &mut WriteZone<'_>, deleted: &ReadRecord<'_>) -> Result<(), Error>
+        ensures ok { (before : List Version) → self.old.finished ≡ false → OnOk result (apply_update (progress_of self.old session.old before) (updates.DeleteRecord deleted.now) ≡ Ok (progress_of self.new session.new before)) }
         ensures refused { (before : List Version) → self.old.finished ≡ false → IfErr result (λ e. IfSome (update_fault_of e) (λ why. (apply_update (progress_of self.old session.old before) (updates.DeleteRecord deleted.now) ≡ Err why) × (progress_of self.new session.new before ≡ after_refusal (progress_of self.old session.old before) why))) }
-        ensures told { IfOk result (λ told. told ≡ false) }
         ensures numbered { result ≡ Err VersionsExhausted → ⊥ }
         ensures else_same { session.new ≡ with_pending session.old session.new.pending }
         ensures err { OnErr result (session.new ≡ session.old) }
         ensures unchanged { IfErr result (λ e. update_fault_of e ≡ None → self.new ≡ self.old) }
     {
-        let stored = stored(self.alloc, deleted)?;
-        let removed = session.delete_record(&stored);
-        drop(stored);
-        match removed {
-            Ok(()) => Ok(false),
+        match session.delete_read(deleted) {
+            Ok(()) => Ok(()),
             Err(EditError::Incompatible) => {
                 self.is_finished = true;
                 Err(Error::IncompatibleUpdate)
@@ -180,22 +183,20 @@ impl ZoneUpdater {
     }
 
     // One record more; data that the set has are passed over while the zone is replaced (RFC 5936, 2.2).
-    #[tactic(auto, using(crate::proofs::Adding::update_added, crate::proofs::Adding::update_passed, crate::proofs::Adding::update_not_passed, crate::proofs::Adding::update_outside, crate::proofs::Adding::update_bad_data, crate::proofs::Adding::and_none))]
-    fn add(&mut self, session: &mut WriteZone<'_>, added: &ReadRecord<'_>) -> Result<bool, Error>
-        ensures ok { (before : List Version) → self.old.finished ≡ false → IfOk result (λ told. apply_update (progress_of self.old session.old before) (updates.AddRecord added.now) ≡ Ok (progress_of self.new session.new (before ++ new_version told session.new))) }
+    #[tactic(auto, using(crate::proofs::Adding::update_added, crate::proofs::Adding::update_passed, crate::proofs::Adding::update_not_passed, crate::proofs::Adding::update_outside, crate::proofs::Adding::update_bad_data))]
+    fn add(&mut self, session: &mut WriteZone<'_>, added: &ReadRecord<'_>) -> Result<(), Error>
+        ensures ok { (before : List Version) → self.old.finished ≡ false → OnOk result (apply_update (progress_of self.old session.old before) (updates.AddRecord added.now) ≡ Ok (progress_of self.new session.new before)) }
         ensures refused { (before : List Version) → self.old.finished ≡ false → IfErr result (λ e. IfSome (update_fault_of e) (λ why. (apply_update (progress_of self.old session.old before) (updates.AddRecord added.now) ≡ Err why) × (progress_of self.new session.new before ≡ after_refusal (progress_of self.old session.old before) why))) }
-        ensures told { IfOk result (λ told. told ≡ false) }
         ensures numbered { result ≡ Err VersionsExhausted → ⊥ }
         ensures else_same { session.new ≡ with_pending session.old session.new.pending }
         ensures err { OnErr result (session.new ≡ session.old) }
         ensures unchanged { IfErr result (λ e. update_fault_of e ≡ None → self.new ≡ self.old) }
     {
-        let stored = stored(self.alloc, added)?;
-        match session.add_record(stored) {
-            Ok(()) => Ok(false),
+        match session.add_read(added) {
+            Ok(()) => Ok(()),
             Err(EditError::Incompatible) => {
                 if self.is_replacing {
-                    return Ok(false);
+                    return Ok(());
                 }
                 self.is_finished = true;
                 Err(Error::IncompatibleUpdate)
@@ -204,17 +205,6 @@ impl ZoneUpdater {
             Err(EditError::InvalidData) => Err(Error::InvalidData),
             Err(EditError::Memory) => Err(Error::Memory),
         }
-    }
-}
-
-// A copy that holds its octets.
-fn stored(alloc: Global, found: &ReadRecord<'_>) -> Result<StoredRecord, Error>
-    ensures ok { IfOk result (λ r. r ≡ found.now) }
-    ensures err { IfErr result (λ e. e ≡ Memory) }
-{
-    match found.flatten(alloc) {
-        Ok(stored) => Ok(stored),
-        Err(_) => Err(Error::Memory),
     }
 }
 
@@ -261,17 +251,15 @@ fn put_data(session: &mut WriteZone<'_>, ttl: Ttl, data: Soa<StoredName>) -> Res
     }
 }
 
-// What is pending is published.
-fn commit<R>(rt: &R, session: &mut WriteZone<'_>) -> Result<(), Error>
+// What is pending is published, and told is what the commit tells.
+fn commit<R>(rt: &R, session: &mut WriteZone<'_>) -> Result<Option<InMemoryZoneDiff>, Error>
     ensures ok { OnOk result (session.new ≡ committed session.old false) }
+    ensures difference { IfOk result (λ told. told ≡ told_difference session.old false) }
     ensures err { IfErr result (λ e. (session.new ≡ session.old) × (update_fault_of e ≡ None)) }
     ensures exhausted { (result ≡ Err VersionsExhausted) ↔ (session.old.current.number ≡ 2 ^ 64 - 1) }
 {
     match session.commit(rt, false) {
-        Ok(told) => {
-            drop(told);
-            Ok(())
-        }
+        Ok(told) => Ok(told),
         Err(CommitError::VersionsExhausted) => Err(Error::VersionsExhausted),
         Err(CommitError::Memory) => Err(Error::Memory),
     }

@@ -32,7 +32,7 @@ within_grows n (u ∷ more) p = by (apply_update p u) (update_grows p u) (λ q. 
 
 taken_grows : (c : Course) (cl : Client) (k : Checked) → IsPart cl.progress.committed (take_checked c cl k).progress.committed
 taken_grows c cl k =
-    elim (is_some cl.met) as (λ b. IsPart cl.progress.committed (if b then cl else client_after c cl.begun k.signed (run_message c cl k) (apply_within (room c) cl.progress (run_message c cl k).updates)).progress.committed) [
+    elim (is_some cl.met) as (λ b. IsPart cl.progress.committed (if b then cl else client_after c cl.begun (run_message c cl k) (apply_within (room c) cl.progress (run_message c cl k).updates)).progress.committed) [
       | true ↦ part_itself cl.progress.committed
       | false ↦ within_grows (room c) (run_message c cl k).updates cl.progress
     ]
@@ -55,7 +55,7 @@ part_is_made c ks k more us vs unmet told =
     let r : Run = run_message c cl k in
     let next : Client = take_checked c cl k in
     let h : Held = apply_within (room c) cl.progress us in
-    let took : next ≡ client_after c cl.begun k.signed r (apply_within (room c) cl.progress r.updates) = ap (λ o. if is_some o then cl else client_after c cl.begun k.signed r (apply_within (room c) cl.progress r.updates)) unmet in
+    let took : next ≡ client_after c cl.begun r (apply_within (room c) cl.progress r.updates) = ap (λ o. if is_some o then cl else client_after c cl.begun r (apply_within (room c) cl.progress r.updates)) unmet in
     let all : next.progress.committed ≡ (then_held (room c) h vs).progress.committed =
     ap (λ x. x.progress.committed) took ∙ ap (λ l. (apply_within (room c) cl.progress l).progress.committed) told ∙ ap (λ x. x.progress.committed) (within-append (room c) us vs cl.progress) in
     let now = held_grows (room c) h vs in

@@ -1,8 +1,7 @@
 -- A client that takes checked messages in turn commits the versions made and ends with the outcome.
-use Rattle.std.proofs.Common.{◌≡◌, ℕ, Bool, true, false, not, if◌then◌else◌, List, [], ◌∷◌, ◌++◌, map, length, take, refl, sym, ap, ◌∙◌, append_assoc, append-nil, Option, Some, None, is_some, unwrap_or}
+use Rattle.std.proofs.Common.{◌≡◌, ℕ, Bool, true, false, if◌then◌else◌, List, [], ◌∷◌, ◌++◌, map, length, take, refl, sym, ap, ◌∙◌, append_assoc, append-nil, Option, Some, None, is_some, unwrap_or}
 use Rattle.std.specs.Prelude.{nat_lt}
-use Rattle.std.specs.Option.{option_or, option_map, option_map_or}
-use Rattle.std.specs.List.{last_or}
+use Rattle.std.specs.Option.{option_or, option_map}
 use Rattle.zone_model.specs.Edits.{Refusal}
 use Rattle.zone_model.specs.TransferText.{Mode, Axfr, Ixfr}
 use Rattle.zone_model.specs.Spells.{Spelling, spelling}
@@ -13,10 +12,9 @@ use Rattle.xfr_course.specs.Client.{MetDecides, UnmetStops, CourseOn, Client, ne
 use Rattle.xfr_model.specs.Messages.{ReadMessage}
 use Rattle.xfr_model.specs.Read.{Fault, Item, items_of, good_records, first_fault, ReadText, read_items, read_by, request_fault, fault_of_all, retry}
 use Rattle.xfr_model.specs.Machine.{AtStart, is_at_end, Run, run_items, signal_of}
-use Rattle.xfr_course.specs.Outcome.{Outcome, Updated, Tsig, Reading, VersionsExhausted, Checked, Course, room, messages_of, is_end_signed, after_retry, after_fault, made, made_unless, unless_retry, outcome}
-use Rattle.tsig_port.specs.declared.errors.ValidationError.TheVariants.{TooManyUnsigned}
+use Rattle.xfr_course.specs.Outcome.{Outcome, Updated, Reading, VersionsExhausted, Checked, Course, room, messages_of, after_retry, after_fault, made, made_unless, unless_retry, outcome}
 use Rattle.xfr_model.proofs.Readers.{run_reads, run-append, run-stopped, fault_is, ends, later, read_behind, behind_end, behind_more, behind_nothing, signal_is, retry_is}
-use Rattle.xfr_model.proofs.InTurn.{messages_begin, items_begin, retry_tells_nothing}
+use Rattle.xfr_model.proofs.InTurn.{items_begin, retry_tells_nothing}
 use Rattle.xfr_model.proofs.Limits.{within-append, commits_within}
 
 -- The client.
@@ -28,12 +26,12 @@ ask c = request_fault c.id c.question
 abbrev held : Course → List Item → Held
 held c xs = apply_within (room c) (begin c.base) (run_items c.mode AtStart xs).updates
 
--- the client that has taken these items, where the last message was signed or not
-abbrev client_at : Course → Run → Held → Bool → Client
-client_at c a h signed = record { begun = true; place = a.place; progress = h.progress; met = met_after c h.halt a.fault None (is_at_end a.place) signed }
+-- the client that has taken these items
+abbrev client_at : Course → Run → Held → Client
+client_at c a h = record { begun = true; place = a.place; progress = h.progress; met = met_after c h.halt a.fault None (is_at_end a.place) }
 
-abbrev client_with : Course → List Item → Bool → Client
-client_with c xs signed = client_at c (run_items c.mode AtStart xs) (held c xs) signed
+abbrev client_with : Course → List Item → Client
+client_with c xs = client_at c (run_items c.mode AtStart xs) (held c xs)
 
 -- items after a halt change no more than the run
 held_stays : (c : Course) (xs ys : List Item) (e : Halt) → (held c xs).halt ≡ Some e → held c (xs ++ ys) ≡ held c xs
@@ -62,25 +60,25 @@ held_more c xs ys g h =
 met_stays : (c : Course) (cl : Client) (ks : List Checked) (o : Outcome) → cl.met ≡ Some o → take_course c cl ks ≡ cl
 met_stays c cl [] o h = refl
 met_stays c cl (k ∷ more) o h =
-    ap (λ m. take_course c (if is_some m then cl else client_after c cl.begun k.signed (run_message c cl k) (apply_within (room c) cl.progress (run_message c cl k).updates)) more) h ∙ met_stays c cl more o h
+    ap (λ m. take_course c (if is_some m then cl else client_after c cl.begun (run_message c cl k) (apply_within (room c) cl.progress (run_message c cl k).updates)) more) h ∙ met_stays c cl more o h
 
 -- the next message, where no outcome is met
-next_client : (c : Course) (xs : List Item) (signed : Bool) (k : Checked) → (held c xs).halt ≡ None → ends c.mode xs ≡ false → first_fault xs ≡ None
-    → take_checked c (client_with c xs signed) k ≡ client_with c (xs ++ items_of (ask c false) k.message) k.signed
-next_client c xs signed k h e f =
+next_client : (c : Course) (xs : List Item) (k : Checked) → (held c xs).halt ≡ None → ends c.mode xs ≡ false → first_fault xs ≡ None
+    → take_checked c (client_with c xs) k ≡ client_with c (xs ++ items_of (ask c false) k.message)
+next_client c xs k h e f =
     let its : List Item = items_of (ask c false) k.message in
     let a : Run = run_items c.mode AtStart xs in
     let b : Run = run_items c.mode a.place its in
-    let cl : Client = client_with c xs signed in
-    let after : Held → Client = λ x. client_after c true k.signed b x in
+    let cl : Client = client_with c xs in
+    let after : Held → Client = λ x. client_after c true b x in
     let met : cl.met ≡ None =
-    ap (λ o. met_after c o a.fault None (is_at_end a.place) signed) h
-    ∙ ap (λ o. met_after c None o None (is_at_end a.place) signed) (fault_is c.mode xs e ∙ f)
-    ∙ ap (λ b. met_after c None None None b signed) ((run_reads c.mode xs).ended ∙ e) in
+    ap (λ o. met_after c o a.fault None (is_at_end a.place)) h
+    ∙ ap (λ o. met_after c None o None (is_at_end a.place)) (fault_is c.mode xs e ∙ f)
+    ∙ ap (λ b. met_after c None None None b) ((run_reads c.mode xs).ended ∙ e) in
     ap (λ m. if is_some m then cl else after (apply_within (room c) (held c xs).progress b.updates)) met
     ∙ ap after (held_more c xs its f h)
-    ∙ ap (λ o. client_at c (record { place = b.place; updates = a.updates ++ b.updates; fault = option_or o b.fault }) (held c (xs ++ its)) k.signed) (sym (fault_is c.mode xs e ∙ f))
-    ∙ ap (λ r. client_at c r (held c (xs ++ its)) k.signed) (sym (run-append c.mode AtStart xs its f))
+    ∙ ap (λ o. client_at c (record { place = b.place; updates = a.updates ++ b.updates; fault = option_or o b.fault }) (held c (xs ++ its))) (sym (fault_is c.mode xs e ∙ f))
+    ∙ ap (λ r. client_at c r (held c (xs ++ its))) (sym (run-append c.mode AtStart xs its f))
 
 -- what is read of later messages
 abbrev messages_in : List Checked → List ReadMessage
@@ -89,148 +87,135 @@ messages_in ks = map (λ (m : Checked). m.message) ks
 abbrev read_of : Course → List Item → List Checked → List ReadMessage
 read_of c xs ks = read_behind c.mode (ask c) xs (messages_in ks)
 
--- whether the last of n messages was signed, or else a given answer
-abbrev last_signed : Bool → ℕ → List Checked → Bool
-last_signed b n ks = option_map_or (λ (m : Checked). m.signed) (last_or None (take n ks)) b
+-- the outcome of a run
+abbrev verdict : Course → Run → Outcome
+verdict c a = unwrap_or (met_after c (apply_within (room c) (begin c.base) a.updates).halt a.fault None (is_at_end a.place)) c.stop
 
-some_last : (k : Checked) (ks : List Checked) (b : Bool) → option_map_or (λ (m : Checked). m.signed) (last_or (Some k) ks) b ≡ option_map_or (λ (m : Checked). m.signed) (last_or None ks) k.signed
-some_last k [] b = refl
-some_last k (l ∷ ks) b = some_last l ks b ∙ sym (some_last l ks k.signed)
-
--- the outcome of a run with a last message signed or not
-abbrev verdict : Course → Run → Bool → Outcome
-verdict c a signed = unwrap_or (met_after c (apply_within (room c) (begin c.base) a.updates).halt a.fault None (is_at_end a.place) signed) c.stop
-
-pub record Final (c : Course) (cl : Client) (xs : List Item) (signed : Bool) : Type 0 where
+pub record Final (c : Course) (cl : Client) (xs : List Item) : Type 0 where
   pub committed : cl.progress.committed ≡ (held c xs).progress.committed
-  pub met : unwrap_or cl.met c.stop ≡ verdict c (run_items c.mode AtStart xs) signed
+  pub met : unwrap_or cl.met c.stop ≡ verdict c (run_items c.mode AtStart xs)
 
-moved : (c : Course) (cl : Client) (xs ys : List Item) (a b : Bool) → xs ≡ ys → a ≡ b → Final c cl xs a → Final c cl ys b
-moved c cl xs ys a b e h f = record {
+moved : (c : Course) (cl : Client) (xs ys : List Item) → xs ≡ ys → Final c cl xs → Final c cl ys
+moved c cl xs ys e f = record {
   committed = f.committed ∙ ap (λ l. (held c l).progress.committed) e;
-  met = f.met ∙ ap (λ l. verdict c (run_items c.mode AtStart l) a) e ∙ ap (verdict c (run_items c.mode AtStart ys)) h;
+  met = f.met ∙ ap (λ l. verdict c (run_items c.mode AtStart l)) e;
 }
 
-same_client : (c : Course) (cl dl : Client) (xs : List Item) (a : Bool) → cl ≡ dl → Final c dl xs a → Final c cl xs a
-same_client c cl dl xs a e f = record { committed = ap (λ x. x.progress.committed) e ∙ f.committed; met = ap (λ x. unwrap_or x.met c.stop) e ∙ f.met }
+same_client : (c : Course) (cl dl : Client) (xs : List Item) → cl ≡ dl → Final c dl xs → Final c cl xs
+same_client c cl dl xs e f = record { committed = ap (λ x. x.progress.committed) e ∙ f.committed; met = ap (λ x. unwrap_or x.met c.stop) e ∙ f.met }
 
-itself : (c : Course) (xs : List Item) (signed : Bool) → Final c (client_with c xs signed) xs signed
-itself c xs signed = record { committed = refl; met = refl }
+itself : (c : Course) (xs : List Item) → Final c (client_with c xs) xs
+itself c xs = record { committed = refl; met = refl }
 
 -- the end of a text is met
 pub record Met (cl : Client) : Type 0 where
   pub what : Outcome
   pub is : cl.met ≡ Some what
 
-end_met : (c : Course) (xs : List Item) (signed : Bool) → (held c xs).halt ≡ None → ends c.mode xs ≡ true → Met (client_with c xs signed)
-end_met c xs signed h e = by (run_items c.mode AtStart xs).fault refl
+end_met : (c : Course) (xs : List Item) → (held c xs).halt ≡ None → ends c.mode xs ≡ true → Met (client_with c xs)
+end_met c xs h e = by (run_items c.mode AtStart xs).fault refl
   where
     a : Run
     a = run_items c.mode AtStart xs
 
-    by : (f : Option Fault) → a.fault ≡ f → Met (client_with c xs signed)
-    by (Some f) g = record { what = Reading f; is = ap (λ o. met_after c o a.fault None (is_at_end a.place) signed) h ∙ ap (λ o. met_after c None o None (is_at_end a.place) signed) g }
+    by : (f : Option Fault) → a.fault ≡ f → Met (client_with c xs)
+    by (Some f) g = record { what = Reading f; is = ap (λ o. met_after c o a.fault None (is_at_end a.place)) h ∙ ap (λ o. met_after c None o None (is_at_end a.place)) g }
     by None g = record {
-      what = if signed then Updated else Tsig TooManyUnsigned;
-      is = ap (λ o. met_after c o a.fault None (is_at_end a.place) signed) h ∙ ap (λ o. met_after c None o None (is_at_end a.place) signed) g ∙ ap (λ b. met_after c None None None b signed) ((run_reads c.mode xs).ended ∙ e);
+      what = Updated;
+      is = ap (λ o. met_after c o a.fault None (is_at_end a.place)) h ∙ ap (λ o. met_after c None o None (is_at_end a.place)) g ∙ ap (λ b. met_after c None None None b) ((run_reads c.mode xs).ended ∙ e);
     }
 
 -- a halt decides, whatever comes after it
-halt_final : (c : Course) (xs ys : List Item) (a b : Bool) (e : Halt) → (held c xs).halt ≡ Some e → Final c (client_with c xs a) (xs ++ ys) b
-halt_final c xs ys a b e h =
+halt_final : (c : Course) (xs ys : List Item) (e : Halt) → (held c xs).halt ≡ Some e → Final c (client_with c xs) (xs ++ ys)
+halt_final c xs ys e h =
     let r : Run = run_items c.mode AtStart xs in
     let q : Run = run_items c.mode AtStart (xs ++ ys) in
     let same = held_stays c xs ys e h in
     record {
       committed = ap (λ x. x.progress.committed) (sym same);
-      met = ap (λ o. unwrap_or (met_after c o r.fault None (is_at_end r.place) a) c.stop) h ∙ sym (ap (λ o. unwrap_or (met_after c o q.fault None (is_at_end q.place) b) c.stop) (ap (λ x. x.halt) same ∙ h));
+      met = ap (λ o. unwrap_or (met_after c o r.fault None (is_at_end r.place)) c.stop) h ∙ sym (ap (λ o. unwrap_or (met_after c o q.fault None (is_at_end q.place)) c.stop) (ap (λ x. x.halt) same ∙ h));
     }
 
 -- .. and so does a fault
-fault_final : (c : Course) (xs ys : List Item) (a b : Bool) (f : Fault) → (held c xs).halt ≡ None → ends c.mode xs ≡ false → first_fault xs ≡ Some f → Final c (client_with c xs a) (xs ++ ys) b
-fault_final c xs ys a b f h e g =
+fault_final : (c : Course) (xs ys : List Item) (f : Fault) → (held c xs).halt ≡ None → ends c.mode xs ≡ false → first_fault xs ≡ Some f → Final c (client_with c xs) (xs ++ ys)
+fault_final c xs ys f h e g =
     let r : Run = run_items c.mode AtStart xs in
     let same = run-stopped c.mode AtStart xs ys f g in
-    let by : (d : Bool) → verdict c r d ≡ Reading f = λ d. ap (λ o. unwrap_or (met_after c o r.fault None (is_at_end r.place) d) c.stop) h ∙ ap (λ o. unwrap_or (met_after c None o None (is_at_end r.place) d) c.stop) (fault_is c.mode xs e ∙ g) in
+    let by : verdict c r ≡ Reading f = ap (λ o. unwrap_or (met_after c o r.fault None (is_at_end r.place)) c.stop) h ∙ ap (λ o. unwrap_or (met_after c None o None (is_at_end r.place)) c.stop) (fault_is c.mode xs e ∙ g) in
     record {
       committed = ap (λ x. (apply_within (room c) (begin c.base) x.updates).progress.committed) (sym same);
-      met = by a ∙ sym (ap (λ x. verdict c x b) same ∙ by b);
+      met = by ∙ sym (ap (λ x. verdict c x) same ∙ by);
     }
 
-takes_behind : (c : Course) (ks : List Checked) (xs : List Item) (signed : Bool)
-    → Final c (take_course c (client_with c xs signed) ks) (xs ++ later (ask c) (read_of c xs ks)) (last_signed signed (length (read_of c xs ks)) ks)
-takes_behind c [] xs signed =
+takes_behind : (c : Course) (ks : List Checked) (xs : List Item) → Final c (take_course c (client_with c xs) ks) (xs ++ later (ask c) (read_of c xs ks))
+takes_behind c [] xs =
     let none = behind_nothing c.mode (ask c) xs in
-    moved c (client_with c xs signed) xs (xs ++ later (ask c) (read_of c xs [])) signed (last_signed signed (length (read_of c xs [])) []) (sym (append-nil xs) ∙ ap (λ p. xs ++ later (ask c) p) (sym none)) (ap (λ (p : List ReadMessage). last_signed signed (length p) []) (sym none)) (itself c xs signed)
-takes_behind c (k ∷ more) xs signed = by (held c xs).halt (ends c.mode xs) (first_fault xs) refl refl refl (takes_behind c more (xs ++ items_of (ask c false) k.message) k.signed)
+    moved c (client_with c xs) xs (xs ++ later (ask c) (read_of c xs [])) (sym (append-nil xs) ∙ ap (λ p. xs ++ later (ask c) p) (sym none)) (itself c xs)
+takes_behind c (k ∷ more) xs = by (held c xs).halt (ends c.mode xs) (first_fault xs) refl refl refl (takes_behind c more (xs ++ items_of (ask c false) k.message))
   where
     its : List Item
     its = items_of (ask c false) k.message
 
     cl : Client
-    cl = client_with c xs signed
+    cl = client_with c xs
 
     ys : List Item
     ys = later (ask c) (read_of c xs (k ∷ more))
 
-    b : Bool
-    b = last_signed signed (length (read_of c xs (k ∷ more))) (k ∷ more)
-
     by : (o : Option Halt) (e : Bool) (f : Option Fault) → (held c xs).halt ≡ o → ends c.mode xs ≡ e → first_fault xs ≡ f
-        → Final c (take_course c (client_with c (xs ++ its) k.signed) more) ((xs ++ its) ++ later (ask c) (read_of c (xs ++ its) more)) (last_signed k.signed (length (read_of c (xs ++ its) more)) more)
-        → Final c (take_course c cl (k ∷ more)) (xs ++ ys) b
+        → Final c (take_course c (client_with c (xs ++ its)) more) ((xs ++ its) ++ later (ask c) (read_of c (xs ++ its) more))
+        → Final c (take_course c cl (k ∷ more)) (xs ++ ys)
     by (Some x) e f h i g ih =
-        same_client c (take_course c cl (k ∷ more)) cl (xs ++ ys) b
-        (met_stays c cl (k ∷ more) (halt_outcome x) (ap (λ o. met_after c o (run_items c.mode AtStart xs).fault None (is_at_end (run_items c.mode AtStart xs).place) signed) h))
-        (halt_final c xs ys signed b x h)
+        same_client c (take_course c cl (k ∷ more)) cl (xs ++ ys)
+        (met_stays c cl (k ∷ more) (halt_outcome x) (ap (λ o. met_after c o (run_items c.mode AtStart xs).fault None (is_at_end (run_items c.mode AtStart xs).place)) h))
+        (halt_final c xs ys x h)
     by None true f h i g ih =
-        let m = end_met c xs signed h i in
+        let m = end_met c xs h i in
         let none = behind_end c.mode (ask c) xs k.message (messages_in more) i in
-        same_client c (take_course c cl (k ∷ more)) cl (xs ++ ys) b (met_stays c cl (k ∷ more) m.what m.is)
-        (moved c cl xs (xs ++ ys) signed b (sym (append-nil xs) ∙ ap (λ p. xs ++ later (ask c) p) (sym none)) (ap (λ (p : List ReadMessage). last_signed signed (length p) (k ∷ more)) (sym none)) (itself c xs signed))
+        same_client c (take_course c cl (k ∷ more)) cl (xs ++ ys) (met_stays c cl (k ∷ more) m.what m.is)
+        (moved c cl xs (xs ++ ys) (sym (append-nil xs) ∙ ap (λ p. xs ++ later (ask c) p) (sym none)) (itself c xs))
     by None false (Some f) h i g ih =
         let r : Run = run_items c.mode AtStart xs in
-        same_client c (take_course c cl (k ∷ more)) cl (xs ++ ys) b
-        (met_stays c cl (k ∷ more) (Reading f) (ap (λ o. met_after c o r.fault None (is_at_end r.place) signed) h ∙ ap (λ o. met_after c None o None (is_at_end r.place) signed) (fault_is c.mode xs i ∙ g)))
-        (fault_final c xs ys signed b f h i g)
+        same_client c (take_course c cl (k ∷ more)) cl (xs ++ ys)
+        (met_stays c cl (k ∷ more) (Reading f) (ap (λ o. met_after c o r.fault None (is_at_end r.place)) h ∙ ap (λ o. met_after c None o None (is_at_end r.place)) (fault_is c.mode xs i ∙ g)))
+        (fault_final c xs ys f h i g)
     by None false None h i g ih =
         let p : List ReadMessage = read_of c (xs ++ its) more in
         let more_is = behind_more c.mode (ask c) xs k.message (messages_in more) i in
-        same_client c (take_course c cl (k ∷ more)) (take_course c (client_with c (xs ++ its) k.signed) more) (xs ++ ys) b (ap (λ x. take_course c x more) (next_client c xs signed k h i g))
-        (moved c (take_course c (client_with c (xs ++ its) k.signed) more) ((xs ++ its) ++ later (ask c) p) (xs ++ ys) (last_signed k.signed (length p) more) b
-        (append_assoc xs its (later (ask c) p) ∙ ap (λ l. xs ++ later (ask c) l) (sym more_is))
-        (sym (some_last k (take (length p) more) signed) ∙ ap (λ (l : List ReadMessage). last_signed signed (length l) (k ∷ more)) (sym more_is)) ih)
+        same_client c (take_course c cl (k ∷ more)) (take_course c (client_with c (xs ++ its)) more) (xs ++ ys) (ap (λ x. take_course c x more) (next_client c xs k h i g))
+        (moved c (take_course c (client_with c (xs ++ its)) more) ((xs ++ its) ++ later (ask c) p) (xs ++ ys)
+        (append_assoc xs its (later (ask c) p) ∙ ap (λ l. xs ++ later (ask c) l) (sym more_is)) ih)
 
 -- The outcome.
 
-abbrev ended_by : Course → Bool → Bool → Option Fault → Outcome
-ended_by c ended signed (Some f) = Reading f
-ended_by c ended signed None = if not ended then c.stop else if signed then Updated else Tsig TooManyUnsigned
+abbrev ended_by : Course → Bool → Option Fault → Outcome
+ended_by c ended (Some f) = Reading f
+ended_by c ended None = if ended then Updated else c.stop
 
-abbrev judged : Course → Spelling → ReadText → Bool → Outcome
-judged c s t signed = if nat_lt (room c) (length s.versions) then VersionsExhausted else ended_by c t.ended signed (fault_of_all s.fault t.fault)
+abbrev judged : Course → Spelling → ReadText → Outcome
+judged c s t = if nat_lt (room c) (length s.versions) then VersionsExhausted else ended_by c t.ended (fault_of_all s.fault t.fault)
 
-after_is : (c : Course) (o : Option Fault) → after_fault c o ≡ ended_by c (read_by c.mode (ask c) (messages_of c)).ended (is_end_signed c) o
+after_is : (c : Course) (o : Option Fault) → after_fault c o ≡ ended_by c (read_by c.mode (ask c) (messages_of c)).ended o
 after_is c (Some f) = refl
 after_is c None = refl
 
 -- an outcome as met is the outcome as defined
-met_is : (c : Course) (l : Bool) (sf : Option Refusal) (tf : Option Fault) (ended signed : Bool)
-    → unwrap_or (met_after c (if l then Some NoNumber else option_map (λ e. Denied (Edit e)) sf) tf None ended signed) c.stop ≡ (if l then VersionsExhausted else ended_by c ended signed (fault_of_all sf tf))
-met_is c true sf tf ended signed = refl
-met_is c false (Some e) tf ended signed = refl
-met_is c false None (Some f) ended signed = refl
-met_is c false None None true signed = refl
-met_is c false None None false signed = refl
+met_is : (c : Course) (l : Bool) (sf : Option Refusal) (tf : Option Fault) (ended : Bool)
+    → unwrap_or (met_after c (if l then Some NoNumber else option_map (λ e. Denied (Edit e)) sf) tf None ended) c.stop ≡ (if l then VersionsExhausted else ended_by c ended (fault_of_all sf tf))
+met_is c true sf tf ended = refl
+met_is c false (Some e) tf ended = refl
+met_is c false None (Some f) ended = refl
+met_is c false None None true = refl
+met_is c false None None false = refl
 
 -- what has been committed and met, as defined
 pub record Agrees (c : Course) (cl : Client) : Type 0 where
   pub made : cl.progress.committed ≡ made c
   pub outcome : unwrap_or cl.met c.stop ≡ outcome c
 
-agrees : (c : Course) (cl : Client) (xs : List Item) (signed : Bool) → retry c.mode (ask c) (messages_of c) ≡ None → read_by c.mode (ask c) (messages_of c) ≡ read_items c.mode xs → is_end_signed c ≡ signed
-    → Final c cl xs signed → Agrees c cl
-agrees c cl xs signed h e g f =
+agrees : (c : Course) (cl : Client) (xs : List Item) → retry c.mode (ask c) (messages_of c) ≡ None → read_by c.mode (ask c) (messages_of c) ≡ read_items c.mode xs
+    → Final c cl xs → Agrees c cl
+agrees c cl xs h e f =
     let a : Run = run_items c.mode AtStart xs in
     let t : ReadText = read_items c.mode xs in
     let s : Spelling = spelling c.mode (good_records xs) c.base in
@@ -242,14 +227,13 @@ agrees c cl xs signed h e g f =
       made = f.committed ∙ ap (λ x. x.progress.committed) same ∙ w.versions ∙ sym (ap (made_unless c) h ∙ ap (λ (x : ReadText). take (room c) (spelling c.mode x.records c.base).versions) e);
       outcome =
           f.met
-          ∙ ap (λ o. unwrap_or (met_after c o a.fault None (is_at_end a.place) signed) c.stop) halt
-          ∙ ap (λ o. unwrap_or (met_after c (if nat_lt (room c) (length s.versions) then Some NoNumber else option_map (λ e. Denied (Edit e)) s.fault) o None (is_at_end a.place) signed) c.stop) r.fault
-          ∙ ap (λ b. unwrap_or (met_after c (if nat_lt (room c) (length s.versions) then Some NoNumber else option_map (λ e. Denied (Edit e)) s.fault) t.fault None b signed) c.stop) r.ended
-          ∙ met_is c (nat_lt (room c) (length s.versions)) s.fault t.fault t.ended signed
+          ∙ ap (λ o. unwrap_or (met_after c o a.fault None (is_at_end a.place)) c.stop) halt
+          ∙ ap (λ o. unwrap_or (met_after c (if nat_lt (room c) (length s.versions) then Some NoNumber else option_map (λ e. Denied (Edit e)) s.fault) o None (is_at_end a.place)) c.stop) r.fault
+          ∙ ap (λ b. unwrap_or (met_after c (if nat_lt (room c) (length s.versions) then Some NoNumber else option_map (λ e. Denied (Edit e)) s.fault) t.fault None b) c.stop) r.ended
+          ∙ met_is c (nat_lt (room c) (length s.versions)) s.fault t.fault t.ended
           ∙ sym (ap (unless_retry c) h
           ∙ ap (λ o. if nat_lt (room c) (length (spelling c.mode (read_by c.mode (ask c) (messages_of c)).records c.base).versions) then VersionsExhausted else o) (after_is c (fault_of_all (spelling c.mode (read_by c.mode (ask c) (messages_of c)).records c.base).fault (read_by c.mode (ask c) (messages_of c)).fault))
-          ∙ ap (λ (x : ReadText). judged c (spelling c.mode x.records c.base) x (is_end_signed c)) e
-          ∙ ap (judged c s t) g);
+          ∙ ap (λ (x : ReadText). judged c (spelling c.mode x.records c.base) x) e);
     }
 
 no_retry : (mode : Mode) (fault_of : Bool → ReadMessage → Option Fault) → retry mode fault_of [] ≡ None
@@ -267,9 +251,9 @@ signal_agrees c k more n h =
     let cl : Client = take_checked d (new_client d) k in
     let idle : held d its ≡ record { progress = begin c.base; halt = None } = ap (apply_within (room c) (begin c.base)) t.told in
     let met : cl.met ≡ Some (after_retry d n) =
-    ap (λ x. met_after d x.halt a.fault (signal_of false a) (is_at_end a.place) k.signed) idle
-    ∙ ap (λ o. met_after d None o (signal_of false a) (is_at_end a.place) k.signed) t.fault
-    ∙ ap (λ o. met_after d None None o (is_at_end a.place) k.signed) (signal_is c.mode (ask c) k.message (messages_in more) ∙ h) in
+    ap (λ x. met_after d x.halt a.fault (signal_of false a) (is_at_end a.place)) idle
+    ∙ ap (λ o. met_after d None o (signal_of false a) (is_at_end a.place)) t.fault
+    ∙ ap (λ o. met_after d None None o (is_at_end a.place)) (signal_is c.mode (ask c) k.message (messages_in more) ∙ h) in
     let done : client_of d ≡ cl = met_stays d cl more (after_retry d n) met in
     record {
       made = ap (λ x. x.progress.committed) done ∙ ap (λ x. x.progress.committed) idle ∙ sym (ap (made_unless d) h);
@@ -283,15 +267,13 @@ first_agrees c k more h =
     let its : List Item = items_of (ask c true) k.message in
     let a : Run = run_items c.mode AtStart its in
     let p : List ReadMessage = read_of d its more in
-    let read_is = messages_begin c.mode (ask c) k.message (messages_in more) in
-    let took : take_checked d (new_client d) k ≡ client_with d its k.signed =
-    ap (λ o. record { begun = true; place = a.place; progress = (held d its).progress; met = met_after d (held d its).halt a.fault o (is_at_end a.place) k.signed }) (signal_is c.mode (ask c) k.message (messages_in more) ∙ h) in
-    agrees d (client_of d) (its ++ later (ask c) p) (last_signed k.signed (length p) more) h (ap (read_items c.mode) (items_begin c.mode (ask c) k.message (messages_in more)))
-    (ap (λ (l : List ReadMessage). last_signed false (length l) (k ∷ more)) read_is ∙ some_last k (take (length p) more) false)
-    (same_client d (client_of d) (take_course d (client_with d its k.signed) more) (its ++ later (ask c) p) (last_signed k.signed (length p) more) (ap (λ x. take_course d x more) took) (takes_behind d more its k.signed))
+    let took : take_checked d (new_client d) k ≡ client_with d its =
+    ap (λ o. record { begun = true; place = a.place; progress = (held d its).progress; met = met_after d (held d its).halt a.fault o (is_at_end a.place) }) (signal_is c.mode (ask c) k.message (messages_in more) ∙ h) in
+    agrees d (client_of d) (its ++ later (ask c) p) h (ap (read_items c.mode) (items_begin c.mode (ask c) k.message (messages_in more)))
+    (same_client d (client_of d) (take_course d (client_with d its) more) (its ++ later (ask c) p) (ap (λ x. take_course d x more) took) (takes_behind d more its))
 
 meets : (c : Course) (ks : List Checked) → Agrees (record c { checked = ks }) (client_of (record c { checked = ks }))
-meets c [] = agrees (record c { checked = [] }) (new_client c) [] false (no_retry c.mode (ask c)) refl refl (record { committed = refl; met = refl })
+meets c [] = agrees (record c { checked = [] }) (new_client c) [] (no_retry c.mode (ask c)) refl (record { committed = refl; met = refl })
 meets c (k ∷ more) = by (retry c.mode (ask c) (k.message ∷ messages_in more)) refl
   where
     by : (o : Option ℕ) → retry c.mode (ask c) (k.message ∷ messages_in more) ≡ o → Agrees (record c { checked = k ∷ more }) (client_of (record c { checked = k ∷ more }))

@@ -8,10 +8,10 @@ use Rattle.std.proofs.lemmas.List.{take_all}
 use Rattle.std.proofs.lemmas.List.Sums.{take_while-cons}
 use Rattle.dns_rdata.specs.Records.{record_wire}
 use Rattle.dns_wire.specs.Wire.{Message, message_wire}
-use Rattle.tsig_port.specs.Tsig.{TsigKey, is_signed, tsig_record, mac_in, signed_from, signed_answers}
+use Rattle.tsig_port.specs.Tsig.{TsigKey, tsig_record, mac_in, signed_from, signed_answers}
 use Rattle.tsig_port.specs.Checked.{checked, check_fault, taken_message}
 use Rattle.tsig_port.specs.Signing.{IsKey, CanSign}
-use Rattle.tsig_port.proofs.SignedAnswers.{sent, tsig, sequence, taken_is, is_signed_sent, signed_pass, signed_faultless}
+use Rattle.tsig_port.proofs.SignedAnswers.{sent, tsig, sequence, taken_is, signed_pass, signed_faultless}
 use Rattle.xfr_model.specs.Messages.{HaveData, read_of}
 use Rattle.xfr_model.proofs.ReadingBuilt.{built_is_read}
 use Rattle.xfr_course.specs.Courses.{has_header, most_replies, replies_taken, unreadable_message, read_message, checked_message, stop_after}
@@ -59,9 +59,8 @@ module _ (key : TsigKey) (request_mac : List ℕ) (at now fudge : ℕ) (ok : IsK
       let r = record_wire (tsig_record key.name (tsig key request_mac at now fudge ok early small near prior m)) in
       let taken : taken_message (one prior m) ≡ message_wire m ++ r = taken_is key request_mac at now fudge ok early small near prior m can in
       let read : read_message (message_wire m ++ r) ≡ read_of m = ap (λ o. unwrap_or o (unreadable_message (message_wire m ++ r))) (built_is_read m r can.message is) in
-      let signed = is_signed_sent key request_mac at now fudge ok early small near prior m can in
       let message : read_message (taken_message (one prior m)) ≡ read_of m = ap read_message taken ∙ read in
-      ap (λ x. record { message = x; signed = is_signed (one prior m) }) message ∙ ap (λ b. record { message = read_of m; signed = b }) signed
+      ap (λ x. record { message = x }) message
 
   all_again : (prior : Option (List ℕ)) (ms : List Message) → AllByRecursion (CanSign key) ms → AllByRecursion (λ m. HaveData m.answers) ms
       → map checked_message (all prior ms) ≡ map built_checked ms

@@ -8,7 +8,6 @@ use Rattle.std.proofs.lemmas.List.{take_all}
 use Rattle.dns_name.specs.Serial.{serial_lt, serial_upto}
 use Rattle.dns_rdata.specs.Records.{Field, Record}
 use Rattle.dns_name.specs.Codes.{type_soa}
-use Rattle.tsig_port.specs.declared.errors.ValidationError.TheVariants.{TooManyUnsigned}
 use Rattle.dns_rdata.specs.Soa.{serial_of}
 use Rattle.zone_model.specs.Version.{RecordSet, first_or_none, Version, Same, data_at, has_one_apex_soa}
 use Rattle.zone_model.specs.Answer.{apex_soa_record}
@@ -17,16 +16,14 @@ use Rattle.zone_model.specs.TransferText.{Mode, Axfr, Ixfr, OnIxfr, ending}
 use Rattle.zone_model.specs.Offer.{IsHistory, text_of, whole_text, changes_or_whole, successive}
 use Rattle.zone_model.specs.Spells.{Spelling, spelling}
 use Rattle.xfr_model.specs.Messages.{ReadMessage}
-use Rattle.xfr_model.specs.Read.{items_of, Fault, lone_soa, retry, request_fault, messages_read, read_by, read, ReadText, fault_of_all}
+use Rattle.xfr_model.specs.Read.{Fault, lone_soa, retry, request_fault, read_by, read, ReadText, fault_of_all}
 use Rattle.zone_model.specs.TransferLaws.{IsPublished, IsWhole, IsChanges, EndsIn}
 use Rattle.xfr_model.specs.Carried.{Carrier, Carries, carried_messages, carried_text, EndsWhole}
 use Rattle.zone_model.proofs.Valid.{one_soa}
 use Rattle.zone_model.proofs.WholeText.{apex_soa_record-is, whole_is_text, soa_of}
 use Rattle.zone_model.proofs.ChangesText.{last_published, changes_is_text}
-use Rattle.xfr_model.proofs.Readers.{read_behind}
-use Rattle.xfr_model.proofs.InTurn.{messages_begin}
 use Rattle.xfr_model.proofs.PageReading.{pages_are_read}
-use Rattle.xfr_course.specs.Outcome.{Outcome, Updated, UpToDate, RetrySignal, VersionsExhausted, Tsig, Checked, Course, outcome, made, made_unless, unless_retry, after_fault, base_serial, is_end_signed, room, messages_of}
+use Rattle.xfr_course.specs.Outcome.{Outcome, Updated, UpToDate, RetrySignal, VersionsExhausted, Checked, Course, outcome, made, made_unless, unless_retry, after_fault, base_serial, room, messages_of}
 use Rattle.xfr_course.specs.Granting.{Ends, IsGranting, asked_serial, sent_text, begins_together, has_more}
 use Rattle.xfr_course.specs.Success.{signed_checked, sent_course, CarrySent, Succeeds, GrantedSucceeds}
 use Rattle.xfr_course.proofs.GrantingLaw.{not_ahead, granting_spells}
@@ -43,13 +40,6 @@ two_records : (l : List Record) → EndsWhole Ixfr l → nat_le (length l) 1 ≡
 two_records [] w = absurd (true≢false (sym (ap is_some w.is)))
 two_records (s ∷ []) w = absurd (true≢false (sym (ap is_some w.is)))
 two_records (s ∷ r ∷ l) w = lt-leb (length (s ∷ r ∷ l)) 1 (omega arith)
-
--- ---- the last of signed messages is signed
-
-last_signed : (n : ℕ) (k : Carrier) (ks : List Carrier) → option_map_or (λ (m : Checked). m.signed) (last_or (Some (signed_checked k)) (take n (map signed_checked ks))) false ≡ true
-last_signed zero k ks = refl
-last_signed (suc n) k [] = refl
-last_signed (suc n) k (j ∷ ks) = last_signed n j ks
 
 messages_are : (ks : List Carrier) → map (λ (m : Checked). m.message) (map signed_checked ks) ≡ carried_messages ks
 messages_are [] = refl
@@ -106,16 +96,12 @@ module _ (e : Ends) (id : ℕ) (k : Carrier) (more : List Carrier) (stop : Outco
       let numbers = g.numbers_left in
       let few : length S.versions ≤ room c = omega (arith, numbers) in
       let fits : nat_lt (room c) (length S.versions) ≡ false = le-ltb (room c) (length S.versions) few in
-      let begins : messages_read e.mode F (messages_of c) ≡ k.message ∷ read_behind e.mode F (items_of (F true) k.message) (map (λ (m : Checked). m.message) (map signed_checked more)) = messages_begin e.mode F k.message (map (λ (m : Checked). m.message) (map signed_checked more)) in
-      let signed : is_end_signed c ≡ true =
-      ap (λ l. option_map_or (λ (m : Checked). m.signed) (last_or None (take (length l) c.checked)) false) begins ∙ last_signed (length (read_behind e.mode F (items_of (F true) k.message) (map (λ (m : Checked). m.message) (map signed_checked more)))) k more in
       let done : outcome c ≡ Updated =
       ap (unless_retry c) none
       ∙ ap (λ (t : ReadText). if nat_lt (room c) (length (spelling e.mode t.records e.base).versions) then VersionsExhausted else after_fault c (fault_of_all (spelling e.mode t.records e.base).fault t.fault)) says
       ∙ ap (λ b. if b then VersionsExhausted else after_fault c (fault_of_all S.fault None)) fits
       ∙ ap (λ f. after_fault c (fault_of_all f None)) spells.whole
-      ∙ ap (λ (t : ReadText). if not t.ended then stop else if is_end_signed c then Updated else Tsig TooManyUnsigned) says
-      ∙ ap (λ b. if b then Updated else Tsig TooManyUnsigned) signed in
+      ∙ ap (λ (t : ReadText). if t.ended then Updated else stop) says in
       let makes : made c ≡ S.versions = ap (made_unless c) none ∙ ap (λ (t : ReadText). take (room c) (spelling e.mode t.records e.base).versions) says ∙ take_all (room c) S.versions few in
       record { how = inl done; last = spells.last; stands = ap (last_or (Some e.base)) makes ∙ spells.stands; same = spells.same }
 

@@ -3,8 +3,7 @@ use Rattle.std.specs.Prelude.{◌≡◌, ℕ, Bool, true, false, ◌++◌, if◌
 use Rattle.zone_model.specs.Version.{Version}
 use Rattle.zone_model.specs.Updates.{Update, Progress, Edit, NotSoaRecord, AfterFinish, begin}
 use Rattle.xfr_model.specs.Read.{Fault, Malformed, AfterEnd, Refused, request_fault}
-use Rattle.xfr_course.specs.Outcome.{Outcome, Updated, Tsig, Reading, VersionsExhausted, Checked, Course, room, after_retry, made, outcome}
-use Rattle.tsig_port.specs.declared.errors.ValidationError.TheVariants.{TooManyUnsigned}
+use Rattle.xfr_course.specs.Outcome.{Outcome, Updated, Reading, VersionsExhausted, Checked, Course, room, after_retry, made, outcome}
 use Rattle.xfr_model.specs.Machine.{Place, AtStart, is_at_end, Run, run_items, next_items, signal_of}
 use Rattle.xfr_model.specs.Applying.{Halt, Denied, NoNumber, Held, apply_within}
 
@@ -26,21 +25,21 @@ halt_outcome (Denied NotSoaRecord) = Reading Malformed
 halt_outcome (Denied AfterFinish) = Reading AfterEnd
 
 -- the outcome that a message brings, by its updates, its fault, its retry signal, and whether it ends the text
-abbrev pub met_after : Course → Option Halt → Option Fault → Option ℕ → Bool → Bool → Option Outcome
-met_after c (Some h) f n ended signed = Some (halt_outcome h)
-met_after c None (Some f) n ended signed = Some (Reading f)
-met_after c None None (Some n) ended signed = Some (after_retry c n)
-met_after c None None None ended signed = if ended then Some (if signed then Updated else Tsig TooManyUnsigned) else None
+abbrev pub met_after : Course → Option Halt → Option Fault → Option ℕ → Bool → Option Outcome
+met_after c (Some h) f n ended = Some (halt_outcome h)
+met_after c None (Some f) n ended = Some (Reading f)
+met_after c None None (Some n) ended = Some (after_retry c n)
+met_after c None None None ended = if ended then Some Updated else None
 
-abbrev pub client_after : Course → Bool → Bool → Run → Held → Client
-client_after c begun signed a h = record { begun = true; place = a.place; progress = h.progress; met = met_after c h.halt a.fault (signal_of begun a) (is_at_end a.place) signed }
+abbrev pub client_after : Course → Bool → Run → Held → Client
+client_after c begun a h = record { begun = true; place = a.place; progress = h.progress; met = met_after c h.halt a.fault (signal_of begun a) (is_at_end a.place) }
 
 abbrev pub run_message : Course → Client → Checked → Run
 run_message c cl k = run_items c.mode cl.place (next_items (request_fault c.id c.question) cl.begun k.message)
 
 -- one checked message: its updates are applied in turn as they are told
 abbrev pub take_checked : Course → Client → Checked → Client
-take_checked c cl k = if is_some cl.met then cl else client_after c cl.begun k.signed (run_message c cl k) (apply_within (room c) cl.progress (run_message c cl k).updates)
+take_checked c cl k = if is_some cl.met then cl else client_after c cl.begun (run_message c cl k) (apply_within (room c) cl.progress (run_message c cl k).updates)
 
 abbrev pub take_course : Course → Client → List Checked → Client
 take_course c cl [] = cl

@@ -1,5 +1,5 @@
 -- Worked courses and ends of a transfer.
-use Rattle.std.specs.Prelude.{ℕ, List, [], ◌∷◌, true, false, slice_set, replicate, map, take, drop, None}
+use Rattle.std.specs.Prelude.{ℕ, List, [], ◌∷◌, ◌++◌, true, false, slice_set, replicate, map, take, drop, None}
 use Rattle.dns_rdata.specs.Records.{Record}
 use Rattle.dns_rdata.specs.RecordRows as data_rows
 use Rattle.dns_wire.specs.Wire.{Message, message_wire, question_wire}
@@ -20,17 +20,14 @@ use Rattle.xfr_course.specs.Courses.{Handed}
 
 -- one signed message with these records, in answer to a question of a mode
 abbrev pub reply : ℕ → List Record → Checked
-reply qtype records = record { message = replies.reply qtype records; signed = true }
+reply qtype records = record { message = replies.reply qtype records }
 
 abbrev pub course : Mode → ℕ → Version → List Checked → Course
 course mode qtype base checked = record { mode = mode; id = 1000; question = asked qtype; base = base; number = 0; checked = checked; stop = Ended }
 
--- .. and the same unsigned, and a later one without a question
-abbrev pub unsigned_reply : ℕ → List Record → Checked
-unsigned_reply qtype records = record (reply qtype records) { signed = false }
-
+-- .. and a later one without a question
 abbrev pub later_reply : List Record → Checked
-later_reply records = record { message = record (replies.reply 252 records) { questions = [] }; signed = true }
+later_reply records = record { message = record (replies.reply 252 records) { questions = [] } }
 
 -- a history in one message, one whose first edit is refused, and an SOA alone for one who has another, each from a number on
 abbrev pub history_course : ℕ → Course
@@ -98,7 +95,7 @@ spoilt_reply = slice_set whole_reply 122 99
 abbrev pub other_id_reply : List ℕ
 other_id_reply = slice_set whole_reply 0 9
 
--- that zone in two answers, both signed; an unsigned one that ends it, and a signed one after that
+-- that zone in two answers, both signed; an unsigned one that ends it, and one behind it that is signed so that its MAC covers it too
 abbrev pub two_answers : List Message
 two_answers = message_rows.reply (data_rows.soa 1 ∷ data_rows.ns_record ∷ []) ∷ message_rows.reply (data_rows.address 1 ∷ data_rows.soa 1 ∷ []) ∷ []
 
@@ -112,7 +109,7 @@ abbrev pub reply_behind : List ℕ
 reply_behind =
     let t = blank_tsig row_key 1000 300 1000 0 [] in
     let m = message_wire (message_rows.reply (data_rows.soa 1 ∷ [])) in
-    signed_by row_key m (with_mac row_key t (later_input (mac_in first_reply) (unsigned_end ∷ []) m t))
+    signed_by row_key m (with_mac row_key t (later_input (mac_in first_reply) (unsigned_end ++ m) t))
 
 -- what a link handed in answer to the signed request, at a moment, before it gave no more
 abbrev pub handed : ℕ → Outcome → List (List ℕ) → Handed

@@ -3,7 +3,7 @@ use Rattle.std.specs.Prelude.{ℕ, Bool, nat_le, not, List, [], ◌∷◌, map, 
 use Rattle.std.specs.List.{list_all}
 use Rattle.dns_wire.specs.Wire.{Question, header_in, id_in, nscount_in}
 use Rattle.dns_wire.specs.Parse.{questions_in, sole_question_in}
-use Rattle.tsig_port.specs.Tsig.{TsigKey, is_signed}
+use Rattle.tsig_port.specs.Tsig.{TsigKey}
 use Rattle.tsig_port.specs.Checked.{checked, check_fault, taken_message}
 use Rattle.tsig_port.specs.declared.errors.ValidationError.{ValidationError}
 use Rattle.zone_model.specs.Version.{Version}
@@ -36,7 +36,7 @@ abbrev pub read_message : List ℕ → ReadMessage
 read_message octets = unwrap_or (message_of octets) (unreadable_message octets)
 
 abbrev pub checked_message : List ℕ → Checked
-checked_message m = record { message = read_message (taken_message m); signed = is_signed m }
+checked_message m = record { message = read_message (taken_message m) }
 
 -- ---- what came in place of a next checked message
 

@@ -1,5 +1,5 @@
 -- The law that joins the halves: built answers, signed in sequence and handed as they were sent, are a course that says what they were built of (RFC 8945, 5.3.1).
-use Rattle.std.specs.Prelude.{◌≡◌, ℕ, ◌<◌, ◌≤◌, ◌^◌, true, List, length, map}
+use Rattle.std.specs.Prelude.{◌≡◌, ℕ, ◌<◌, ◌≤◌, ◌^◌, List, length, map}
 use Rattle.std.specs.Int.{abs_diff}
 use Rattle.std.specs.List.{AllByRecursion}
 use Rattle.dns_wire.specs.Wire.{Message, message_wire}
@@ -12,7 +12,7 @@ use Rattle.xfr_course.specs.Courses.{Handed, course_of, most_replies}
 
 -- a built message as a client has it, once it was signed, handed and taken
 abbrev pub built_checked : Message → Checked
-built_checked m = record { message = read_of m; signed = true }
+built_checked m = record { message = read_of m }
 
 -- answers to a request, signed one after another at one moment, as the link handed them at another
 abbrev pub signed_handed : TsigKey → List ℕ → ℕ → ℕ → ℕ → List Message → Outcome → Handed

@@ -11,7 +11,7 @@ use Rattle.xfr_course.specs.Granting.{Ends, IsGranting, sent_text}
 
 -- a carrier's message as a client has it, signed
 abbrev pub signed_checked : Carrier → Checked
-signed_checked k = record { message = k.message; signed = true }
+signed_checked k = record { message = k.message }
 
 -- the course between two ends in which these messages are checked
 abbrev pub sent_course : Ends → ℕ → List Carrier → Outcome → Course

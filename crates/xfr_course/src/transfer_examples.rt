@@ -24,7 +24,7 @@ ghost use Rattle.xfr_course.specs.Joining.{signed_handed, built_checked};
 ghost use Rattle.xfr_course.specs.Honest.{carrier_of};
 ghost use Rattle.xfr_course.specs.Success.{CarrySent, Succeeds, sent_course};
 
-/// Outcomes: a history is applied; an SOA alone says up to date, or asks to try otherwise; an unsigned end isn't enough.
+/// Outcomes: a history is applied; an SOA alone says up to date, or asks to try otherwise.
 pub fn outcome_row()
     ensures updated { outcomes.outcome (examples.course Ixfr type_ixfr rows.history_1 (examples.reply type_ixfr rows.history_text ∷ [])) ≡ outcomes.Updated }
     ensures made { outcomes.made (examples.course Ixfr type_ixfr rows.history_1 (examples.reply type_ixfr rows.history_text ∷ [])) ≡ rows.history_1 ∷ rows.history_2 ∷ rows.history_3 ∷ [] }
@@ -33,7 +33,6 @@ pub fn outcome_row()
     ensures no_serial { outcomes.outcome (examples.course Ixfr type_ixfr (rows.zone []) (examples.reply type_ixfr (rows.soa 0 ∷ []) ∷ [])) ≡ outcomes.RetrySignal }
     ensures after_end { outcomes.outcome (examples.course Axfr type_axfr rows.history_1 (examples.reply type_axfr (rows.soa 2 ∷ rows.address rows.nezu 1 ∷ rows.soa 2 ∷ rows.address rows.nezu 1 ∷ []) ∷ [])) ≡ outcomes.Reading reads.AfterEnd }
     ensures unfinished { outcomes.outcome (examples.course Axfr type_axfr rows.history_1 (examples.reply type_axfr (rows.soa 2 ∷ []) ∷ [])) ≡ outcomes.Ended }
-    ensures unsigned { outcomes.outcome (examples.course Axfr type_axfr rows.history_1 (examples.reply type_axfr (rows.soa 2 ∷ []) ∷ record (examples.reply type_axfr (rows.soa 2 ∷ [])) { signed = false } ∷ examples.reply type_axfr (rows.address rows.nezu 1 ∷ []) ∷ [])) ≡ outcomes.Tsig ValidationError.TooManyUnsigned }
 {}
 
 /// Which comes first: the numbers, a refused record, a fault of the messages. What was spelt by then is made, as far as there are numbers.
@@ -48,14 +47,13 @@ pub fn order_row()
     ensures made_unfinished { outcomes.made (examples.course Ixfr type_ixfr rows.history_1 (examples.reply type_ixfr (take 7 rows.history_text) ∷ [])) ≡ rows.history_1 ∷ rows.history_2 ∷ [] }
 {}
 
-/// An SOA alone makes nothing, and a newer one signals a retry; an answer to another request is a fault; an unsigned message may stand before a signed end; an
-/// incremental request needs an SOA.
+/// An SOA alone makes nothing, and a newer one signals a retry; an answer to another request is a fault; an incremental request needs an
+/// SOA.
 pub fn other_row()
     ensures newer { outcomes.outcome (examples.lone_course 1 2) ≡ outcomes.RetrySignal }
     ensures none_made { outcomes.made (examples.lone_course 1 1) ≡ [] }
     ensures other_id { map (λ c. outcomes.outcome (record c { id = 1001 })) (examples.lone_course 1 1 ∷ examples.history_course 18446744073709551615 ∷ []) ≡ outcomes.Reading reads.OtherAnswer ∷ outcomes.Reading reads.OtherAnswer ∷ [] }
     ensures other_made { map (λ c. outcomes.made (record c { id = 1001 })) (examples.lone_course 1 1 ∷ examples.history_course 0 ∷ []) ≡ [] ∷ [] ∷ [] }
-    ensures covered { outcomes.outcome (examples.course Axfr type_axfr rows.history_1 (examples.unsigned_reply type_axfr (rows.soa 2 ∷ []) ∷ examples.reply type_axfr (rows.soa 2 ∷ []) ∷ [])) ≡ outcomes.Updated }
     ensures needs_soa { map (λ v. outcomes.needs_soa Ixfr v) (rows.empty_zone ∷ rows.history_1 ∷ []) ≡ true ∷ false ∷ [] }
     ensures whole { outcomes.needs_soa Axfr rows.empty_zone ≡ false }
 {}
@@ -73,11 +71,9 @@ pub fn client_row()
     ensures up_to_date { (clients.client_of (examples.course Ixfr type_ixfr (rows.zone (rows.soa 1 ∷ [])) (examples.reply type_ixfr (rows.soa 1 ∷ []) ∷ []))).met ≡ Some outcomes.UpToDate }
 {}
 
-/// How a client ends: with a first message and a later one, the first unsigned, or the last; with a fault, unless a record was refused; with another id; and what it met stays.
+/// How a client ends: with a first message and a later one; with a fault, unless a record was refused; with another id; and what it met stays.
 pub fn end_row()
     ensures later { (clients.client_of (examples.course Axfr type_axfr rows.history_1 (examples.reply type_axfr (rows.soa 2 ∷ []) ∷ examples.later_reply (rows.address rows.nezu 1 ∷ rows.soa 2 ∷ []) ∷ []))).met ≡ Some outcomes.Updated }
-    ensures covered { (clients.client_of (examples.course Axfr type_axfr rows.history_1 (examples.unsigned_reply type_axfr (rows.soa 2 ∷ []) ∷ examples.reply type_axfr (rows.soa 2 ∷ []) ∷ []))).met ≡ Some outcomes.Updated }
-    ensures unsigned { (clients.client_of (examples.course Axfr type_axfr rows.history_1 (examples.reply type_axfr (rows.soa 2 ∷ []) ∷ examples.unsigned_reply type_axfr (rows.soa 2 ∷ []) ∷ []))).met ≡ Some (outcomes.Tsig ValidationError.TooManyUnsigned) }
     ensures after_end { (clients.client_of (examples.course Axfr type_axfr rows.history_1 (examples.reply type_axfr (rows.soa 2 ∷ rows.soa 2 ∷ rows.soa 2 ∷ []) ∷ []))).met ≡ Some (outcomes.Reading reads.AfterEnd) }
     ensures refused { (clients.client_of examples.refused_and_behind).met ≡ Some (outcomes.Reading (reads.Refused Incompatible)) }
     ensures other_id { (clients.client_of (record (examples.history_course 0) { id = 1001 })).met ≡ Some (outcomes.Reading reads.OtherAnswer) }
@@ -126,7 +122,7 @@ pub fn unmet_row()
 {}
 
 /// From octets to an outcome: a whole zone in one signed answer; the same with another octet, too late, unsigned, too short, or not there; under another id; in two
-/// answers; with an unsigned end, before a signed answer or none.
+/// answers; with an unsigned end, with a signed answer behind it or none.
 pub fn course_row()
     ensures updated { outcomes.outcome (courses.course_of (examples.handed 1000 outcomes.Ended (examples.whole_reply ∷ [])) rows.empty_zone 0) ≡ outcomes.Updated }
     ensures made { map (λ v. records_of_version v) (outcomes.made (courses.course_of (examples.handed 1000 outcomes.Ended (examples.whole_reply ∷ [])) rows.empty_zone 0)) ≡ (data_rows.ns_record ∷ data_rows.soa 1 ∷ data_rows.address 1 ∷ []) ∷ [] }
@@ -138,7 +134,7 @@ pub fn course_row()
     ensures forwarded { outcomes.outcome (courses.course_of (examples.handed 1000 outcomes.Ended (examples.other_id_reply ∷ [])) rows.empty_zone 0) ≡ outcomes.Updated }
     ensures in_two { outcomes.outcome (courses.course_of (examples.handed 1000 outcomes.Ended examples.two_replies) rows.empty_zone 0) ≡ outcomes.Updated }
     ensures unsigned_end { outcomes.outcome (courses.course_of (examples.handed 1000 outcomes.Ended (first_reply ∷ examples.unsigned_end ∷ examples.reply_behind ∷ [])) rows.empty_zone 0) ≡ outcomes.Tsig ValidationError.TooManyUnsigned }
-    ensures unsigned_tail { outcomes.outcome (courses.course_of (examples.handed 1000 outcomes.Ended (first_reply ∷ examples.unsigned_end ∷ [])) rows.empty_zone 0) ≡ outcomes.Ended }
+    ensures unsigned_tail { outcomes.outcome (courses.course_of (examples.handed 1000 outcomes.Ended (first_reply ∷ examples.unsigned_end ∷ [])) rows.empty_zone 0) ≡ outcomes.Tsig ValidationError.TooManyUnsigned }
     ensures failed { outcomes.outcome (courses.course_of (examples.handed 1000 outcomes.LinkFault []) rows.empty_zone 0) ≡ outcomes.LinkFault }
 {}
 
@@ -162,11 +158,9 @@ pub fn joined_row()
     ensures page { length (carrier_of (reply (data_rows.soa 1 ∷ data_rows.ns_record ∷ []))).page ≡ 2 }
 {}
 
-/// A checked message: whether it was signed itself; and one that doesn't parse, whose answers can't be read.
+/// A checked message has its original id; of one that doesn't parse the answers can't be read.
 #[tactic(auto, unfolding(crate::proofs::OnLiterals::course_on_literals))]
 pub fn message_row()
-    ensures signed { (courses.checked_message examples.whole_reply).signed ≡ true }
-    ensures unsigned { (courses.checked_message bare_reply).signed ≡ false }
     ensures original_id { (courses.checked_message examples.other_id_reply).message.header.id ≡ 1000 }
     ensures unreadable { (courses.read_message examples.lacks_question).answers ≡ None ∷ [] }
     ensures rest { courses.read_message examples.lacks_authority ≡ record (replies.reply type_axfr []) { header = record replies.transfer_header { aa = false }; answers = None ∷ []; authority = 1 } }

@@ -68,5 +68,5 @@ signed_length key request_mac prior message at fudge macs header =
       item_length 10 message (record_wire (tsig_record key.name t)) header,
       record_length key.name t,
       rest_length t,
-      length-mac key (answer_input request_mac prior [] message key.name blank) macs,
+      length-mac key (answer_input request_mac prior message key.name blank) macs,
     )

@@ -1,37 +1,76 @@
 -- An edit of a draft at keys that were noted before: done or refused, the keys cover what the draft and its base differ in.
-use Rattle.std.proofs.Common.{◌≡◌, ℕ, ◌+◌, ◌%◌, ◌^◌, ◌==◌, Bool, true, false, not, ◌||◌, ◌&&◌, if◌then◌else◌, List, [], ◌∷◌, refl, sym, ap, ◌∙◌, subst, Option, Some, None, Result, Ok, Err, OnOk, OnErr}
+use Rattle.std.proofs.Common.{◌≡◌, ℕ, ◌+◌, ◌%◌, ◌^◌, ◌==◌, Bool, true, false, not, ◌||◌, ◌&&◌, if◌then◌else◌, List, [], ◌∷◌, refl, sym, ap, ◌∙◌, subst, Option, Some, None, option_map, Result, Ok, Err, OnOk, OnErr}
 use Rattle.dns_name.specs.Names.{Name, fold, under}
 use Rattle.dns_name.specs.Codes.{type_a, type_aaaa, type_ns, type_cname, type_soa, type_ds}
 use Rattle.dns_rdata.specs.Records.{Field, Record}
 use Rattle.dns_rdata.specs.Soa.{serial_of, with_serial}
 use Rattle.zone_model.specs.Version.{RecordSet, Key, Sets, Version, below_apex, set_at, data_at}
-use Rattle.zone_model.specs.Edits.{put_set, remove_set, has_data, add_glue, make_plain, first_soa, is_news, bump_from, bump}
+use Rattle.zone_model.specs.Edits.{OutOfZone, Incompatible, InvalidData, put_set, remove_set, has_data, second_alias, add, add_glue, make_plain, first_soa, is_news, bump_from, bump}
 use Rattle.zone_versions.specs.Nodes.{is_address_in, with_glue}
-use Rattle.zone_changes.specs.Touched.{is_touched, noted, Keeps, Covers}
+use Rattle.zone_versions.specs.Puts.{StandsAt, appended}
+use Rattle.zone_changes.specs.Touched.{is_touched, noted, Keeps, Covers, CoversIn, noted_in}
 use Rattle.zone_changes.specs.Drafts.{without_special}
 use Rattle.zone_changes.proofs.Noting.{noted_itself, keeps_all, keeps_noted}
 use Rattle.zone_changes.proofs.Covering.{covers_noted, covers_put_set, covers_remove_set}
 
+-- what follows for keys follows where keys are kept
+pub covers_in : (f : List Key → List Key) (kept : Option (List Key)) (a b c d : Sets) → ((keys : List Key) → Covers keys a b → Covers (f keys) c d) → CoversIn kept a b → CoversIn (option_map f kept) c d
+covers_in f None a b c d g h = tt
+covers_in f (Some keys) a b c d g h = g keys h
+
+pub covers_noted_in : (kept : Option (List Key)) (k : Key) (a b : Sets) → CoversIn kept a b → CoversIn (noted_in kept k) a b
+covers_noted_in kept k a b h = covers_in (λ keys. noted keys k) kept a b a b (λ keys g. covers_noted keys k a b g) h
+
 -- the same sets by other names
-pub covers_is : (keys now : List Key) (base : Sets) (v w : Version) → now ≡ keys → w ≡ v → Covers keys base v.sets → Covers now base w.sets
-covers_is keys now base v w n e h = subst (λ (l : List Key). Covers l base w.sets) (sym n) (subst (λ (x : Version). Covers keys base x.sets) (sym e) h)
+pub covers_is : (kept now : Option (List Key)) (base : Sets) (v w : Version) → now ≡ kept → w ≡ v → CoversIn kept base v.sets → CoversIn now base w.sets
+covers_is kept now base v w n e h = subst (λ (l : Option (List Key)). CoversIn l base w.sets) (sym n) (subst (λ (x : Version). CoversIn kept base x.sets) (sym e) h)
 
 -- done, it is covered; refused, the version is as before
-pub covers_either : {T E : Type 0} (r : Result T E) (keys now : List Key) (base : Sets) (v w x : Version) → now ≡ keys → OnOk r (w ≡ x) → OnErr r (w ≡ v)
-    → Covers keys base x.sets → Covers keys base v.sets → Covers now base w.sets
-covers_either (Ok t) keys now base v w x n ok err done old = covers_is keys now base x w n ok done
-covers_either (Err e) keys now base v w x n ok err done old = covers_is keys now base v w n err old
+pub covers_either : {T E : Type 0} (r : Result T E) (kept now : Option (List Key)) (base : Sets) (v w x : Version) → now ≡ kept → OnOk r (w ≡ x) → OnErr r (w ≡ v)
+    → CoversIn kept base x.sets → CoversIn kept base v.sets → CoversIn now base w.sets
+covers_either (Ok t) kept now base v w x n ok err done old = covers_is kept now base x w n ok done
+covers_either (Err e) kept now base v w x n ok err done old = covers_is kept now base v w n err old
 
 -- an edit at one noted key
-pub covers_edit : {T E : Type 0} (r : Result T E) (keys now : List Key) (k place : Key) (base : Sets) (v w x : Version) → k ≡ place → now ≡ noted keys k → OnOk r (w ≡ x) → OnErr r (w ≡ v)
-    → (is_touched (noted keys place) place ≡ true → Covers (noted keys place) base v.sets → Covers (noted keys place) base x.sets) → Covers keys base v.sets → Covers now base w.sets
-covers_edit r keys now k place base v w x is note ok err edit h =
-    let old : Covers (noted keys place) base v.sets = covers_noted keys place base v.sets h in
-    covers_either r (noted keys place) now base v w x (note ∙ ap (noted keys) is) ok err (edit (noted_itself keys place) old) old
+pub covers_edit : {T E : Type 0} (r : Result T E) (kept now : Option (List Key)) (k place : Key) (base : Sets) (v w x : Version) → k ≡ place → now ≡ noted_in kept k → OnOk r (w ≡ x) → OnErr r (w ≡ v)
+    → ((all : List Key) → is_touched all place ≡ true → Covers all base v.sets → Covers all base x.sets) → CoversIn kept base v.sets → CoversIn now base w.sets
+covers_edit r kept now k place base v w x is note ok err edit h =
+    covers_either r (noted_in kept place) now base v w x (note ∙ ap (noted_in kept) is) ok err
+    (covers_in (λ keys. noted keys place) kept base v.sets base x.sets (λ keys g. edit (noted keys place) (noted_itself keys place) (covers_noted keys place base v.sets g)) h)
+    (covers_noted_in kept place base v.sets h)
 
 -- the edits
 pub covers_put : (all : List Key) (base : Sets) (v : Version) (owner : Name) (rtype : ℕ) (s : RecordSet) → is_touched all (fold owner, rtype) ≡ true → Covers all base v.sets → Covers all base (put_set v owner rtype s).sets
 covers_put all base v owner rtype s t h = covers_put_set all base v owner rtype s t h
+
+-- data added at a noted key
+added_is : (v w : Version) (r : Record) → add v r ≡ Ok w → w ≡ appended v r
+added_is v w r e = by (under r.owner v.apex) (has_data v r) (second_alias v r) e
+  where
+    by : (u d s : Bool) → (if not u then Err OutOfZone else if d then Err Incompatible else if s then Err InvalidData else Ok (appended v r)) ≡ Ok w → w ≡ appended v r
+    by false d s g = absurd (cc)
+    by true true s g = absurd (cc)
+    by true false true g = absurd (cc)
+    by true false false g = cc
+
+-- a record that stands at a key
+abbrev standing : Key → ℕ → List Field → Record
+standing k ttl fields = record { owner = k.0; rtype = k.1; class = 0; ttl = ttl; fields = fields }
+
+pub added_covers : {T E : Type 0} (r : Result T E) (k : Key) (ttl : ℕ) (fields : List Field) (v w : Version) → OnOk r (fold k.0 ≡ k.0) → ((q : Record) → StandsAt k ttl fields q → OnOk r (add v q ≡ Ok w)) → OnErr r (w ≡ v)
+    → (keys : List Key) (base : Sets) → is_touched keys k ≡ true → Covers keys base v.sets → Covers keys base w.sets
+added_covers (Ok o) k ttl fields v w folded done err keys base t h =
+    let q : Record = standing k ttl fields in
+    let place : (fold k.0, k.1) ≡ k = λ i. (folded i, k.1) in
+    subst (λ (x : Version). Covers keys base x.sets) (sym (added_is v w q (done q (place, refl, refl)))) (covers_put keys base v k.0 k.1 _ (ap (is_touched keys) place ∙ t) h)
+added_covers (Err e) k ttl fields v w folded done err keys base t h = subst (λ (x : Version). Covers keys base x.sets) (sym err) h
+
+-- the same edit where keys are kept
+pub covers_added : (kept now : Option (List Key)) (k : Key) (a b c : Sets) → now ≡ noted_in kept k → ((keys : List Key) (base : Sets) → is_touched keys k ≡ true → Covers keys base b → Covers keys base c)
+    → CoversIn kept a b → CoversIn now a c
+covers_added kept now k a b c note edit h =
+    subst (λ (l : Option (List Key)). CoversIn l a c) (sym note)
+    (covers_in (λ keys. noted keys k) kept a b a c (λ keys g. edit (noted keys k) a (noted_itself keys k) (covers_noted keys k a b g)) h)
 
 pub covers_glue : (all : List Key) (base : Sets) (v : Version) (r : Record) → is_touched all (fold r.owner, r.rtype) ≡ true → Covers all base v.sets → Covers all base (add_glue v r).sets
 covers_glue all base v r t h = by (not (is_address_in v r) || has_data v r)
@@ -55,9 +94,16 @@ covers_bump all base p v t h = by (first_soa p)
 abbrev pub special : List Key → Name → List Key
 special keys n = noted (noted (noted keys (fold n, type_ns)) (fold n, type_ds)) (fold n, type_cname)
 
-pub special_is : (keys one two now : List Key) (a b c : Key) (n : Name) → a ≡ (fold n, type_ns) → b ≡ (fold n, type_ds) → c ≡ (fold n, type_cname)
-    → one ≡ noted keys a → two ≡ noted one b → now ≡ noted two c → now ≡ special keys n
-special_is keys one two now a b c n is js ks e f g = g ∙ (λ i. noted ((f ∙ (λ j. noted ((e ∙ ap (noted keys) is) j) (js j))) i) (ks i))
+abbrev pub special_in : Option (List Key) → Name → Option (List Key)
+special_in kept n = option_map (λ keys. special keys n) kept
+
+special_both : (kept : Option (List Key)) (n : Name) → noted_in (noted_in (noted_in kept (fold n, type_ns)) (fold n, type_ds)) (fold n, type_cname) ≡ special_in kept n
+special_both None n = refl
+special_both (Some keys) n = refl
+
+pub special_is : (kept one two now : Option (List Key)) (a b c : Key) (n : Name) → a ≡ (fold n, type_ns) → b ≡ (fold n, type_ds) → c ≡ (fold n, type_cname)
+    → one ≡ noted_in kept a → two ≡ noted_in one b → now ≡ noted_in two c → now ≡ special_in kept n
+special_is kept one two now a b c n is js ks e f g = g ∙ (λ i. noted_in ((f ∙ (λ j. noted_in ((e ∙ ap (noted_in kept) is) j) (js j))) i) (ks i)) ∙ special_both kept n
 
 pub covers_special_keys : (keys : List Key) (base : Sets) (v : Version) (n : Name) → Covers keys base v.sets → Covers (special keys n) base v.sets
 covers_special_keys keys base v n h =

@@ -11,7 +11,7 @@ use Rattle.zone_model.proofs.Folded.{IsFolded}
 use Rattle.zone_model.proofs.Steps.{Good}
 use Rattle.zone_versions.specs.Sound.{IsSound, is_sound_at}
 use Rattle.zone_changes.specs.Touched.{noted_all, keys_below, Covers}
-use Rattle.zone_changes.proofs.Covering.{covers_clear}
+use Rattle.zone_changes.proofs.Covering.{covers_itself, covers_noted_all, covers_clear}
 
 -- an entry's owner is in the zone, and folded
 zoned_folded : (v : Version) (e : Key × RecordSet) → is_sound_at v e ≡ true → (under e.0.0 v.apex ≡ true) × IsFolded e.0
@@ -37,3 +37,12 @@ none_left v (e ∷ es) h =
 -- every set removed
 pub covers_emptied : (keys : List Key) (a : Sets) (v : Version) → IsSound v → Covers keys a v.sets → Covers (noted_all keys (keys_below v v.apex)) a []
 covers_emptied keys a v s h = subst (λ (es : Sets). Covers (noted_all keys (keys_below v v.apex)) a es) (none_left v v.sets s.kept) (covers_clear keys a v v.apex h)
+
+-- the keys of two versions are all at which they may differ
+pub covers_all_keys : (v w : Version) → IsSound v → IsSound w → Covers (noted_all (noted_all [] (keys_below v v.apex)) (keys_below w w.apex)) v.sets w.sets
+covers_all_keys v w s t =
+    let ones : List Key = noted_all [] (keys_below v v.apex) in
+    let all : List Key = noted_all ones (keys_below w w.apex) in
+    let old : Covers all v.sets [] = covers_noted_all ones (keys_below w w.apex) v.sets [] (covers_emptied [] v.sets v s (covers_itself [] v.sets)) in
+    let new : Covers all w.sets [] = covers_emptied ones w.sets w t (covers_itself ones w.sets) in
+    record { same = λ k n. old.same k n ∙ sym (new.same k n) }

@@ -1,5 +1,5 @@
 -- The keys that edits touched, and what that says of two versions.
-use Rattle.std.specs.Prelude.{◌≡◌, Bool, true, false, List, filter, fold as fold_list}
+use Rattle.std.specs.Prelude.{◌≡◌, Bool, true, false, List, filter, fold as fold_list, Option, option_map, IfSome}
 use Rattle.std.specs.List.{list_any}
 use Rattle.std.specs.BTreeSet.{insert_key}
 use Rattle.std.specs.Map.{keys_of}
@@ -26,6 +26,17 @@ pub record Covers (keys : List Key) (a : Sets) (b : Sets) : Type 0 where
 -- what was among the old keys is among the new ones
 pub record Keeps (old : List Key) (new : List Key) : Type 0 where
   pub still : (k : Key) → is_touched old k ≡ true → is_touched new k ≡ true
+
+-- .. and where no keys are kept, they may differ at any key
+abbrev pub CoversIn : Option (List Key) → Sets → Sets → Type 0
+CoversIn kept a b = IfSome kept (λ keys. Covers keys a b)
+
+-- the kept keys with one more, or with each of a list
+abbrev pub noted_in : Option (List Key) → Key → Option (List Key)
+noted_in kept k = option_map (λ keys. noted keys k) kept
+
+abbrev pub noted_all_in : Option (List Key) → List Key → Option (List Key)
+noted_all_in kept more = option_map (λ keys. noted_all keys more) kept
 
 -- the keys of a version's sets at a name and below it
 abbrev pub keys_below : Version → Name → List Key

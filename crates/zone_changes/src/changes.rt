@@ -48,6 +48,23 @@ pub fn difference(
     }))
 }
 
+/// The difference from one version of a zone to another, which is looked for at all their keys.
+pub(crate) fn difference_anywhere(
+    alloc: Global,
+    old: &ZoneVersion,
+    new: &ZoneVersion,
+) -> Result<Option<InMemoryZoneDiff>, AllocError>
+    ensures { IfOk result (λ d. d ≡ (if diffable old.now new.now then Some (difference old.now new.now) else None)) }
+{
+    // For the proof: the sets are sound.
+    let _ = old.keys();
+    let _ = new.keys();
+    let mut touched = TouchedKeys::new(alloc);
+    touched.note_below(old, old.apex())?;
+    touched.note_below(new, new.apex())?;
+    difference(alloc, old, new, &touched)
+}
+
 /// The serial of a version's apex SOA (RFC 1035, 3.3.13), if it has one.
 fn apex_serial(version: &ZoneVersion) -> Option<Serial>
     ensures { result ≡ option_map serial_of (apex_soa version.now) }

@@ -1,43 +1,46 @@
 // Versions that are edited.
-ghost use Rattle.std.specs.Prelude.{◌≡◌, [], Ok, Some, None, IfOk, OnOk, OnErr, true, false, if◌then◌else◌};
+ghost use Rattle.std.specs.Prelude.{◌≡◌, List, [], Ok, Err, Some, None, IfOk, IfErr, IfSome, IsOk, OnOk, OnErr, true, false, if◌then◌else◌};
 ghost use Rattle.std.specs.Arc.{arc_value};
 ghost use Rattle.dns_name.specs.Names.{under};
 ghost use Rattle.dns_rdata.specs.DataFields.{soa_fields};
-ghost use Rattle.zone_model.specs.Version.{IsValid, all_differ};
+ghost use Rattle.dns_rdata.specs.Records.{Record};
+ghost use Rattle.dns_rdata.specs.ZoneData.{rtype_of, data_fields};
+ghost use Rattle.zone_model.specs.Version.{Key, Sets, IsValid, all_differ};
 ghost use Rattle.zone_model.specs.Difference.{difference, diffable};
 ghost use Rattle.zone_model.specs.Edits as edits;
 ghost use Rattle.zone_model.specs.Edits.{add, delete, with_sets};
-ghost use Rattle.zone_versions.specs.Puts.{appended, without, with_soa};
+ghost use Rattle.zone_versions.specs.Causes.{refusal_of};
+ghost use Rattle.zone_versions.specs.Puts.{StandsAt, without, with_soa};
+ghost use Rattle.zone_changes.specs.Touched.{is_touched, Covers};
 ghost use Rattle.zone_changes.specs.Drafts.{draft, with_version, without_special};
 
-use crate::changes::difference;
-use crate::touched::TouchedKeys;
+use crate::tracked::TrackedKeys;
 use dns_name::{KeyName, Rtype, StoredName, Ttl};
-use dns_rdata::{Soa, StoredRecord};
+use dns_rdata::{Soa, StoredRecord, StoredRecordData};
 use std::alloc::{AllocError, Global};
 use std::marker::Model;
 use std::sync::Arc;
 use zone_diffs::InMemoryZoneDiff;
 use zone_sets::SetKey;
-use zone_versions::{RecordSet, ZoneVersion};
+use zone_versions::{EditError, RecordSet, ZoneVersion};
 
-/// A version that is edited, and the one that it began as. They agree but at the keys that were touched.
+/// A version that is edited, and the one that it began as. They agree but at the tracked keys.
 #[derive(Drop)]
 pub struct Draft {
     base: Arc<ZoneVersion>,
     version: Arc<ZoneVersion>,
-    touched: TouchedKeys,
+    touched: TrackedKeys,
 }
 
 impl Model for Draft {
-    ghost use Rattle.zone_changes.specs.Touched.{Covers};
+    ghost use Rattle.zone_changes.specs.Touched.{CoversIn};
     ghost use Rattle.zone_changes.specs.Drafts.{Drafted, draft};
 
     ghost Value = { Drafted };
 
     ghost view = { λ d. draft d.base.value d.version.value };
 
-    ghost invariant = { λ d. Covers d.touched d.base.value.sets d.version.value.sets };
+    ghost invariant = { λ d. CoversIn d.touched d.base.value.sets d.version.value.sets };
 }
 
 impl Draft {
@@ -48,7 +51,7 @@ impl Draft {
         Ok(Draft {
             version: base.clone()?,
             base,
-            touched: TouchedKeys::new(alloc),
+            touched: TrackedKeys::new(alloc),
         })
     }
 
@@ -66,19 +69,27 @@ impl Draft {
         self.version
     }
 
-    /// Puts the data of a record that isn't refused last in its RRset.
-    pub fn append(&mut self, alloc: Global, added: StoredRecord) -> Result<(), AllocError>
-        requires { add self.old.version added ≡ Ok (appended self.old.version added) }
-        ensures ok { OnOk result (self.new ≡ with_version self.old (appended self.old.version added)) }
+    /// Puts a record's data, which are of the key's type, last in the RRset at its owner and type, whose TTL, in seconds, is then the record's. Refused
+    /// are, tested in this order, an owner outside the zone, data that the RRset has already (`Incompatible`), and a second CNAME below the apex
+    /// (`InvalidData`). Want of memory hides no refusal.
+    #[tactic(auto, using(crate::proofs::Drafting::covers_added))]
+    pub fn add(
+        &mut self,
+        alloc: Global,
+        key: SetKey,
+        ttl: Ttl,
+        item: StoredRecordData,
+    ) -> Result<(), EditError>
+        requires { rtype_of item ≡ key.1 }
+        ensures ok { (r : Record) → StandsAt key ttl (data_fields item) r → OnOk result (add self.old.version r ≡ Ok self.new.version) }
+        ensures refused { (r : Record) → StandsAt key ttl (data_fields item) r → IfErr result (λ e. IfSome (refusal_of e) (λ why. add self.old.version r ≡ Err why)) }
+        ensures memory { (r : Record) → StandsAt key ttl (data_fields item) r → result ≡ Err EditError.Memory → IsOk (add self.old.version r) }
+        ensures else_same { self.new ≡ with_version self.old self.new.version }
         ensures err { OnErr result (self.new ≡ self.old) }
     {
-        let key = SetKey::new(added.owner(), added.rtype());
-        match self.touched.note(key) {
-            Ok(()) => append(&mut self.version, alloc, added),
-            Err(error) => {
-                drop(added);
-                Err(error)
-            }
+        match self.touched.note_copy(&key) {
+            Ok(()) => add(&mut self.version, alloc, key, ttl, item),
+            Err(_) => Err(without_memory(&self.version, &key, item)),
         }
     }
 
@@ -172,10 +183,8 @@ impl Draft {
         ensures ok { OnOk result (self.new ≡ with_version self.old (with_sets self.old.version [])) }
         ensures err { OnErr result (self.new ≡ self.old) }
     {
-        // For the proof: the sets are sound.
-        let _ = self.version.keys();
         let cleared = Arc::new(alloc, self.version.emptied(alloc)?)?;
-        self.touched.note_below(&self.version, self.version.apex())?;
+        self.touched.let_go();
         self.version = cleared;
         Ok(())
     }
@@ -209,7 +218,7 @@ impl Draft {
     pub fn difference(&self, alloc: Global) -> Result<Option<InMemoryZoneDiff>, AllocError>
         ensures { IfOk result (λ d. d ≡ (if diffable self.now.base self.now.version then Some (difference self.now.base self.now.version) else None)) }
     {
-        difference(alloc, &self.base, &self.version, &self.touched)
+        self.touched.difference(alloc, &self.base, &self.version)
     }
 }
 
@@ -225,22 +234,37 @@ impl Clone for Draft {
     }
 }
 
-/// Puts a record's data last in its RRset.
-fn append(
+/// Puts a record's data last in the RRset at its owner and type, unless they are refused.
+fn add(
     pending: &mut Arc<ZoneVersion>,
     alloc: Global,
-    added: StoredRecord,
-) -> Result<(), AllocError>
-    requires { add (arc_value pending.old) added ≡ Ok (appended (arc_value pending.old) added) }
-    ensures ok { OnOk result (arc_value pending.new ≡ appended (arc_value pending.old) added) }
+    key: SetKey,
+    ttl: Ttl,
+    item: StoredRecordData,
+) -> Result<(), EditError>
+    requires { rtype_of item ≡ key.1 }
+    ensures ok { (r : Record) → StandsAt key ttl (data_fields item) r → OnOk result (add (arc_value pending.old) r ≡ Ok (arc_value pending.new)) }
+    ensures refused { (r : Record) → StandsAt key ttl (data_fields item) r → IfErr result (λ e. IfSome (refusal_of e) (λ why. add (arc_value pending.old) r ≡ Err why)) }
+    ensures memory { (r : Record) → StandsAt key ttl (data_fields item) r → result ≡ Err EditError.Memory → IsOk (add (arc_value pending.old) r) }
     ensures err { OnErr result (arc_value pending.new ≡ arc_value pending.old) }
+    ensures covered { (keys : List Key) (base : Sets) → is_touched keys key ≡ true → Covers keys base (arc_value pending.old).sets → Covers keys base (arc_value pending.new).sets }
 {
     match Arc::make_mut(pending) {
-        Ok(version) => version.append(alloc, added),
-        Err(error) => {
-            drop(added);
-            Err(error)
-        }
+        Ok(version) => version.add(alloc, key, ttl, item),
+        Err(_) => Err(without_memory(pending, &key, item)),
+    }
+}
+
+/// What refuses a record's data for which memory lacks, and else the want of memory.
+fn without_memory(version: &ZoneVersion, key: &SetKey, item: StoredRecordData) -> EditError
+    ensures refused { (r : Record) → StandsAt key.now r.ttl (data_fields item) r → IfSome (refusal_of result) (λ why. add version.now r ≡ Err why) }
+    ensures memory { (r : Record) → StandsAt key.now r.ttl (data_fields item) r → result ≡ EditError.Memory → IsOk (add version.now r) }
+{
+    let refusal = version.refusal_at(key, &item);
+    drop(item);
+    match refusal {
+        Some(error) => error,
+        None => EditError::Memory,
     }
 }
 

@@ -6,6 +6,7 @@ mod draft;
 mod examples;
 mod laws;
 mod touched;
+mod tracked;
 
 pub use changes::difference;
 pub use draft::Draft;

@@ -70,7 +70,7 @@ impl TouchedKeys {
     }
 
     /// Notes a key that is wanted.
-    fn note_if(&mut self, key: &SetKey, wanted: bool) -> Result<(), AllocError>
+    pub(crate) fn note_if(&mut self, key: &SetKey, wanted: bool) -> Result<(), AllocError>
         ensures ok { OnOk result (self.new ≡ (if wanted then noted self.old key.now else self.old)) }
         ensures err { OnErr result (self.new ≡ self.old) }
     {

@@ -61,12 +61,12 @@ differ_at (e ∷ es) k h = by (has_key k e.0) (differ_at es k (second_so (is_tid
     by false later = later
 
 opens_with : (r : Record) (o : Option RecordSet) → all_differ (option_map_or (λ (s : RecordSet). s.items) o []) ≡ true
-    → opening_set r.ttl r.fields (list_any (same_data r.fields) (option_map_or (λ (s : RecordSet). s.items) o [])) o ≡ set_with r o
+    → opening_set r.ttl r.fields o ≡ set_with r o
 opens_with r None h = refl
 opens_with r (Some s) h =
     let same : distinct (s.items ++ r.fields ∷ []) ≡ (if list_any (same_data r.fields) s.items then s.items else s.items ++ r.fields ∷ [])
     = distinct_last s.items r.fields ∙ ap (λ (l : List (List Field)). if list_any (same_data r.fields) l then l else l ++ r.fields ∷ []) (distinct_same s.items h) in
     ap (λ (l : List (List Field)). record { ttl = min s.ttl r.ttl; items = l }) (sym same)
 
-pub put_opening_is : (sets : Sets) (r : Record) → IsTidy sets → put_with (opening_set r.ttl r.fields (list_any (same_data r.fields) (items_at sets (key_of r)))) (key_of r) sets ≡ put_to sets r
+pub put_opening_is : (sets : Sets) (r : Record) → IsTidy sets → put_with (opening_set r.ttl r.fields) (key_of r) sets ≡ put_to sets r
 put_opening_is sets r h = ap (insert_entry key_cmp sets (key_of r)) (opens_with r (set_in sets (key_of r)) (differ_at sets (key_of r) h.each)) ∙ sym (put_is sets r)

@@ -178,10 +178,8 @@ impl Owners {
         ensures err { OnErr result (self.new ≡ self.old) }
     {
         let key = SetKey::new(found.owner(), found.rtype());
-        let had = self.sets.has_item(&key, found.data());
         let ttl = found.ttl();
-        self.sets
-            .put_opening(alloc, key, ttl, found.into_data(), had)?;
+        self.sets.put_opening(alloc, key, ttl, found.into_data())?;
         Ok(())
     }
 }

@@ -1,24 +1,27 @@
 // A session that writes a zone's next versions.
-ghost use Rattle.std.specs.Prelude.{◌≡◌, ◌↔◌, ◌-◌, ◌^◌, [], Ok, Err, IfOk, IfErr, IfSome, OnOk, OnErr, IsOk, IsTrue, false};
+ghost use Rattle.std.specs.Prelude.{◌≡◌, ◌↔◌, ◌-◌, ◌^◌, [], Ok, Err, IfOk, IfErr, IfSome, IfNone, OnOk, OnErr, IsOk, IsTrue, false};
 ghost use Rattle.zone_model.specs.Edits.{add, delete, with_sets};
 ghost use Rattle.zone_model.specs.Edits as edits;
 ghost use Rattle.zone_model.specs.Version.{IsValid};
 ghost use Rattle.zone_model.specs.Session.{opened_session, with_pending, closed, committed, rolled_back, told_difference};
 ghost use Rattle.zone_versions.specs.Causes.{refusal_of};
-ghost use Rattle.zone_versions.specs.Puts.{appended, without, with_soa};
+ghost use Rattle.zone_versions.specs.Puts.{StandsAt, without, with_soa};
 ghost use Rattle.dns_rdata.specs.DataFields.{soa_fields};
+ghost use Rattle.dns_rdata.specs.Records.{Record};
+ghost use Rattle.dns_rdata.specs.ZoneData.{rtype_of, data_fields};
 ghost use Rattle.zone_changes.specs.Drafts.{draft};
 ghost use Rattle.zone_sessions.specs.Pending.{told_of};
 
 use crate::apex::ZoneApex;
 use crate::read::ReadZone;
 use dns_name::{StoredName, Ttl};
-use dns_rdata::{Soa, StoredRecord};
+use dns_rdata::{ReadRecord, Soa, StoredRecord, StoredRecordData};
 use std::alloc::{AllocError, Global};
 use std::marker::Model;
 use zone_changes::Draft;
 use zone_diffs::InMemoryZoneDiff;
 use zone_errors::CommitError;
+use zone_sets::SetKey;
 use zone_versions::{EditError, ZoneVersion};
 
 /// The one session of a zone: it edits what is pending, and publishes it by `commit`. What is pending when it is dropped is gone.
@@ -88,10 +91,19 @@ impl<'z> WriteZone<'z> {
         ensures rest { OnOk result (self.new ≡ with_pending self.old self.old.current.version) }
         ensures err { OnErr result (self.new ≡ self.old) }
     {
-        match self.pending.take() {
+        match self.take_edited() {
             Some(pending) => Ok(pending),
             None => Draft::of(self.alloc, self.zone.current().share()?),
         }
+    }
+
+    /// Takes what is pending out, where something was edited.
+    fn take_edited(&mut self) -> Option<Draft>
+        ensures some { IfSome result (λ d. d ≡ draft self.old.current.version self.old.pending) }
+        ensures none { IfNone result (self.new ≡ self.old) }
+        ensures rest { self.new ≡ with_pending self.old self.old.current.version }
+    {
+        self.pending.take()
     }
 
     /// Makes an edited version what is pending.
@@ -116,21 +128,80 @@ impl<'z> WriteZone<'z> {
         ensures else_same { self.new ≡ with_pending self.old self.new.pending }
         ensures err { OnErr result (self.new ≡ self.old) }
     {
-        if let Some(error) = self.shown().refusal(&added) {
-            drop(added);
+        let key = SetKey::new(added.owner(), added.rtype());
+        let ttl = added.ttl();
+        self.add_at(key, ttl, added.into_data())
+    }
+
+    /// Adds a record that lies in a message, as `add_record` does. Its data are put in memory of their own first: want of memory for that may come
+    /// in the place of a refusal.
+    pub fn add_read(&mut self, added: &ReadRecord<'_>) -> Result<(), EditError>
+        ensures ok { OnOk result (add self.old.pending added.now ≡ Ok self.new.pending) }
+        ensures refused { IfErr result (λ e. IfSome (refusal_of e) (λ why. add self.old.pending added.now ≡ Err why)) }
+        ensures else_same { self.new ≡ with_pending self.old self.new.pending }
+        ensures err { OnErr result (self.new ≡ self.old) }
+    {
+        let item = added.data().flatten(self.alloc)?;
+        self.add_at(SetKey::new(added.owner(), added.rtype()), added.ttl(), item)
+    }
+
+    /// Adds the data of a record, which are of the key's type, at its owner and type. Where nothing was edited, a record that is refused copies nothing.
+    fn add_at(&mut self, key: SetKey, ttl: Ttl, item: StoredRecordData) -> Result<(), EditError>
+        requires { rtype_of item ≡ key.1 }
+        ensures ok { (r : Record) → StandsAt key ttl (data_fields item) r → OnOk result (add self.old.pending r ≡ Ok self.new.pending) }
+        ensures refused { (r : Record) → StandsAt key ttl (data_fields item) r → IfErr result (λ e. IfSome (refusal_of e) (λ why. add self.old.pending r ≡ Err why)) }
+        ensures memory { (r : Record) → StandsAt key ttl (data_fields item) r → result ≡ Err EditError.Memory → IsOk (add self.old.pending r) }
+        ensures else_same { self.new ≡ with_pending self.old self.new.pending }
+        ensures err { OnErr result (self.new ≡ self.old) }
+    {
+        match self.take_edited() {
+            Some(pending) => self.add_to(pending, key, ttl, item),
+            None => self.add_first(key, ttl, item),
+        }
+    }
+
+    /// Adds the data of a record to a version that was edited, and makes that what is pending.
+    fn add_to(
+        &mut self,
+        edited: Draft,
+        key: SetKey,
+        ttl: Ttl,
+        item: StoredRecordData,
+    ) -> Result<(), EditError>
+        requires base { edited.base ≡ self.old.current.version }
+        requires rtype { rtype_of item ≡ key.1 }
+        ensures ok { (r : Record) → StandsAt key ttl (data_fields item) r → OnOk result (add edited.version r ≡ Ok self.new.pending) }
+        ensures refused { (r : Record) → StandsAt key ttl (data_fields item) r → IfErr result (λ e. IfSome (refusal_of e) (λ why. add edited.version r ≡ Err why)) }
+        ensures memory { (r : Record) → StandsAt key ttl (data_fields item) r → result ≡ Err EditError.Memory → IsOk (add edited.version r) }
+        ensures else_same { self.new ≡ with_pending self.old self.new.pending }
+        ensures err { OnErr result (self.new ≡ with_pending self.old edited.version) }
+    {
+        let mut edited = edited;
+        let added = edited.add(self.alloc, key, ttl, item);
+        self.keep(edited);
+        added
+    }
+
+    /// Adds the data of a record to the published version, which is copied only where they aren't refused.
+    fn add_first(&mut self, key: SetKey, ttl: Ttl, item: StoredRecordData) -> Result<(), EditError>
+        requires { rtype_of item ≡ key.1 }
+        ensures ok { (r : Record) → StandsAt key ttl (data_fields item) r → OnOk result (add self.old.pending r ≡ Ok self.new.pending) }
+        ensures refused { (r : Record) → StandsAt key ttl (data_fields item) r → IfErr result (λ e. IfSome (refusal_of e) (λ why. add self.old.pending r ≡ Err why)) }
+        ensures memory { (r : Record) → StandsAt key ttl (data_fields item) r → result ≡ Err EditError.Memory → IsOk (add self.old.pending r) }
+        ensures else_same { self.new ≡ with_pending self.old self.new.pending }
+        ensures err { OnErr result (self.new ≡ self.old) }
+    {
+        if let Some(error) = self.shown().refusal_at(&key, &item) {
+            drop(item);
             return Err(error);
         }
-        let alloc = self.alloc;
-        let mut pending = match self.take_pending() {
-            Ok(pending) => pending,
-            Err(error) => {
-                drop(added);
-                return Err(EditError::from(error));
+        match self.take_pending() {
+            Ok(pending) => self.add_to(pending, key, ttl, item),
+            Err(_) => {
+                drop(item);
+                Err(EditError::Memory)
             }
-        };
-        let appended = pending.append(alloc, added);
-        self.keep(pending);
-        Ok(appended?)
+        }
     }
 
     /// Deletes a record: the data equal to its own, whatever the TTL. The data that stay get the TTL of the record, and a set without data is removed.
@@ -149,6 +220,19 @@ impl<'z> WriteZone<'z> {
         let removed = pending.remove(deleted);
         self.keep(pending);
         Ok(removed?)
+    }
+
+    /// Deletes a record that lies in a message, as `delete_record` does. Want of memory may come in the place of a refusal.
+    pub fn delete_read(&mut self, deleted: &ReadRecord<'_>) -> Result<(), EditError>
+        ensures ok { OnOk result (delete self.old.pending deleted.now ≡ Ok self.new.pending) }
+        ensures refused { IfErr result (λ e. IfSome (refusal_of e) (λ why. delete self.old.pending deleted.now ≡ Err why)) }
+        ensures else_same { self.new ≡ with_pending self.old self.new.pending }
+        ensures err { OnErr result (self.new ≡ self.old) }
+    {
+        let stored = deleted.flatten(self.alloc)?;
+        let removed = self.delete_record(&stored);
+        drop(stored);
+        removed
     }
 
     /// Makes the apex SOA set this one record.

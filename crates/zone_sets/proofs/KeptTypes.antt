@@ -1,12 +1,12 @@
 -- Entries whose sets are seen without their type.
-use Rattle.std.proofs.Common.{◌≡◌, ℕ, suc, ◌==◌, Bool, true, false, cond, ◌&&◌, List, [], ◌∷◌, map, filter, find, length, refl, sym, ap, ◌∙◌, true≢false, Ordering, Less, Equal, Greater, Option, Some, None, option_map, is_some, is_eq, eqb-true, eq-eqb}
+use Rattle.std.proofs.Common.{◌≡◌, ℕ, suc, Bool, true, false, cond, List, [], ◌∷◌, map, filter, find, length, refl, sym, ap, ◌∙◌, true≢false, Ordering, Less, Equal, Greater, Option, Some, None, option_map, is_some, is_eq, eqb-true, eq-eqb}
 use Rattle.std.specs.List.{list_all}
 use Rattle.std.specs.Ordering.{match_ordering}
 use Rattle.std.specs.Cmp.{first_so, second_so}
 use Rattle.std.specs.Cmp.Derive.{both_true}
 use Rattle.std.specs.BTreeMap.{insert_entry}
 use Rattle.std.specs.Map.{keys_of, lookup, remove_entry}
-use Rattle.zone_model.specs.Version.{RecordSet, Key, Sets, key_cmp, has_key, set_in}
+use Rattle.zone_model.specs.Version.{RecordSet, Key, key_cmp, has_key, set_in}
 use Rattle.zone_model.proofs.Entries.{seen-insert_entry, seen-remove_entry, seen-lookup}
 use Rattle.zone_model.proofs.Folded.{key_from_tie}
 use Rattle.zone_values.specs.TypedSets.{TypedSet}

@@ -6,3 +6,4 @@ pub mod SetWrites
 pub mod Thinning
 mod Retained
 pub mod FirstData
+mod Telling

@@ -60,3 +60,8 @@ on_ok (Err e) P Q h f = tt
 pub on_err : {T E : Type 0} (r : Result T E) (P Q : Type 0) → OnErr r P → (P → Q) → OnErr r Q
 on_err (Ok x) P Q h f = tt
 on_err (Err e) P Q h f = f h
+
+-- a fact that follows from what is known for Ok, and from what is known for Err
+pub in_both : {T E : Type 0} (r : Result T E) (P Q R : Type 0) → OnOk r P → OnErr r Q → (P → R) → (Q → R) → R
+in_both (Ok x) P Q R h g f e = f h
+in_both (Err y) P Q R h g f e = e g

@@ -1,3 +1,4 @@
 pub mod DataIndex
 pub mod TypedEntries
 pub mod SetEdits
+pub mod PutCauses

@@ -1,6 +1,7 @@
 -- What single edits make of the set at a key (RFC 2136, 3.4.2; RFC 2181, 5.2).
-use Rattle.std.specs.Prelude.{ℕ, Bool, List, ◌++◌, ◌∷◌, [], Option, Some, None, min, not, ◌==◌, length, filter, if◌then◌else◌, fold as fold_list}
+use Rattle.std.specs.Prelude.{ℕ, List, ◌++◌, ◌∷◌, [], Option, Some, None, min, not, ◌==◌, length, filter, if◌then◌else◌, fold as fold_list}
 use Rattle.std.specs.Option.{option_map_or}
+use Rattle.std.specs.List.{list_any}
 use Rattle.std.specs.BTreeMap.{insert_entry}
 use Rattle.std.specs.Map.{remove_entry}
 use Rattle.dns_rdata.specs.Records.{Field, same_data}
@@ -23,10 +24,10 @@ abbrev pub last_set : ℕ → List Field → Option RecordSet → RecordSet
 last_set ttl fields None = record { ttl = ttl; items = fields ∷ [] }
 last_set ttl fields (Some s) = record { ttl = ttl; items = s.items ++ fields ∷ [] }
 
--- a set with data that a zone opens with
-abbrev pub opening_set : ℕ → List Field → Bool → Option RecordSet → RecordSet
-opening_set ttl fields had None = record { ttl = ttl; items = fields ∷ [] }
-opening_set ttl fields had (Some s) = record { ttl = min s.ttl ttl; items = if had then s.items else s.items ++ fields ∷ [] }
+-- a set with data that a zone opens with: equal data are not put again, and the lower TTL stays
+abbrev pub opening_set : ℕ → List Field → Option RecordSet → RecordSet
+opening_set ttl fields None = record { ttl = ttl; items = fields ∷ [] }
+opening_set ttl fields (Some s) = record { ttl = min s.ttl ttl; items = if list_any (same_data fields) s.items then s.items else s.items ++ fields ∷ [] }
 
 -- the set at a key without some data
 abbrev pub thinned : ℕ → List Field → Sets → Key → RecordSet

@@ -1,5 +1,5 @@
 -- Sets with their type, as they are kept and told (RFC 2181, 5).
-use Rattle.std.specs.Prelude.{ℕ, Bool, ◌==◌, List, Option, option_map}
+use Rattle.std.specs.Prelude.{ℕ, Bool, ◌==◌, Option, option_map}
 use Rattle.zone_model.specs.Version.{RecordSet, Key, Sets, set_in}
 use Rattle.zone_values.specs.TypedSets.{TypedSet}
 

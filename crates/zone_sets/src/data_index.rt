@@ -1,5 +1,5 @@
 // An index of a set's data: whether equal data are in the set, without a look at each.
-ghost use Rattle.std.specs.Prelude.{◌≡◌, ◌++◌, ◌∷◌, [], OnOk, OnErr, IfOk, List, map, not, filter};
+ghost use Rattle.std.specs.Prelude.{◌≡◌, true, false, Ok, ◌++◌, ◌∷◌, [], OnOk, OnErr, IfOk, List, map, not, filter};
 ghost use Rattle.std.specs.List.{list_any};
 ghost use Rattle.dns_rdata.specs.Records.{Field, same_data};
 ghost use Rattle.dns_rdata.specs.ZoneData.{data_fields};
@@ -32,6 +32,17 @@ fn put_key(keys: &mut BTreeSet<DataKey>, key: DataKey) -> Result<(), AllocError>
 {
     keys.insert(key)?;
     Ok(())
+}
+
+/// Puts a key into an index, unless equal data are there. Tells whether it was put.
+pub(crate) fn note_new(keys: &mut BTreeSet<DataKey>, key: DataKey) -> Result<bool, AllocError>
+    ensures told { IfOk result (λ told. (items : List (List Field)) → Indexes items keys.old → told ≡ not (list_any (same_data key) items)) }
+    ensures put { result ≡ Ok true → (items : List (List Field)) → Indexes items keys.old → Indexes (items ++ key ∷ []) keys.new }
+    ensures same { result ≡ Ok false → (items : List (List Field)) → Indexes items keys.old → Indexes items keys.new }
+    ensures err { OnErr result ((items : List (List Field)) → Indexes items keys.old → Indexes items keys.new) }
+    ensures fresh { OnErr result ((items : List (List Field)) → Indexes items keys.old → list_any (same_data key) items ≡ false) }
+{
+    Ok(keys.insert(key)?)
 }
 
 /// Takes the key of data out of an index.

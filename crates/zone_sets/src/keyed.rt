@@ -1,5 +1,5 @@
 // The sets of a version by owner and type.
-ghost use Rattle.std.specs.Prelude.{◌≡◌, Bool, [], IsTrue, OnOk, OnErr, IsOk, IsSome, option_copied, option_map, map, find, filter, not};
+ghost use Rattle.std.specs.Prelude.{◌≡◌, Bool, [], IsTrue, Some, OnOk, OnErr, IsOk, IsSome, option_copied, option_map, map, find, filter, not};
 ghost use Rattle.std.specs.List.{list_any, list_all};
 ghost use Rattle.std.specs.BTreeMap.{insert_entry};
 ghost use Rattle.std.specs.Map.{keys_of, remove_entry};
@@ -11,6 +11,8 @@ ghost use Rattle.dns_rdata.specs.ZoneData.{rtype_of, data_fields};
 ghost use Rattle.zone_model.specs.Version.{Key, key_cmp, has_key, set_in};
 ghost use Rattle.zone_sets.specs.TypedEntries.{entry_of, item_of, has_own_type, typed, typed_set_in};
 ghost use Rattle.zone_sets.specs.SetEdits.{items_at, put_with, put_all, last_set, opening_set, thinned, taken_out};
+ghost use Rattle.zone_sets.specs.PutCauses.{TellsPut};
+ghost use Rattle.dns_name.specs.Names.{fold};
 
 use crate::sets::{RecordSet, SetKey};
 use dns_name::Ttl;
@@ -20,6 +22,28 @@ use std::collections::BTreeMap;
 use std::collections::btree_map::{Entry, Iter, Keys};
 use std::marker::Model;
 use std::ops::Bound;
+
+/// Why data are not put in an RRset. All is then as before.
+#[derive(Clone, Copy, Debug, PartialEq, Eq, Drop)]
+pub enum PutError {
+    /// The RRset has equal data (RFC 2181, 5).
+    Equal,
+    /// The data stand alone, and the RRset has others (RFC 2181, 10.1).
+    Second,
+    /// Out of memory.
+    Memory,
+}
+
+impl From<AllocError> for PutError {
+    ghost use Rattle.std.specs.Prelude.{◌≡◌};
+    ghost use Rattle.zone_sets.specs.declared.keyed.PutError.TheVariants.{Memory};
+
+    ghost from_gives = { λ _ e. e ≡ Memory };
+
+    fn from(_error: AllocError) -> PutError {
+        PutError::Memory
+    }
+}
 
 /// RRsets by owner and type, each of its key's type: owners in lower case and canonical order, each one's types ascending (RFC 4034, 6.1).
 #[derive(Drop)]
@@ -156,36 +180,40 @@ impl KeyedSets {
         self.entries.retain(|key, _| test(key));
     }
 
-    /// Puts data of the key's type last in the RRset at the key, and this TTL, in seconds, in place of the RRset's.
-    pub fn put_last(
+    /// Puts data of the key's type last in the RRset at the key, and this TTL, in seconds, in place of the RRset's, where that has no equal data
+    /// (RFC 2181, 5). Data that stand alone (RFC 2181, 10.1) are put only where there is no RRset. One search of the RRsets. The key's owner is in
+    /// lower case.
+    pub fn put_new(
         &mut self,
         alloc: Global,
         key: SetKey,
         ttl: Ttl,
         item: StoredRecordData,
-    ) -> Result<(), AllocError>
+        alone: bool,
+    ) -> Result<(), PutError>
         requires { rtype_of item ≡ key.1 }
         ensures ok { OnOk result (self.new ≡ put_with (last_set ttl (data_fields item)) key self.old) }
+        ensures cause { TellsPut (data_fields item) alone (set_in self.old key) result }
         ensures err { OnErr result (self.new ≡ self.old) }
+        ensures folded { fold key.0 ≡ key.0 }
     {
-        put_last(&mut self.entries, alloc, key, ttl, item)?;
-        Ok(())
+        put_new(&mut self.entries, alloc, key, ttl, item, alone)
     }
 
-    /// Puts data of the key's type that the zone opens with in the RRset at the key, unless it had equal data; the RRset's TTL is the lower one.
+    /// Puts data of the key's type that the zone opens with in the RRset at the key, unless it has equal data; the RRset's TTL is the lower one, in
+    /// seconds.
     pub fn put_opening(
         &mut self,
         alloc: Global,
         key: SetKey,
         ttl: Ttl,
         item: StoredRecordData,
-        had: bool,
     ) -> Result<(), AllocError>
         requires { rtype_of item ≡ key.1 }
-        ensures ok { OnOk result (self.new ≡ put_with (opening_set ttl (data_fields item) had) key self.old) }
+        ensures ok { OnOk result (self.new ≡ put_with (opening_set ttl (data_fields item)) key self.old) }
         ensures err { OnErr result (self.new ≡ self.old) }
     {
-        put_opening(&mut self.entries, alloc, key, ttl, item, had)?;
+        put_opening(&mut self.entries, alloc, key, ttl, item)?;
         Ok(())
     }
 
@@ -210,17 +238,19 @@ impl KeyedSets {
     }
 }
 
-/// Puts data of the key's type last in the RRset at the key, and this TTL in place of the RRset's.
-fn put_last(
+/// Puts data of the key's type last in the RRset at the key, unless it has equal data, or the data stand alone and it is there.
+fn put_new(
     sets: &mut BTreeMap<SetKey, RecordSet>,
     alloc: Global,
     key: SetKey,
     ttl: Ttl,
     item: StoredRecordData,
-) -> Result<(), AllocError>
+    alone: bool,
+) -> Result<(), PutError>
     requires types { IsTrue (list_all has_own_type sets.old.entries) }
     requires item { rtype_of item ≡ key.1 }
     ensures ok { OnOk result (sets.new.entries ≡ insert_entry key_cmp sets.old.entries key (typed key.1 (last_set ttl (data_fields item) (set_in (map entry_of sets.old.entries) key)))) }
+    ensures cause { TellsPut (data_fields item) alone (set_in (map entry_of sets.old.entries) key) result }
     ensures err { OnErr result (sets.new.entries ≡ sets.old.entries) }
 {
     let entry = match sets.entry(key) {
@@ -228,11 +258,11 @@ fn put_last(
         Err(refused) => {
             drop(item);
             drop(refused);
-            return Err(AllocError);
+            return Err(PutError::Memory);
         }
     };
     match entry {
-        Entry::Occupied(entry) => entry.into_mut().append(alloc, ttl, item),
+        Entry::Occupied(entry) => append_new(entry.into_mut(), alloc, ttl, item, alone),
         Entry::Vacant(entry) => {
             entry.insert(RecordSet::of_one(alloc, ttl, item)?);
             Ok(())
@@ -240,18 +270,46 @@ fn put_last(
     }
 }
 
-/// Puts data of the key's type that the zone opens with in the RRset at the key, unless it had equal data; the RRset's TTL is the lower one.
+/// Puts data of an RRset's type last in it, unless it has equal data or the data stand alone.
+fn append_new(
+    set: &mut RecordSet,
+    alloc: Global,
+    ttl: Ttl,
+    item: StoredRecordData,
+    alone: bool,
+) -> Result<(), PutError>
+    requires { rtype_of item ≡ set.old.rtype }
+    ensures ok { OnOk result (set.new ≡ typed set.old.rtype (last_set ttl (data_fields item) (Some set.old.contents))) }
+    ensures cause { TellsPut (data_fields item) alone (Some set.old.contents) result }
+    ensures err { OnErr result (set.new ≡ set.old) }
+{
+    if alone {
+        let equal = set.contains(&item);
+        drop(item);
+        return Err(if equal {
+            PutError::Equal
+        } else {
+            PutError::Second
+        });
+    }
+    match set.append_new(alloc, ttl, item) {
+        Ok(true) => Ok(()),
+        Ok(false) => Err(PutError::Equal),
+        Err(_) => Err(PutError::Memory),
+    }
+}
+
+/// Puts data of the key's type that the zone opens with in the RRset at the key, unless it has equal data; the RRset's TTL is the lower one.
 fn put_opening(
     sets: &mut BTreeMap<SetKey, RecordSet>,
     alloc: Global,
     key: SetKey,
     ttl: Ttl,
     item: StoredRecordData,
-    had: bool,
 ) -> Result<(), AllocError>
     requires types { IsTrue (list_all has_own_type sets.old.entries) }
     requires item { rtype_of item ≡ key.1 }
-    ensures ok { OnOk result (sets.new.entries ≡ insert_entry key_cmp sets.old.entries key (typed key.1 (opening_set ttl (data_fields item) had (set_in (map entry_of sets.old.entries) key)))) }
+    ensures ok { OnOk result (sets.new.entries ≡ insert_entry key_cmp sets.old.entries key (typed key.1 (opening_set ttl (data_fields item) (set_in (map entry_of sets.old.entries) key)))) }
     ensures err { OnErr result (sets.new.entries ≡ sets.old.entries) }
 {
     let entry = match sets.entry(key) {
@@ -263,7 +321,7 @@ fn put_opening(
         }
     };
     match entry {
-        Entry::Occupied(entry) => entry.into_mut().open_with(alloc, ttl, item, had),
+        Entry::Occupied(entry) => entry.into_mut().open_with(alloc, ttl, item),
         Entry::Vacant(entry) => {
             entry.insert(RecordSet::of_one(alloc, ttl, item)?);
             Ok(())

@@ -10,5 +10,5 @@ mod keyed;
 mod of_rrset;
 mod sets;
 
-pub use keyed::KeyedSets;
+pub use keyed::{KeyedSets, PutError};
 pub use sets::{RecordSet, SetKey};

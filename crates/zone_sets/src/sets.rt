@@ -1,14 +1,14 @@
 // A record set, and where it stands in a version.
-ghost use Rattle.std.specs.Prelude.{◌≡◌, ◌++◌, ◌∷◌, [], ◌==◌, ◌&&◌, OnOk, OnErr, IfOk, IfSome, map, min, not, filter, if◌then◌else◌, All};
+ghost use Rattle.std.specs.Prelude.{◌≡◌, true, false, Ok, ◌++◌, ◌∷◌, [], ◌==◌, ◌&&◌, OnOk, OnErr, IfOk, IfSome, map, min, not, filter, if◌then◌else◌, All};
 ghost use Rattle.std.specs.List.{list_any};
 ghost use Rattle.dns_name.specs.Names.{fold};
 ghost use Rattle.dns_rdata.specs.Records.{same_data};
 ghost use Rattle.dns_rdata.specs.ZoneData.{rtype_of, data_fields};
 ghost use Rattle.zone_model.specs.Version.{key_cmp};
 ghost use Rattle.zone_values.specs.TypedSets.{set_of};
-ghost use Rattle.zone_sets.specs.DataIndex.{IsIndexed};
+ghost use Rattle.zone_sets.specs.DataIndex.{Indexes, IsIndexed};
 
-use crate::data_index::{FEW, forget, is_noted, note_last};
+use crate::data_index::{FEW, forget, is_noted, note_last, note_new};
 use crate::data_key::DataKey;
 use dns_name::{KeyName, Labelled, Rtype, Ttl, compare_spelling};
 use dns_rdata::{RecordData, StoredRecordData};
@@ -127,6 +127,28 @@ impl RecordSet {
         Ok(())
     }
 
+    /// Puts data of the RRset's type last, and this TTL, in seconds, in place of the RRset's, unless equal data stand in the RRset: then nothing
+    /// changes (RFC 2181, 5). Tells whether they were put. Want of memory is answered only where no equal data stand there.
+    pub fn append_new(
+        &mut self,
+        alloc: Global,
+        ttl: Ttl,
+        item: StoredRecordData,
+    ) -> Result<bool, AllocError>
+        requires { rtype_of item ≡ self.old.rtype }
+        ensures told { IfOk result (λ told. told ≡ not (list_any (same_data (data_fields item)) self.old.contents.items)) }
+        ensures put { result ≡ Ok true → self.new ≡ set_of self.old.rtype ttl (self.old.contents.items ++ data_fields item ∷ []) }
+        ensures same { result ≡ Ok false → self.new ≡ self.old }
+        ensures err { OnErr result (self.new ≡ self.old) }
+        ensures fresh { OnErr result (list_any (same_data (data_fields item)) self.old.contents.items ≡ false) }
+    {
+        let put = push_unless_there(&mut self.items, &mut self.seen, alloc, item)?;
+        if put {
+            self.ttl = ttl;
+        }
+        Ok(put)
+    }
+
     /// Takes the data equal to these out, and puts this TTL in place of the RRset's.
     #[tactic(auto, using(crate::proofs::Equality::filter_map))]
     pub fn remove(&mut self, ttl: Ttl, item: &StoredRecordData)
@@ -137,28 +159,108 @@ impl RecordSet {
         self.ttl = ttl;
     }
 
-    /// Puts the lower of this TTL and the RRset's, and data of the RRset's type last, unless the RRset had equal data.
+    /// Puts the lower of this TTL, in seconds, and the RRset's, and data of the RRset's type last, unless the RRset has equal data (RFC 2181, 5).
     pub fn open_with(
         &mut self,
         alloc: Global,
         ttl: Ttl,
         item: StoredRecordData,
-        had: bool,
     ) -> Result<(), AllocError>
         requires { rtype_of item ≡ self.old.rtype }
-        ensures ok { OnOk result (self.new ≡ set_of self.old.rtype (min self.old.contents.ttl ttl) (if had then self.old.contents.items else self.old.contents.items ++ data_fields item ∷ [])) }
+        ensures ok { OnOk result (self.new ≡ set_of self.old.rtype (min self.old.contents.ttl ttl)
+            (if list_any (same_data (data_fields item)) self.old.contents.items then self.old.contents.items else self.old.contents.items ++ data_fields item ∷ [])) }
         ensures err { OnErr result (self.new ≡ self.old) }
     {
-        if had {
-            drop(item);
-        } else {
-            push_noted(&mut self.items, &mut self.seen, alloc, item)?;
-        }
+        push_unless_there(&mut self.items, &mut self.seen, alloc, item)?;
         if ttl.to_int() < self.ttl.to_int() {
             self.ttl = ttl;
         }
         Ok(())
     }
+}
+
+/// Whether some of the data are equal to the others, by their fields.
+#[tactic(auto, using(crate::proofs::Equality::list_any_map))]
+fn has_equal(items: &[StoredRecordData], item: &StoredRecordData) -> bool
+    ensures { result ≡ list_any (same_data (data_fields item.now)) (map data_fields items.now) }
+{
+    is_among(items, item)
+}
+
+/// Puts data last, and into the index, unless equal data are there. Tells whether they were put. Without memory both stay.
+fn push_unless_there(
+    items: &mut Vec<StoredRecordData>,
+    seen: &mut Option<BTreeSet<DataKey>>,
+    alloc: Global,
+    item: StoredRecordData,
+) -> Result<bool, AllocError>
+    requires { IsIndexed (map data_fields items.old.items) seen.old }
+    ensures told { IfOk result (λ told. told ≡ not (list_any (same_data (data_fields item)) (map data_fields items.old.items))) }
+    ensures put { result ≡ Ok true → items.new.items ≡ items.old.items ++ item ∷ [] }
+    ensures same { result ≡ Ok false → items.new.items ≡ items.old.items }
+    ensures err { OnErr result (items.new.items ≡ items.old.items) }
+    ensures fresh { OnErr result (list_any (same_data (data_fields item)) (map data_fields items.old.items) ≡ false) }
+    ensures indexed { IsIndexed (map data_fields items.new.items) seen.new }
+{
+    match seen {
+        Some(keys) => push_into_index(items, keys, item),
+        None => {
+            if has_equal(items, &item) {
+                drop(item);
+                return Ok(false);
+            }
+            push_noted(items, seen, alloc, item)?;
+            Ok(true)
+        }
+    }
+}
+
+/// The same where there is an index.
+fn push_into_index(
+    items: &mut Vec<StoredRecordData>,
+    keys: &mut BTreeSet<DataKey>,
+    item: StoredRecordData,
+) -> Result<bool, AllocError>
+    requires { Indexes (map data_fields items.old.items) keys.old }
+    ensures told { IfOk result (λ told. told ≡ not (list_any (same_data (data_fields item)) (map data_fields items.old.items))) }
+    ensures put { result ≡ Ok true → items.new.items ≡ items.old.items ++ item ∷ [] }
+    ensures same { result ≡ Ok false → items.new.items ≡ items.old.items }
+    ensures err { OnErr result (items.new.items ≡ items.old.items) }
+    ensures fresh { OnErr result (list_any (same_data (data_fields item)) (map data_fields items.old.items) ≡ false) }
+    ensures indexed { Indexes (map data_fields items.new.items) keys.new }
+{
+    let key = match DataKey::of(&item) {
+        Ok(key) => key,
+        Err(error) => {
+            let there = has_equal(items, &item);
+            drop(item);
+            return told_or(there, error);
+        }
+    };
+    let len = items.len();
+    match items.push(item) {
+        Ok(()) => {}
+        Err(error) => {
+            let there = keys.contains(&key);
+            drop(key);
+            return told_or(there, error.into());
+        }
+    }
+    let noted = note_new(keys, key);
+    match noted {
+        Ok(true) => {}
+        _ => items.truncate(len),
+    }
+    noted
+}
+
+/// What is told without memory: that nothing was put, where equal data are there.
+fn told_or(there: bool, error: AllocError) -> Result<bool, AllocError>
+    ensures ok { IfOk result (λ told. told ≡ not there) }
+    ensures no { OnOk result (there ≡ true) }
+    ensures err { OnErr result (there ≡ false) }
+{
+    if there { Ok(false) } else { Err(error) }
 }
 
 /// Puts data last, and into the index, which is made where the data become many. Without memory both stay.

@@ -115,8 +115,8 @@ second_none : (p : Place) → IsBehind p → is_at_second p ≡ false
 second_none AtStart b = absurd b
 second_none (AtSecond s) b = absurd b
 second_none (InWhole s) b = refl
-second_none (InDeletes s) b = refl
-second_none (InAdds s) b = refl
+second_none (InDeletes s) b = absurd b
+second_none (InAdds s) b = absurd b
 second_none AtEnd b = refl
 
 pub asks_no_other : (first : Bool) (a : Run) → IsBehind a.place → asks_again first a ≡ false
@@ -143,7 +143,7 @@ other_found id q o b e h = other_is id q (message_so_far o) (ap (λ h. h.id) (he
 
 -- ---- what an interpreter refuses
 
-way_open : (begun : Bool) (p : Place) → IsUnderWay begun p → is_at_end p ≡ false
+pub way_open : (begun : Bool) (p : Place) → IsUnderWay begun p → is_at_end p ≡ false
 way_open true AtStart w = refl
 way_open true (AtSecond s) w = refl
 way_open true (InWhole s) w = refl

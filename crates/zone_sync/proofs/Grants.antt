@@ -46,7 +46,7 @@ module _ (a : Asking) (at : ℕ) (c : Bool) (v : Version) (f : Fits a at c v) wh
 
 -- such a primary grants the request
 pub granted : {K : Type 0} (the_key : K → TsigKey) (keys : Keys) (told : List ℕ → Option K → Option ℕ → Result Offer XfrDataProviderError) (a : Asking) (at : ℕ) (offer : Offer)
-    → Offers the_key keys told a offer → (f : Fits a at offer.compatibility offer.version) → IsGrantedAxfr the_key keys told (request_at (asked_octets a) at) a.key offer f.pages
+    → Offers the_key keys told a offer → Fits a at offer.compatibility offer.version → IsGrantedAxfr the_key keys told (request_at (asked_octets a) at) a.key offer
 granted the_key keys told a at offer o f =
     let name = apex_is_name a at offer.compatibility offer.version f in
     let class = small_class a at offer.compatibility offer.version f in
@@ -60,6 +60,7 @@ granted the_key keys told a at offer o f =
       granted = o.offered;
       apex = ap (λ (q : Option Question). asks_for_apex q offer.version) (requests.taken_question a f.is_key f.asked_early name class) ∙ f.published.same_apex;
       one_soa = one_apex_soa a at offer.compatibility offer.version f;
+      pages = f.pages;
       cut = f.cut;
     }
 

@@ -22,6 +22,7 @@ use Rattle.xfr_batch.specs.XfrBatches.{axfr_header}
 use Rattle.xfr_model.specs.Messages.{ReadMessage, type_of, read_of}
 use Rattle.xfr_model.specs.Read.{request_fault}
 use Rattle.xfr_model.specs.Carried.{Carrier, Carries}
+use Rattle.xfr_replies.specs.TransferPages.{page_answer}
 use Rattle.xfr_course.specs.Outcome.{Outcome, Updated, UpToDate, Checked, Course, outcome, made}
 use Rattle.xfr_course.specs.Courses.{has_header, most_replies, stop_after}
 use Rattle.xfr_course.specs.Client.{Decided}
@@ -32,7 +33,7 @@ use Rattle.xfr_course.proofs.Clients.{met_decides}
 use Rattle.xfr_course.proofs.Succeeding.{granted_succeeds}
 use Rattle.zone_sync.specs.SoFar.{Asking, asked_id, asked_question, asked_octets, asked_course, course_so_far, checked_so_far, fault_so_far, client_so_far}
 use Rattle.zone_sync.specs.Standing.{Passed}
-use Rattle.zone_sync.specs.Fitting.{answer_room, answer_with, sent_whole, Fits, WholeSucceeds}
+use Rattle.zone_sync.specs.Fitting.{answer_room, page_answers, sent_whole, Fits, WholeSucceeds}
 use Rattle.zone_sync.proofs.Outcomes.{Comes, comes, passed_course, stop_few}
 use Rattle.zone_sync.proofs.Replying.{so_far}
 use Rattle.zone_sync.proofs.HonestRequests as requests
@@ -159,7 +160,7 @@ module _ (a : Asking) (at : ℕ) (c : Bool) (v : Version) (f : Fits a at c v) wh
   -- ---- what the messages carry
 
   -- a page's message, as it is read
-  said : (page : List Record) → read_of (answer_with a page) ≡ read_with (header_in request) q page
+  said : (page : List Record) → read_of (page_answer request page) ≡ read_with (header_in request) q page
   said page =
       ap (λ h. record { header = h; questions = questions_in request; answers = map Some page; authority = 0 }) (header_again (header_in request))
       ∙ ap (λ qs. record { header = axfr_header (header_in request); questions = qs; answers = map Some page; authority = 0 }) (replies.asked_alone a at c v f)
@@ -167,24 +168,24 @@ module _ (a : Asking) (at : ℕ) (c : Bool) (v : Version) (f : Fits a at c v) wh
   taken_id : id_in request ≡ id
   taken_id = requests.taken_id a f.is_key f.asked_early (replies.apex_is_name a at c v f) (replies.small_class a at c v f)
 
-  sound_later : (page : List Record) → not (length page == 0) ≡ true → request_fault id q false (read_of (answer_with a page)) ≡ None
+  sound_later : (page : List Record) → not (length page == 0) ≡ true → request_fault id q false (read_of (page_answer request page)) ≡ None
   sound_later page full =
-      ap (λ n. request_fault n q false (read_of (answer_with a page))) (sym taken_id)
+      ap (λ n. request_fault n q false (read_of (page_answer request page))) (sym taken_id)
       ∙ ap (request_fault (id_in request) q false) (said page) ∙ later_at (header_in request) q page full
 
-  carry_later : (pages : List (List Record)) → AllByRecursion (replies.IsWithin (answer_room a)) pages → AllByRecursion (Carries (request_fault id q) false) (map carrier_of (map (answer_with a) pages))
+  carry_later : (pages : List (List Record)) → AllByRecursion (replies.IsWithin (answer_room a)) pages → AllByRecursion (Carries (request_fault id q) false) (map carrier_of (page_answers a pages))
   carry_later [] within = tt
   carry_later (page ∷ more) within = (record { sound = sound_later page within.0.full; answers = refl; full = within.0.full }, carry_later more within.1)
 
-  sound_first : (page more : List Record) → not (length page == 0) ≡ true → page ++ more ≡ text → request_fault id q true (read_of (answer_with a page)) ≡ None
+  sound_first : (page more : List Record) → not (length page == 0) ≡ true → page ++ more ≡ text → request_fault id q true (read_of (page_answer request page)) ≡ None
   sound_first page more full joined =
       let o = one_soa v f.published.valid one_soa_is in
       let b = begins (soa_of v o) page more (middle_of v ++ soa_of v o ∷ []) full (joined ∙ whole_is v o) in
-      ap (λ n. request_fault n q true (read_of (answer_with a page))) (sym taken_id)
+      ap (λ n. request_fault n q true (read_of (page_answer request page))) (sym taken_id)
       ∙ ap (request_fault (id_in request) q true) (said page ∙ ap (read_with (header_in request) q) b.is)
       ∙ first_at (header_in request) q (soa_of v o) b.rest (ap type_of f.mode) refl
 
-  texts : (pages : List (List Record)) → flat_map (λ (k : Carrier). k.page) (map carrier_of (map (answer_with a) pages)) ≡ flat_map (λ page. page) pages
+  texts : (pages : List (List Record)) → flat_map (λ (k : Carrier). k.page) (map carrier_of (page_answers a pages)) ≡ flat_map (λ page. page) pages
   texts [] = refl
   texts (page ∷ more) = ap (λ l. page ++ l) (texts more)
 
@@ -199,26 +200,26 @@ module _ (a : Asking) (at : ℕ) (c : Bool) (v : Version) (f : Fits a at c v) wh
   passed : Passed (fault_so_far a) w
   passed = replies.front_passed a at c v f w [] (sym (append-nil w))
 
-  course_is : (gave : Outcome) → course_so_far a w gave ≡ sent_course e id (map carrier_of (map (answer_with a) f.pages)) (stop_after gave w None)
+  course_is : (gave : Outcome) → course_so_far a w gave ≡ sent_course e id (map carrier_of (page_answers a f.pages)) (stop_after gave w None)
   course_is gave =
       let stop = stop_after gave w None in
       passed_course a w gave passed few_sent
       ∙ ap (λ ks. asked_course a ks stop) (replies.sent_checked a at c v f)
-      ∙ ap (λ (m : Mode). record { mode = m; id = id; question = q; base = a.base.version; number = a.base.number; checked = map signed_checked (map carrier_of (map (answer_with a) f.pages)); stop = stop }) f.mode
+      ∙ ap (λ (m : Mode). record { mode = m; id = id; question = q; base = a.base.version; number = a.base.number; checked = map signed_checked (map carrier_of (page_answers a f.pages)); stop = stop }) f.mode
 
   carried : (pages : List (List Record)) (stop : Outcome) → AllByRecursion (replies.IsWithin (answer_room a)) pages → flat_map (λ page. page) pages ≡ text
-      → Succeeds (sent_course e id (map carrier_of (map (answer_with a) pages)) stop) v
+      → Succeeds (sent_course e id (map carrier_of (page_answers a pages)) stop) v
   carried [] stop within joined =
       let o = one_soa v f.published.valid one_soa_is in
       absurd (cc (joined ∙ whole_is v o))
   carried (page ∷ more) stop within joined =
-      let carry : CarrySent e id (carrier_of (answer_with a page)) (map carrier_of (map (answer_with a) more)) = record {
+      let carry : CarrySent e id (carrier_of (page_answer request page)) (map carrier_of (page_answers a more)) = record {
         first = record { sound = sound_first page (flat_map (λ p. p) more) within.0.full joined; answers = refl; full = within.0.full };
         later = carry_later more within.1;
         text = texts (page ∷ more) ∙ joined;
         together = tt;
       } in
-      granted_succeeds e id (carrier_of (answer_with a page)) (map carrier_of (map (answer_with a) more)) stop granting (f.published, tt) carry
+      granted_succeeds e id (carrier_of (page_answer request page)) (map carrier_of (page_answers a more)) stop granting (f.published, tt) carry
 
   pub succeeds : (gave : Outcome) → Succeeds (course_so_far a w gave) v
   succeeds gave = subst (λ (k : Course). Succeeds k v) (sym (course_is gave)) (carried f.pages (stop_after gave w None) (replies.within a at c v f) f.cut.joined)

@@ -14,8 +14,8 @@ use Rattle.dns_wire.specs.Wire.{Header, Message, Question, header_in, id_in, fla
 use Rattle.dns_wire.specs.Parse.{questions_in}
 use Rattle.dns_wire.specs.Written.{IsMessage, IsQuestion, IsRecord}
 use Rattle.dns_wire.proofs.Headers.{header_of-flags_word, word_small}
-use Rattle.tsig_port.specs.Tsig.{TsigKey, compose_len, mac_in, is_signed, tsig_record, answer_tsig, signed_answer, signed_from}
-use Rattle.tsig_port.specs.Checked.{answer_fault, taken_message, prior_mac, unsigned_since}
+use Rattle.tsig_port.specs.Tsig.{TsigKey, compose_len, mac_in, tsig_record, answer_tsig, signed_answer, signed_from}
+use Rattle.tsig_port.specs.Checked.{answer_fault, taken_message, prior_mac}
 use Rattle.tsig_port.specs.Signing.{CanSign}
 use Rattle.tsig_port.proofs.SignedAnswers as answers
 use Rattle.zone_model.specs.Version.{Version}
@@ -33,7 +33,7 @@ use Rattle.xfr_course.specs.Honest.{carrier_of}
 use Rattle.xfr_course.specs.Success.{signed_checked}
 use Rattle.zone_sync.specs.SoFar.{Asking, asked_question, request_message, asked_octets, checked_so_far, fault_so_far, message_so_far, header_alone}
 use Rattle.zone_sync.specs.Standing.{Passed}
-use Rattle.zone_sync.specs.Fitting.{answer_room, answer_with, sent_whole, Fits, SendsEach}
+use Rattle.zone_sync.specs.Fitting.{answer_room, page_answers, sent_whole, Fits, SendsEach}
 use Rattle.zone_sync.proofs.Standings.{none_passed, one_passed}
 use Rattle.zone_sync.proofs.HonestNames.{same_is_name}
 use Rattle.zone_sync.proofs.HonestRequests as requests
@@ -138,8 +138,8 @@ as_many key mac at fudge prior (m ∷ ms) = ap suc (as_many key mac at fudge (So
 
 pub sends_each : SendsEach
 sends_each a at pages =
-    let message : List Record → List ℕ = λ page. message_wire (answer_with a page) in
-    as_many a.key (mac_in (asked_octets a)) at 300 None (map message pages) ∙ length-map pages message
+    let ms = page_answers a pages in
+    as_many a.key (mac_in (asked_octets a)) at 300 None (map message_wire ms) ∙ length-map ms message_wire ∙ length-map pages (page_answer (taken_message (asked_octets a)))
 
 pub signed_header : (key : TsigKey) (mac : List ℕ) (prior : Option (List ℕ)) (m : Message) (at fudge : ℕ) → has_header (signed_answer key mac prior (message_wire m) at fudge) ≡ true
 signed_header key mac prior m at fudge =
@@ -178,13 +178,13 @@ module _ (a : Asking) (at : ℕ) (c : Bool) (v : Version) (f : Fits a at c v) wh
   asked_length : length (flat_map question_wire (questions_in request)) ≡ length (question_wire q)
   asked_length = ap (λ qs. length (flat_map question_wire qs)) asked_alone ∙ ap length (append-nil (question_wire q))
 
-  pub page_length : (page : List Record) → length (message_wire (answer_with a page)) ≡ 12 + (length (question_wire q) + room_of page)
+  pub page_length : (page : List Record) → length (message_wire (page_answer request page)) ≡ 12 + (length (question_wire q) + room_of page)
   page_length page = omega (arith, wire_length h (questions_in request) page, asked_length, length-flat_map record_wire page)
 
   pub room_is : answer_room a ≡ 65535 - 12 - length (question_wire q) - compose_len a.key
   room_is = omega (arith, page_length [])
 
-  page_is_message : (page : List Record) → IsWithin (answer_room a) page → AllByRecursion IsRecord page → IsMessage (answer_with a page)
+  page_is_message : (page : List Record) → IsWithin (answer_room a) page → AllByRecursion IsRecord page → IsMessage (page_answer request page)
   page_is_message page within records =
       let P : List Question → Type 0 = λ qs. AllByRecursion IsQuestion qs in
       let Q : List Question → Type 0 = λ qs. length qs < 2 ^ 16 in
@@ -204,7 +204,7 @@ module _ (a : Asking) (at : ℕ) (c : Bool) (v : Version) (f : Fits a at c v) wh
   short_page : (n : ℕ) → not (n == 0) ≡ true → 1 ≤ n
   short_page n some = grind (arith, nat_tests)
 
-  can_sign : (page : List Record) → IsWithin (answer_room a) page → AllByRecursion IsRecord page → CanSign a.key (answer_with a page)
+  can_sign : (page : List Record) → IsWithin (answer_room a) page → AllByRecursion IsRecord page → CanSign a.key (page_answer request page)
   can_sign page within records = record {
     message = page_is_message page within records;
     unsigned = tt;
@@ -212,25 +212,21 @@ module _ (a : Asking) (at : ℕ) (c : Bool) (v : Version) (f : Fits a at c v) wh
     room = omega (arith, page_length page, long_records page, short_page (length page) within.full, within.fits, room_is);
   }
 
-  -- the pages' messages, one after another
-  abbrev pub messages : List (List Record) → List Message
-  messages pages = map (answer_with a) pages
-
-  all_can_sign : (pages : List (List Record)) → AllByRecursion (IsWithin (answer_room a)) pages → AllByRecursion (λ page. AllByRecursion IsRecord page) pages → AllByRecursion (CanSign a.key) (messages pages)
+  all_can_sign : (pages : List (List Record)) → AllByRecursion (IsWithin (answer_room a)) pages → AllByRecursion (λ page. AllByRecursion IsRecord page) pages → AllByRecursion (CanSign a.key) (page_answers a pages)
   all_can_sign [] within records = tt
   all_can_sign (page ∷ more) within records = (can_sign page within.0 records.0, all_can_sign more within.1 records.1)
 
-  all_have : (pages : List (List Record)) → AllByRecursion (λ page. HaveData page) pages → AllByRecursion (λ (m : Message). HaveData m.answers) (messages pages)
+  all_have : (pages : List (List Record)) → AllByRecursion (λ page. HaveData page) pages → AllByRecursion (λ (m : Message). HaveData m.answers) (page_answers a pages)
   all_have [] have = tt
   all_have (page ∷ more) have = (have.0, all_have more have.1)
 
   pub within : AllByRecursion (IsWithin (answer_room a)) f.pages
   within = all_within (answer_room a) c (whole_text v) f.pages f.cut
 
-  pub signable : AllByRecursion (CanSign a.key) (messages f.pages)
+  pub signable : AllByRecursion (CanSign a.key) (page_answers a f.pages)
   signable = all_can_sign f.pages within (in_pages IsRecord (answer_room a) c (whole_text v) f.pages f.cut f.records)
 
-  pub readable : AllByRecursion (λ (m : Message). HaveData m.answers) (messages f.pages)
+  pub readable : AllByRecursion (λ (m : Message). HaveData m.answers) (page_answers a f.pages)
   readable = all_have f.pages (in_pages (λ r. IsTrue (is_data r.rtype r.fields)) (answer_room a) c (whole_text v) f.pages f.cut f.have)
 
   -- ---- in sequence
@@ -247,38 +243,29 @@ module _ (a : Asking) (at : ℕ) (c : Bool) (v : Version) (f : Fits a at c v) wh
   abbrev pub sequence : Option (List ℕ) → List Message → List (List ℕ)
   sequence prior ms = signed_from a.key mac at 300 prior (map message_wire ms)
 
-  as_wires : (pages : List (List Record)) → map (λ page. message_wire (answer_with a page)) pages ≡ map message_wire (messages pages)
-  as_wires [] = refl
-  as_wires (page ∷ more) = ap (λ l. message_wire (answer_with a page) ∷ l) (as_wires more)
-
-  sent_is : sent_whole a at f.pages ≡ sequence None (messages f.pages)
-  sent_is = ap (signed_from a.key mac at 300 None) (as_wires f.pages)
-
   -- each passes after those before it
-  faultless : (taken : List (List ℕ)) (prior : Option (List ℕ)) (m : Message) → CanSign a.key m → prior_mac taken ≡ prior → unsigned_since taken ≡ [] → fault_so_far a taken (signed prior m) ≡ None
+  faultless : (taken : List (List ℕ)) (prior : Option (List ℕ)) (m : Message) → CanSign a.key m → prior_mac taken ≡ prior → fault_so_far a taken (signed prior m) ≡ None
   unfolding fault_so_far
-  faultless taken prior m can is_prior all_signed =
-      ap (λ x. answer_fault 0 a.key x a.at taken (signed prior m)) (sym (requests.mac_read_is a f.is_key f.asked_early name class))
-      ∙ answers.passes a.key mac at a.at 300 f.is_key f.early (lit< tt) f.near 0 taken prior m can is_prior all_signed
+  faultless taken prior m can is_prior =
+      ap (λ x. answer_fault a.key x a.at taken (signed prior m)) (sym (requests.mac_read_is a f.is_key f.asked_early name class))
+      ∙ answers.passes a.key mac at a.at 300 f.is_key f.early (lit< tt) f.near taken prior m can is_prior
 
   -- .. and so do all of a first part
-  part_passed : (taken : List (List ℕ)) (prior : Option (List ℕ)) (ms : List Message) (xs rest : List (List ℕ)) → AllByRecursion (CanSign a.key) ms → prior_mac taken ≡ prior → unsigned_since taken ≡ []
+  part_passed : (taken : List (List ℕ)) (prior : Option (List ℕ)) (ms : List Message) (xs rest : List (List ℕ)) → AllByRecursion (CanSign a.key) ms → prior_mac taken ≡ prior
       → sequence prior ms ≡ xs ++ rest → Passed (fault_so_far a) taken → Passed (fault_so_far a) (taken ++ xs)
   unfolding signed_from
-  part_passed taken prior ms [] rest can is_prior all_signed e p = subst (Passed (fault_so_far a)) (sym (append-nil taken)) p
-  part_passed taken prior [] (x ∷ xs) rest can is_prior all_signed e p = absurd (cc e)
-  part_passed taken prior (m ∷ ms) (x ∷ xs) rest can is_prior all_signed e p =
+  part_passed taken prior ms [] rest can is_prior e p = subst (Passed (fault_so_far a)) (sym (append-nil taken)) p
+  part_passed taken prior [] (x ∷ xs) rest can is_prior e p = absurd (cc e)
+  part_passed taken prior (m ∷ ms) (x ∷ xs) rest can is_prior e p =
       let s = signed prior m in
       let first : s ≡ x = cc in
       let behind : sequence (next prior m) ms ≡ xs ++ rest = cc in
-      let one : Passed (fault_so_far a) (taken ++ s ∷ []) = one_passed (fault_so_far a) taken s p (faultless taken prior m can.0 is_prior all_signed) (signed_header a.key mac prior m at 300) in
-      let all = part_passed (taken ++ s ∷ []) (next prior m) ms xs rest can.1
-      (answers.prior_then a.key mac at a.at 300 f.is_key f.early (lit< tt) f.near taken prior m can.0)
-      (answers.unsigned_then a.key mac at a.at 300 f.is_key f.early (lit< tt) f.near taken prior m can.0) behind one in
+      let one : Passed (fault_so_far a) (taken ++ s ∷ []) = one_passed (fault_so_far a) taken s p (faultless taken prior m can.0 is_prior) (signed_header a.key mac prior m at 300) in
+      let all = part_passed (taken ++ s ∷ []) (next prior m) ms xs rest can.1 (answers.prior_then a.key mac at a.at 300 f.is_key f.early (lit< tt) f.near taken prior m can.0) behind one in
       subst (Passed (fault_so_far a)) (append_assoc taken (s ∷ []) xs ∙ ap (λ y. taken ++ y ∷ xs) first) all
 
   pub front_passed : (xs rest : List (List ℕ)) → sent_whole a at f.pages ≡ xs ++ rest → Passed (fault_so_far a) xs
-  front_passed xs rest e = part_passed [] None (messages f.pages) xs rest signable refl refl (sym sent_is ∙ e) (none_passed (fault_so_far a))
+  front_passed xs rest e = part_passed [] None (page_answers a f.pages) xs rest signable refl e (none_passed (fault_so_far a))
 
   -- each says what it was built of
   checked_is : (prior : Option (List ℕ)) (m : Message) → CanSign a.key m → HaveData m.answers → checked_so_far (signed prior m) ≡ signed_checked (carrier_of m)
@@ -288,8 +275,7 @@ module _ (a : Asking) (at : ℕ) (c : Bool) (v : Version) (f : Fits a at c v) wh
       let r = record_wire (tsig_record a.key.name (answer_tsig a.key mac prior (message_wire m) at 300)) in
       let taken : taken_message w ≡ message_wire m ++ r = answers.taken_is a.key mac at a.at 300 f.is_key f.early (lit< tt) f.near prior m can in
       let read : message_so_far (taken_message w) ≡ read_of m = ap message_so_far taken ∙ read_so_far (message_wire m ++ r) (read_of m) (built_is_read m r can.message have) in
-      let signed : is_signed w ≡ true = answers.is_signed_sent a.key mac at a.at 300 f.is_key f.early (lit< tt) f.near prior m can in
-      ap (λ x. record { message = x; signed = is_signed w }) read ∙ ap (λ b. record { message = read_of m; signed = b }) signed
+      ap (λ x. record { message = x }) read
 
   all_checked : (prior : Option (List ℕ)) (ms : List Message) → AllByRecursion (CanSign a.key) ms → AllByRecursion (λ (m : Message). HaveData m.answers) ms
       → map checked_so_far (sequence prior ms) ≡ map signed_checked (map carrier_of ms)
@@ -299,5 +285,5 @@ module _ (a : Asking) (at : ℕ) (c : Bool) (v : Version) (f : Fits a at c v) wh
       ap (λ (k : Checked). k ∷ map checked_so_far (sequence (next prior m) ms)) (checked_is prior m can.0 have.0)
       ∙ ap (λ (ks : List Checked). signed_checked (carrier_of m) ∷ ks) (all_checked (next prior m) ms can.1 have.1)
 
-  pub sent_checked : map checked_so_far (sent_whole a at f.pages) ≡ map signed_checked (map carrier_of (messages f.pages))
-  sent_checked = ap (map checked_so_far) sent_is ∙ all_checked None (messages f.pages) signable readable
+  pub sent_checked : map checked_so_far (sent_whole a at f.pages) ≡ map signed_checked (map carrier_of (page_answers a f.pages))
+  sent_checked = all_checked None (page_answers a f.pages) signable readable

@@ -6,28 +6,28 @@ use Rattle.std.proofs.lemmas.Bool.{and_left}
 use Rattle.std.proofs.Math.Bool.{and-false}
 use Rattle.dns_rdata.specs.Records.{Record}
 use Rattle.dns_wire.specs.Wire.{Question}
-use Rattle.zone_model.specs.TransferText.{Mode, Axfr, is_soa, is_same_soa}
+use Rattle.zone_model.specs.TransferText.{Mode, Axfr, is_same_soa}
 use Rattle.xfr_model.specs.Messages.{ReadMessage, type_of}
-use Rattle.zone_model.specs.Updates.{DeleteRecord, AddRecord, BeginBatchDelete, BeginBatchAdd, Finished}
+use Rattle.zone_model.specs.Updates.{AddRecord, Finished}
 use Rattle.xfr_model.specs.Read.{Fault, NotValid, Malformed, OtherAnswer, Item, Good, Bad, record_item, is_other, is_transfer_head, asks_transfer, first_record_fault, message_fault, request_fault}
-use Rattle.xfr_model.specs.Machine.{Place, AtStart, AtSecond, InWhole, InDeletes, InAdds, AtEnd, is_at_end, Run, went, step, then_run, end_or_batch, run_items, lone_serial, signal_of}
+use Rattle.xfr_model.specs.Machine.{Place, AtStart, AtSecond, InWhole, InDeletes, InAdds, AtEnd, is_at_end, Run, went, step, then_run, run_items, lone_serial, signal_of}
 use Rattle.zone_sync.specs.Standing.{IsUnderWay}
 
--- after its first record
+-- a whole text after its first record
 abbrev pub IsBehind : Place → Type 0
 IsBehind AtStart = ⊥
 IsBehind (AtSecond s) = ⊥
 IsBehind (InWhole s) = Unit {0}
-IsBehind (InDeletes s) = Unit {0}
-IsBehind (InAdds s) = Unit {0}
+IsBehind (InDeletes s) = ⊥
+IsBehind (InAdds s) = ⊥
 IsBehind AtEnd = Unit {0}
 
 pub behind_way : (p : Place) → IsUnderWay true p → IsBehind p
 behind_way AtStart w = w
 behind_way (AtSecond s) w = w
 behind_way (InWhole s) w = tt
-behind_way (InDeletes s) w = tt
-behind_way (InAdds s) w = tt
+behind_way (InDeletes s) w = w
+behind_way (InAdds s) w = w
 behind_way AtEnd w = absurd w
 
 -- .. and not at its end
@@ -35,20 +35,17 @@ pub way_behind : (p : Place) → IsBehind p → is_at_end p ≡ false → IsUnde
 way_behind AtStart b e = b
 way_behind (AtSecond s) b e = b
 way_behind (InWhole s) b e = tt
-way_behind (InDeletes s) b e = tt
-way_behind (InAdds s) b e = tt
+way_behind (InDeletes s) b e = b
+way_behind (InAdds s) b e = b
 way_behind AtEnd b e = absurd (cc e)
 
 -- one record more
-either_behind : (s r : Record) → IsBehind (end_or_batch s r).place
-either_behind s r = elim (is_same_soa s r) as (λ b. IsBehind (if b then went AtEnd (Finished r ∷ []) else went (InDeletes s) (BeginBatchDelete r ∷ [])).place) [ true ↦ tt | false ↦ tt ]
-
 pub step_behind : (mode : Mode) (p : Place) (r : Record) → IsBehind p → IsBehind (step mode p r).place
 step_behind mode AtStart r b = absurd b
 step_behind mode (AtSecond s) r b = absurd b
 step_behind mode (InWhole s) r b = elim (is_same_soa s r) as (λ b. IsBehind (if b then went AtEnd (Finished r ∷ []) else went (InWhole s) (AddRecord r ∷ [])).place) [ true ↦ tt | false ↦ tt ]
-step_behind mode (InDeletes s) r b = elim (is_soa r) as (λ b. IsBehind (if b then went (InAdds s) (BeginBatchAdd r ∷ []) else went (InDeletes s) (DeleteRecord r ∷ [])).place) [ true ↦ tt | false ↦ tt ]
-step_behind mode (InAdds s) r b = elim (is_soa r) as (λ b. IsBehind (if b then end_or_batch s r else went (InAdds s) (AddRecord r ∷ [])).place) [ true ↦ either_behind s r | false ↦ tt ]
+step_behind mode (InDeletes s) r b = absurd b
+step_behind mode (InAdds s) r b = absurd b
 step_behind mode AtEnd r b = tt
 
 pub run_behind : (mode : Mode) (p : Place) (xs : List Item) → IsBehind p → IsBehind (run_items mode p xs).place
@@ -61,8 +58,8 @@ pub step_any : (m n : Mode) (p : Place) (r : Record) → IsBehind p → step m p
 step_any m n AtStart r b = absurd b
 step_any m n (AtSecond s) r b = absurd b
 step_any m n (InWhole s) r b = refl
-step_any m n (InDeletes s) r b = refl
-step_any m n (InAdds s) r b = refl
+step_any m n (InDeletes s) r b = absurd b
+step_any m n (InAdds s) r b = absurd b
 step_any m n AtEnd r b = refl
 
 pub run_any : (m n : Mode) (p : Place) (xs : List Item) → IsBehind p → run_items m p xs ≡ run_items n p xs
@@ -117,8 +114,8 @@ pub no_serial : (p : Place) → IsBehind p → lone_serial p ≡ None
 no_serial AtStart b = absurd b
 no_serial (AtSecond s) b = absurd b
 no_serial (InWhole s) b = refl
-no_serial (InDeletes s) b = refl
-no_serial (InAdds s) b = refl
+no_serial (InDeletes s) b = absurd b
+no_serial (InAdds s) b = absurd b
 no_serial AtEnd b = refl
 
 pub no_signal : (begun : Bool) (a : Run) → IsBehind a.place → signal_of begun a ≡ None

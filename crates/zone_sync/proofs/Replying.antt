@@ -14,7 +14,6 @@ use Rattle.xfr_model.specs.Read.{Fault}
 use Rattle.zone_model.specs.Updates.{Edit, NotSoaRecord, AfterFinish}
 use Rattle.xfr_model.specs.Machine.{is_at_end, Run, signal_of}
 use Rattle.xfr_model.specs.Applying.{Halt, Denied, NoNumber, Held, apply_within}
-use Rattle.tsig_port.specs.Tsig.{is_signed}
 use Rattle.xfr_course.specs.Outcome.{Outcome, Ended, LinkFault, TooManyMessages, Short, Tsig, RequestTooLong, Primary, Checked, Course, outcome, made, room, base_serial, UpToDate, RetrySignal}
 use Rattle.xfr_course.specs.Courses.{has_header, most_replies, stop_after}
 use Rattle.xfr_course.specs.Client.{Client, new_client, take_course, run_message, IsPart, halt_outcome, met_after}
@@ -180,19 +179,18 @@ chosen_elsewhere : (b : Bool) (o p : Outcome) → by_link (Some o) ≡ false →
 chosen_elsewhere true o p x y = x
 chosen_elsewhere false o p x y = y
 
-met_elsewhere : (c : Course) (h : Option Halt) (f : Option Fault) (n : Option ℕ) (ended signed : Bool) → by_link (met_after c h f n ended signed) ≡ false
-met_elsewhere c (Some h) f n ended signed = halts_elsewhere h
-met_elsewhere c None (Some f) n ended signed = refl
-met_elsewhere c None None (Some n) ended signed = chosen_elsewhere (option_map_or (λ k. k == n) (base_serial c) false) UpToDate RetrySignal refl refl
-met_elsewhere c None None None true true = refl
-met_elsewhere c None None None true false = refl
-met_elsewhere c None None None false signed = refl
+met_elsewhere : (c : Course) (h : Option Halt) (f : Option Fault) (n : Option ℕ) (ended : Bool) → by_link (met_after c h f n ended) ≡ false
+met_elsewhere c (Some h) f n ended = halts_elsewhere h
+met_elsewhere c None (Some f) n ended = refl
+met_elsewhere c None None (Some n) ended = chosen_elsewhere (option_map_or (λ k. k == n) (base_serial c) false) UpToDate RetrySignal refl refl
+met_elsewhere c None None None true = refl
+met_elsewhere c None None None false = refl
 
 meets_elsewhere : (a : Asking) (taken : List (List ℕ)) (m : List ℕ) (o : Outcome) → (client_so_far a taken).met ≡ None → Meets a taken m o → by_link (Some o) ≡ false
 meets_elsewhere a taken m o unmet x =
     let r : Run = run_next a taken m in
     let h : Held = apply_within (room (course a)) (client_so_far a taken).progress r.updates in
-    ap by_link (sym x.met ∙ ap (λ y. y.met) (client_taken a taken m unmet)) ∙ met_elsewhere (course a) h.halt r.fault (signal_of (client_so_far a taken).begun r) (is_at_end r.place) (is_signed m)
+    ap by_link (sym x.met ∙ ap (λ y. y.met) (client_taken a taken m unmet)) ∙ met_elsewhere (course a) h.halt r.fault (signal_of (client_so_far a taken).begun r) (is_at_end r.place)
 
 pub no_link_fault : (a : Asking) (s : Session) (before handles : List Commit) (taken : List (List ℕ)) (m : List ℕ) (e : SyncError) → (client_so_far a taken).met ≡ None → RefusesReply a s before handles taken m e → e ≡ why.LinkFault → ⊥
 no_link_fault a s before handles taken m e unmet r is =

@@ -1,16 +1,11 @@
 -- One reply more, of a client that stands for those before it.
 use Rattle.std.proofs.Common.{◌≡◌, ℕ, ◌+◌, ◌-◌, ◌^◌, ◌≤◌, Bool, true, false, not, ◌&&◌, if◌then◌else◌, List, [], ◌∷◌, ◌++◌, map, length, append_assoc, append-nil, refl, sym, ap, ◌∙◌, subst, arith, Option, Some, None, is_some, Result, Ok, Err}
-use Rattle.std.specs.Prelude.{nat_lt}
-use Rattle.std.proofs.lemmas.Bool.{le-ltb}
 use Rattle.std.specs.Option.{option_or}
 use Rattle.std.specs.List.{list_all}
 use Rattle.std.proofs.lemmas.List.{map-append}
 use Rattle.std.proofs.lemmas.List.Folds.{list_all-append}
-use Rattle.tsig_port.specs.Tsig.{Signature, signature_of, is_signed, tsig_by}
-use Rattle.tsig_port.specs.Tsig.Signature.{Malformed, Unsigned, Signed}
-use Rattle.tsig_port.specs.Checked.{answer_fault, fault_by, unsigned_fault, passing, first_fault, pass_on, unsigned_since, taken_message}
+use Rattle.tsig_port.specs.Checked.{passing, first_fault, pass_on, taken_message}
 use Rattle.tsig_port.specs.declared.errors.ValidationError.{ValidationError}
-use Rattle.tsig_port.specs.declared.errors.ValidationError.TheVariants.{TooManyUnsigned, ServerUnsigned}
 use Rattle.zone_model.specs.Updates.{Update, Progress}
 use Rattle.zone_model.specs.TransferText.{Axfr}
 use Rattle.xfr_model.specs.Messages.{ReadMessage}
@@ -26,24 +21,6 @@ use Rattle.zone_sync.specs.Standing.{Passed, IsUnderWay}
 use Rattle.zone_sync.proofs.Places.{IsBehind, behind_message, no_signal, way_behind}
 
 -- ---- what passed
-
--- no number is below 0
-none_less : (n : ℕ) → 0 ≤ n
-none_less n = grind arith
-
--- an answer that passes is signed
-signed_by_fault : (a : Asking) (taken : List (List ℕ)) (m : List ℕ) (s : Signature) → fault_by 0 a.key (asked_mac a) a.at taken m s ≡ None → is_some (tsig_by s) ≡ true
-signed_by_fault a taken m Malformed h = absurd (cc h)
-signed_by_fault a [] m Unsigned h = absurd (cc h)
-signed_by_fault a (first ∷ taken) m Unsigned h = absurd (cc (sym (ap (λ b. if b then None else Some TooManyUnsigned) (none_below (length (unsigned_since (first ∷ taken))))) ∙ h))
-  where
-    none_below : (n : ℕ) → nat_lt n 0 ≡ false
-    none_below n = le-ltb n 0 (none_less n)
-signed_by_fault a taken m (Signed start owner t) h = refl
-
-pub passing_is_signed : (a : Asking) (taken : List (List ℕ)) (m : List ℕ) → fault_so_far a taken m ≡ None → is_signed m ≡ true
-unfolding fault_so_far
-passing_is_signed a taken m h = signed_by_fault a taken m (signature_of m) h
 
 pub none_passed : (fault : List (List ℕ) → List ℕ → Option ValidationError) → Passed fault []
 none_passed fault = record { passing = λ more. refl; faults = λ more. refl; headed = refl }
@@ -87,12 +64,12 @@ abbrev pub run_next : Asking → List (List ℕ) → List ℕ → Run
 run_next a taken m = run_message (course a) (client_so_far a taken) (checked_so_far m)
 
 pub client_taken : (a : Asking) (taken : List (List ℕ)) (m : List ℕ) → (client_so_far a taken).met ≡ None
-    → client_so_far a (taken ++ m ∷ []) ≡ client_after (course a) (client_so_far a taken).begun (is_signed m) (run_next a taken m) (apply_within (room (course a)) (client_so_far a taken).progress (run_next a taken m).updates)
+    → client_so_far a (taken ++ m ∷ []) ≡ client_after (course a) (client_so_far a taken).begun (run_next a taken m) (apply_within (room (course a)) (client_so_far a taken).progress (run_next a taken m).updates)
 unfolding checked_so_far
 client_taken a taken m unmet =
     let cl : Client = client_so_far a taken in
     let r : Run = run_next a taken m in
-    client_next a taken m ∙ ap (λ o. if is_some o then cl else client_after (course a) cl.begun (is_signed m) r (apply_within (room (course a)) cl.progress r.updates)) unmet
+    client_next a taken m ∙ ap (λ o. if is_some o then cl else client_after (course a) cl.begun r (apply_within (room (course a)) cl.progress r.updates)) unmet
 
 -- a message that is refused by itself
 pub record Refused (a : Asking) (taken : List (List ℕ)) (m : List ℕ) (f : Fault) : Type 0 where
@@ -105,8 +82,8 @@ message_refused a taken m f unmet h =
     let cl : Client = client_so_far a taken in
     let bad : Run = record { place = cl.place; updates = []; fault = Some f } in
     let r : run_next a taken m ≡ bad = ap (λ o. run_items a.mode cl.place (items_unless (checked_so_far m).message.answers o)) h in
-    let next : client_so_far a (taken ++ m ∷ []) ≡ client_after (course a) cl.begun (is_signed m) bad (record { progress = cl.progress; halt = None }) =
-    client_taken a taken m unmet ∙ ap (λ x. client_after (course a) cl.begun (is_signed m) x (apply_within (room (course a)) cl.progress x.updates)) r in
+    let next : client_so_far a (taken ++ m ∷ []) ≡ client_after (course a) cl.begun bad (record { progress = cl.progress; halt = None }) =
+    client_taken a taken m unmet ∙ ap (λ x. client_after (course a) cl.begun x (apply_within (room (course a)) cl.progress x.updates)) r in
     record { met = ap (λ x. x.met) next; progress = ap (λ x. x.progress) next }
 
 -- a message that is read: its run is what its records make
@@ -120,13 +97,13 @@ pub record Moves (a : Asking) (taken : List (List ℕ)) (m : List ℕ) (r : Run)
   pub begun : (client_so_far a (taken ++ m ∷ [])).begun ≡ true
   pub place : (client_so_far a (taken ++ m ∷ [])).place ≡ r.place
   pub progress : (client_so_far a (taken ++ m ∷ [])).progress ≡ h.progress
-  pub met : (client_so_far a (taken ++ m ∷ [])).met ≡ met_after (course a) h.halt r.fault None (is_at_end r.place) true
+  pub met : (client_so_far a (taken ++ m ∷ [])).met ≡ met_after (course a) h.halt r.fault None (is_at_end r.place)
   pub behind : IsBehind r.place
 
 pub message_moves : (a : Asking) (taken : List (List ℕ)) (m : List ℕ) → a.mode ≡ Axfr → (client_so_far a taken).met ≡ None → IsUnderWay (client_so_far a taken).begun (client_so_far a taken).place
-    → request_fault (asked_id a) (asked_question a) (not (client_so_far a taken).begun) (checked_so_far m).message ≡ None → is_signed m ≡ true
+    → request_fault (asked_id a) (asked_question a) (not (client_so_far a taken).begun) (checked_so_far m).message ≡ None
     → Moves a taken m (run_next a taken m) (apply_within (room (course a)) (client_so_far a taken).progress (run_next a taken m).updates)
-message_moves a taken m whole unmet way sound signed =
+message_moves a taken m whole unmet way sound =
     let cl : Client = client_so_far a taken in
     let r : Run = run_next a taken m in
     let h : Held = apply_within (room (course a)) cl.progress r.updates in
@@ -139,7 +116,6 @@ message_moves a taken m whole unmet way sound signed =
       place = ap (λ x. x.place) next;
       progress = ap (λ x. x.progress) next;
       met = ap (λ x. x.met) next
-          ∙ ap (λ o. met_after (course a) h.halt r.fault o (is_at_end r.place) (is_signed m)) (no_signal cl.begun r behind)
-          ∙ ap (λ b. met_after (course a) h.halt r.fault None (is_at_end r.place) b) signed;
+          ∙ ap (λ o. met_after (course a) h.halt r.fault o (is_at_end r.place)) (no_signal cl.begun r behind);
       behind = behind;
     }

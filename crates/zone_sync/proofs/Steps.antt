@@ -4,6 +4,7 @@ use Rattle.std.specs.Prelude.{nat_lt, ◌⊎◌, ◌==◌, ◌&&◌, IsOk, IfSom
 use Rattle.std.proofs.lemmas.Bool.{le-ltb, eq-eqb}
 use Rattle.zone_model.specs.Version.{Version}
 use Rattle.zone_model.specs.Commits.{Commit}
+use Rattle.zone_model.specs.Difference.{Difference}
 use Rattle.zone_model.specs.Session.{Session, with_pending, commits_after}
 use Rattle.zone_model.specs.Edits as edits
 use Rattle.zone_model.specs.Updates.{Update, Progress, UpdateFault, Edit, NotSoaRecord, AfterFinish, apply_update, after_refusal}
@@ -132,7 +133,7 @@ one_unnumbered base before u s handles g update a lacks ok =
 pub one_error : (base : Commit) (before : List Commit) (u v : Updating) (s t : Session) (handles now : List Commit) (g : Progress) (update : Update) (e : Error)
     → Ahead base before u s handles g → t.current ≡ s.current → now ≡ handles
     → IfSome (update_fault_of e) (λ why. (apply_update (progress_of u s g.committed) update ≡ Err why) × (progress_of v t g.committed ≡ after_refusal (progress_of u s g.committed) why))
-    → (◌≡◌ {A = Result Bool Error} (Err e) (Err errors.VersionsExhausted) → (lacks_number s.current.number update ≡ true) × IsOk (apply_update (progress_of u s g.committed) update))
+    → (◌≡◌ {A = Result (Option Difference) Error} (Err e) (Err errors.VersionsExhausted) → (lacks_number s.current.number update ≡ true) × IsOk (apply_update (progress_of u s g.committed) update))
     → TakesOne base before v t now g update (Err e)
 one_error base before u v s t handles now g update errors.Memory a c h refused exhausted = (made_still base before handles now s t g.committed a.made c h, inl refl)
 one_error base before u v s t handles now g update errors.VersionsExhausted a c h refused exhausted =
@@ -149,24 +150,24 @@ one_error base before u v s t handles now g update errors.NotSoaRecord a c h ref
 one_error base before u v s t handles now g update errors.Finished a c h refused exhausted =
     (made_still base before handles now s t g.committed a.made c h, inr (record { halt = Denied AfterFinish; halts = one_refused base before u s handles g update AfterFinish a refused.0; why = refl }))
 
--- an update that told of a commit, of which a handle was taken
-pub one_told : (base : Commit) (before : List Commit) (u v : Updating) (s r t : Session) (handles now : List Commit) (g : Progress) (update : Update) (told : Bool)
-    → Ahead base before u s handles g → told ≡ true → t.current ≡ r.current → t.pending ≡ r.pending → r.current ≡ next_commit told s.current r.current.version
-    → told ≡ commits update → lacks_number s.current.number update ≡ false → now ≡ handles ++ r.current ∷ []
-    → apply_update (progress_of u s g.committed) update ≡ Ok (progress_of v r (g.committed ++ new_version told r)) → DoesOne base before v t now g update
-one_told base before u v s r t handles now g update told a is same pending next commit number h ok =
+-- an update that committed, of which a handle was taken
+pub one_told : (base : Commit) (before : List Commit) (u v : Updating) (s r t : Session) (handles now : List Commit) (g : Progress) (update : Update)
+    → Ahead base before u s handles g → commits update ≡ true → t.current ≡ r.current → t.pending ≡ r.pending
+    → r.current ≡ next_commit (commits update) s.current r.current.version → lacks_number s.current.number update ≡ false → now ≡ handles ++ r.current ∷ []
+    → apply_update (progress_of u s g.committed) update ≡ Ok (progress_of v r (g.committed ++ new_version (commits update) r)) → DoesOne base before v t now g update
+one_told base before u v s r t handles now g update a is same pending next number h ok =
     one_committed base before u v s t handles now g update a
     (same ∙ next ∙ ap (λ b. next_commit b s.current r.current.version) is ∙ ap (λ (c : Commit). record { number = s.current.number + 1; version = c.version }) (sym same))
-    (h ∙ ap (λ c. handles ++ c ∷ []) (sym same)) (sym commit ∙ is) number
+    (h ∙ ap (λ c. handles ++ c ∷ []) (sym same)) is number
     (ok ∙ ap (λ b. Ok (progress_of v r (g.committed ++ new_version b r))) is
     ∙ ap (λ (x : Version). Ok (record { committed = g.committed ++ x ∷ []; pending = r.pending; replacing = v.replacing; finished = v.finished })) (ap (λ (c : Commit). c.version) (sym same))
     ∙ ap (λ (x : Version). Ok (record { committed = g.committed ++ t.current.version ∷ []; pending = x; replacing = v.replacing; finished = v.finished })) (sym pending))
 
--- .. and one that told of none
-pub one_untold : (base : Commit) (before : List Commit) (u v : Updating) (s t : Session) (handles now : List Commit) (g : Progress) (update : Update) (told : Bool)
-    → Ahead base before u s handles g → told ≡ false → t.current ≡ next_commit told s.current t.current.version → now ≡ handles
-    → apply_update (progress_of u s g.committed) update ≡ Ok (progress_of v t (g.committed ++ new_version told t)) → DoesOne base before v t now g update
-one_untold base before u v s t handles now g update told a is next h ok =
+-- .. and one that didn't
+pub one_untold : (base : Commit) (before : List Commit) (u v : Updating) (s t : Session) (handles now : List Commit) (g : Progress) (update : Update)
+    → Ahead base before u s handles g → commits update ≡ false → t.current ≡ next_commit (commits update) s.current t.current.version → now ≡ handles
+    → apply_update (progress_of u s g.committed) update ≡ Ok (progress_of v t (g.committed ++ new_version (commits update) t)) → DoesOne base before v t now g update
+one_untold base before u v s t handles now g update a is next h ok =
     one_edited base before u v s t handles now g update a (next ∙ ap (λ b. next_commit b s.current t.current.version) is) h
     (ok ∙ ap (λ b. Ok (progress_of v t (g.committed ++ new_version b t))) is)
 
@@ -177,15 +178,15 @@ wish_stays s = inl (refl, refl)
 
 pub wish_on : (s t u : Session) → KeepsWish s t → KeepsWish t u → KeepsWish s u
 wish_on s t u (inl h) (inl k) = inl (k.0 ∙ h.0, k.1 ∙ h.1)
-wish_on s t u (inl h) (inr k) = inr (subst (λ (c : Commit). c.number < u.current.number) h.0 k.0, k.1)
-wish_on s t u (inr h) (inl k) = inr (subst (λ (c : Commit). s.current.number < c.number) (sym k.0) h.0, k.1 ∙ h.1)
-wish_on s t u (inr h) (inr k) = let p = h.0 in let q = k.0 in inr (omega (arith, p, q), k.1)
+wish_on s t u (inl h) (inr k) = inr (subst (λ (c : Commit). c.number < u.current.number) h.0 k)
+wish_on s t u (inr h) (inl k) = inr (subst (λ (c : Commit). s.current.number < c.number) (sym k.0) h)
+wish_on s t u (inr h) (inr k) = let p = h in let q = k in inr (omega (arith, p, q))
 
--- an update that told of a commit leaves none, and one that told of none leaves it
-pub wish_told : (s r t : Session) (told : Bool) → told ≡ true → r.current ≡ next_commit told s.current r.current.version → (told ≡ true → r.compares ≡ false) → t.current ≡ r.current → t.compares ≡ r.compares → KeepsWish s t
-wish_told s r t told is next none same compares =
+-- an update that commits counts on, and one that doesn't leaves the wish
+pub wish_told : (s r t : Session) (update : Update) → commits update ≡ true → r.current ≡ next_commit (commits update) s.current r.current.version → t.current ≡ r.current → KeepsWish s t
+wish_told s r t update is next same =
     let e : t.current.number ≡ s.current.number + 1 = ap (λ (c : Commit). c.number) (same ∙ next ∙ ap (λ b. next_commit b s.current r.current.version) is) in
-    inr (omega (arith, e), compares ∙ none is)
+    inr (omega (arith, e))
 
-pub wish_untold : (s t : Session) (told : Bool) → told ≡ false → (told ≡ false → t ≡ with_pending s t.pending) → KeepsWish s t
-wish_untold s t told is kept = let e = kept is in inl (ap (λ (x : Session). x.current) e, ap (λ (x : Session). x.compares) e)
+pub wish_untold : (s t : Session) (update : Update) → commits update ≡ false → (commits update ≡ false → t ≡ with_pending s t.pending) → KeepsWish s t
+wish_untold s t update is kept = let e = kept is in inl (ap (λ (x : Session). x.current) e, ap (λ (x : Session). x.compares) e)

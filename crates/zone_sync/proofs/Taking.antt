@@ -28,7 +28,7 @@ use Rattle.zone_sync.specs.declared.outcome.SyncOk.TheVariants as done
 use Rattle.zone_sync.specs.declared.outcome.SyncError.{SyncError}
 use Rattle.zone_sync.specs.declared.outcome.SyncError.TheVariants as why
 use Rattle.zone_sync.proofs.Places.{IsBehind, way_behind}
-use Rattle.zone_sync.proofs.Standings.{course, run_next, run_read, checked_message, message_refused, Moves, message_moves, one_passed, passing_is_signed}
+use Rattle.zone_sync.proofs.Standings.{course, run_next, run_read, checked_message, message_refused, Moves, message_moves, one_passed}
 
 -- an outcome that a message's own text brings
 abbrev pub IsOwn : Outcome → Type 0
@@ -108,11 +108,11 @@ message_reads a x s before handles taken m message q i rest whole st ck (none, r
       run = reads.run ∙ run;
       no_retry = reads.no_retry;
       stands = reads.stands ∙ ap (λ (r : Run). record { begun = true; place = r.place; signalled = false }) run;
-      moves = message_moves a taken m whole st.unmet st.under_way sound (passing_is_signed a taken m ck.sound);
+      moves = message_moves a taken m whole st.unmet st.under_way sound;
     }
 
 -- what ends its updates early is its outcome
-cause_met : (a : Asking) (h : Option Halt) (f : Option Fault) (ended : Bool) (e : SyncError) → IsCause h f e → (o : Outcome) × ((refusal_outcome e ≡ Some o) × (IsOwn o) × (met_after (course a) h f None ended true ≡ Some o))
+cause_met : (a : Asking) (h : Option Halt) (f : Option Fault) (ended : Bool) (e : SyncError) → IsCause h f e → (o : Outcome) × ((refusal_outcome e ≡ Some o) × (IsOwn o) × (met_after (course a) h f None ended ≡ Some o))
 cause_met a (Some NoNumber) f ended e c = (VersionsExhausted, (c, tt, refl))
 cause_met a (Some (Denied d)) f ended e c = (halt_outcome (Denied d), (c, own_halt d, refl))
   where
@@ -142,7 +142,7 @@ updates_stop a s before handles taken m message q i rest u e ck rd (inr (made, c
 
 -- all updates were done: the client stands on, or the text has ended
 pub record DoneSo (a : Asking) (taken : List (List ℕ)) (m : List ℕ) (before handles : List Commit) (s : Session) (u : Updating) (ended : Bool) : Type 0 where
-  pub met : (client_so_far a (taken ++ m ∷ [])).met ≡ met_after (course a) None None None ended true
+  pub met : (client_so_far a (taken ++ m ∷ [])).met ≡ met_after (course a) None None None ended
   pub ahead : Ahead a.base before u s handles (client_so_far a (taken ++ m ∷ [])).progress
 
 pub updates_done : (a : Asking) (s : Session) (before handles : List Commit) (taken : List (List ℕ)) (m : List ℕ) (i : Interpreting) (rest : Rest) (u : Updating)
@@ -157,7 +157,7 @@ updates_done a s before handles taken m i rest u rd (halt, fault, ahead) =
     let faultless : r.fault ≡ None = ap (λ (x : Run). x.fault) (sym rd.run) ∙ fault in
     let ahead_so : Ahead a.base before u s handles h.progress = subst (λ (x : Run). Ahead a.base before u s handles (apply_within limit p x.updates).progress) rd.run ahead in
     record {
-      met = rd.moves.met ∙ ap (λ o. met_after (course a) o r.fault None (is_at_end r.place) true) halted ∙ ap (λ o. met_after (course a) None o None (is_at_end r.place) true) faultless;
+      met = rd.moves.met ∙ ap (λ o. met_after (course a) o r.fault None (is_at_end r.place)) halted ∙ ap (λ o. met_after (course a) None o None (is_at_end r.place)) faultless;
       ahead = subst (λ (x : Progress). Ahead a.base before u s handles x) (sym rd.moves.progress) ahead_so;
     }
 
@@ -166,7 +166,7 @@ pub text_ends : (a : Asking) (s : Session) (before handles : List Commit) (taken
     → ChecksReply a taken m message q → DoneSo a taken m before handles s u ended → ended ≡ true
     → ((o : Outcome) × ((outcome_of (Ok done.Updated) ≡ Some o) × Meets a taken m o)) × HasMade a.base before s handles (client_so_far a (taken ++ m ∷ [])).progress.committed
 text_ends a s before handles taken m message q u ended ck d e =
-    ((Updated, (refl, record { headed = ck.headed; sound = ck.sound; met = d.met ∙ ap (λ b. met_after (course a) None None None b true) e })), d.ahead.made)
+    ((Updated, (refl, record { headed = ck.headed; sound = ck.sound; met = d.met ∙ ap (λ b. met_after (course a) None None None b) e })), d.ahead.made)
 
 -- .. or goes on
 pub text_goes_on : (a : Asking) (x : Exchange) (s t : Session) (before handles now : List Commit) (taken : List (List ℕ)) (m message : List ℕ) (y : Exchange) (rest : Rest)
@@ -182,7 +182,7 @@ text_goes_on a x s t before handles now taken m message y rest st ck rd d e id q
       question = question ∙ st.question;
       interpreter = rd.stands ∙ ap (λ (p : Place). record { begun = true; place = p; signalled = false }) (sym rd.moves.place) ∙ ap (λ (b : Bool). record { begun = b; place = next.place; signalled = false }) (sym rd.moves.begun);
       under_way = subst (λ b. IsUnderWay b next.place) (sym rd.moves.begun) (subst (λ p. IsUnderWay true p) (sym rd.moves.place) (way_behind (run_next a taken m).place rd.moves.behind e));
-      unmet = d.met ∙ ap (λ b. met_after (course a) None None None b true) e;
+      unmet = d.met ∙ ap (λ b. met_after (course a) None None None b) e;
       ahead = d.ahead;
       passed = one_passed (fault_so_far a) taken m st.passed ck.sound ck.headed;
     }

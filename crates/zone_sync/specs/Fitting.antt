@@ -23,13 +23,13 @@ use Rattle.zone_sync.specs.SoFar.{Asking, asked_octets, course_so_far}
 abbrev pub answer_room : Asking → ℕ
 answer_room a = page_room (taken_message (asked_octets a)) (65535 - compose_len a.key)
 
--- the message that answers the request with a page of a text
-abbrev pub answer_with : Asking → List Record → Message
-answer_with a page = page_answer (taken_message (asked_octets a)) page
+-- the messages that answer the request with the pages of a text
+abbrev pub page_answers : Asking → List (List Record) → List Message
+page_answers a pages = map (page_answer (taken_message (asked_octets a))) pages
 
--- what a granting primary sends at a moment: a message for each page, signed in sequence
+-- what a granting primary sends at a moment: these messages, signed in sequence
 abbrev pub sent_whole : Asking → ℕ → List (List Record) → List (List ℕ)
-sent_whole a at pages = signed_answers a.key (mac_in (asked_octets a)) at 300 (map (λ page. message_wire (answer_with a page)) pages)
+sent_whole a at pages = signed_answers a.key (mac_in (asked_octets a)) at 300 (map message_wire (page_answers a pages))
 
 -- a secondary that asks, and the moment and the version of a primary, which fit each other; its messages hold one record each, or as many as have room
 pub record Fits (a : Asking) (at : ℕ) (compatibility : Bool) (v : Version) : Type 0 where

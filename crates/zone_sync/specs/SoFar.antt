@@ -1,7 +1,7 @@
--- A transfer as far as it is built: a client takes no unsigned answer after the first (RFC 8945, 5.3.1).
+-- A transfer as far as it is built: what is asked, what is checked of the replies, and the course that they make (RFC 8945, 5.3; RFC 5936, 2.2).
 use Rattle.std.specs.Prelude.{ℕ, ◌<◌, length, ◌%◌, ◌^◌, Bool, false, not, List, [], ◌∷◌, map, Option, unwrap_or}
 use Rattle.dns_wire.specs.Wire.{header_in, header_of, Question, same_question, Message, message_wire}
-use Rattle.tsig_port.specs.Tsig.{TsigKey, request_tsig, signed_request, is_signed}
+use Rattle.tsig_port.specs.Tsig.{TsigKey, request_tsig, signed_request}
 use Rattle.tsig_port.specs.Checked.{answer_fault, taken_message, passing, first_fault}
 use Rattle.tsig_port.specs.declared.errors.ValidationError.{ValidationError}
 use Rattle.zone_model.specs.Commits.{Commit}
@@ -71,11 +71,11 @@ message_so_far octets = unwrap_or (message_of octets) (header_alone octets)
 
 -- a checked message as it is read: after it was taken, without its TSIG and with its original id
 unfoldable pub checked_so_far : List ℕ → Checked
-checked_so_far m = record { message = message_so_far (taken_message m); signed = is_signed m }
+checked_so_far m = record { message = message_so_far (taken_message m) }
 
 -- the first test that an answer fails after those taken before it
 unfoldable pub fault_so_far : Asking → List (List ℕ) → List ℕ → Option ValidationError
-fault_so_far a taken m = answer_fault 0 a.key (asked_mac a) a.at taken m
+fault_so_far a taken m = answer_fault a.key (asked_mac a) a.at taken m
 
 -- ---- the course
 

@@ -9,7 +9,7 @@ use Rattle.zone_model.specs.Commits.{Commit}
 use Rattle.zone_model.specs.Session.{Session}
 use Rattle.zone_model.specs.Updates.{Update, Progress}
 use Rattle.zone_model.specs.TransferText.{Mode}
-use Rattle.xfr_model.specs.Machine.{Place, AtStart, AtSecond, InWhole, InDeletes, InAdds, AtEnd}
+use Rattle.xfr_model.specs.Machine.{Place, AtStart, InWhole}
 use Rattle.xfr_course.specs.Outcome.{Outcome, Updated, UpToDate, Ended, Tsig, Short}
 use Rattle.xfr_course.specs.Client.{run_message}
 use Rattle.xfr_course.specs.Courses.{has_header}
@@ -42,8 +42,6 @@ pub record Passed (fault : List (List ℕ) → List ℕ → Option ValidationErr
 abbrev pub IsUnderWay : Bool → Place → Type 0
 IsUnderWay false AtStart = Unit {0}
 IsUnderWay true (InWhole first) = Unit {0}
-IsUnderWay true (InDeletes first) = Unit {0}
-IsUnderWay true (InAdds first) = Unit {0}
 IsUnderWay _ _ = ⊥
 
 -- an exchange stands for the replies taken so far: signatures, place in the text, and updates done

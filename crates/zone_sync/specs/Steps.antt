@@ -30,11 +30,13 @@ pub record HasMade (base : Commit) (before : List Commit) (s : Session) (handles
   pub current : s.current ≡ commit_after base versions
   pub behind : handles ≡ before ++ commits_after base versions
 
--- the wish for a difference: as before where no version was committed between, else there is none
+-- nothing was committed, and a difference is wanted as before
+abbrev pub StaysStill : Session → Session → Type 0
+StaysStill old new = (new.current ≡ old.current) × (new.compares ≡ old.compares)
+
+-- the wish for a difference: as before, or a version was committed between
 abbrev pub KeepsWish : Session → Session → Type 0
-KeepsWish old new =
-    ((new.current ≡ old.current) × (new.compares ≡ old.compares))
-    ⊎ ((old.current.number < new.current.number) × (new.compares ≡ false))
+KeepsWish old new = StaysStill old new ⊎ (old.current.number < new.current.number)
 
 -- an updater and its session have come to this progress
 pub record Ahead (base : Commit) (before : List Commit) (u : Updating) (s : Session) (handles : List Commit) (g : Progress) : Type 0 where

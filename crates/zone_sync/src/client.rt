@@ -13,7 +13,7 @@ ghost use Rattle.zone_sync.specs.Modes.{mode_of};
 ghost use Rattle.zone_sync.specs.SoFar.{Asking, asked_octets, asked_mac, asked_id, asked_question, message_so_far, asking, asks_other, IsTooLong};
 ghost use Rattle.zone_sync.specs.Standing.{asking_of, Stands, TakesReply, ExchangeStands, IsUnderWay};
 ghost use Rattle.zone_sync.specs.Replies.{AnswersReply, AnswersRequest, IsAnswerTo, TestsReply, TakesMessage};
-ghost use Rattle.zone_sync.specs.Steps.{Ahead, KeepsWish, TakesOne, TakesAll};
+ghost use Rattle.zone_sync.specs.Steps.{Ahead, KeepsWish, StaysStill, TakesOne, TakesAll};
 
 use crate::outcome::{SyncError, SyncOk};
 use dns_name::{KeyName, Labelled, ParsedName, Rtype, ToName};
@@ -21,7 +21,7 @@ use dns_rdata::ReadRecord;
 use dns_wire::{AdditionalBuilder, Header, MessageBuf, MessageBuilder, PushError, Question};
 use std::alloc::Global;
 use std::marker::Model;
-use tsig_port::{ClientSequence, Key, Time48, ValidationError};
+use tsig_port::{ClientSequence, Key, Time48};
 use xfr_client::{
     XfrResponseInterpreter, XfrZoneUpdateIterator, ZoneUpdate, ZoneUpdater, protocol, update,
 };
@@ -165,8 +165,11 @@ impl XfrClient {
         ensures pending { result ≢ Ok None → session.new.pending ≡ session.new.current.version }
         // .. and no difference is wanted of the next commit.
         ensures wish { result ≢ Ok None → session.new.compares ≡ false }
-        // In between one is wanted as before, until a version is committed.
+        // In between one is wanted as before, where no version was committed ..
         ensures keeps { result ≡ Ok None → KeepsWish session.old session.new }
+        // .. and of the replies of a whole text none is before its end.
+        ensures still { (base : Commit) (taken : List (List ℕ)) (before : List Commit) → result ≡ Ok None → Stands self.old session.old (asking_of self.old base) taken before made.old.items
+            → StaysStill session.old session.new }
     {
         let Some(mut exchange) = self.exchange.take() else {
             unreachable!()
@@ -212,8 +215,7 @@ impl Exchange {
         }
     }
 
-    /// A reply that has a header, and whose signature passes the tests after those taken before; it loses its TSIG. An unsigned one
-    /// is refused, though the sequence takes it: a transfer's replies are each to be covered as they are applied (RFC 8945, 5.3.1).
+    /// A reply that has a header, and whose signature passes the tests after those taken before; it loses its TSIG.
     fn checked(&mut self, octets: Vec<u8>, at: Time48) -> Result<MessageBuf, SyncError>
         ensures answers { (a : Asking) (taken : List (List ℕ)) → a.at ≡ at → self.old.sequence.key ≡ a.key → ClientStands (λ k. k) self.old.sequence (asked_mac a) taken
             → AnswersReply a taken octets.items self.new.sequence result }
@@ -221,9 +223,6 @@ impl Exchange {
     {
         let mut message = MessageBuf::from_octets(octets)?;
         self.sequence.answer(&mut message, at)?;
-        if self.sequence.unsigned() > 0 {
-            return Err(SyncError::Tsig(ValidationError::TooManyUnsigned));
-        }
         Ok(message)
     }
 
@@ -312,7 +311,8 @@ fn apply_all<R>(
     Ok(())
 }
 
-/// Applies one update, and adds a handle for the version that it commits, for which there is room beforehand.
+/// Applies one update, and adds a handle for the version that it commits, for which there is room beforehand. What a commit tells isn't
+/// looked at.
 fn apply_one<R>(
     rt: &R,
     session: &mut WriteZone<'_>,
@@ -328,7 +328,10 @@ fn apply_one<R>(
         drop(update);
         return Err(update::Error::Memory);
     }
-    if updater.apply(rt, session, update)? {
+    let commits = update.commits();
+    let told = updater.apply(rt, session, update)?;
+    drop(told);
+    if commits {
         let Ok(handle) = session.handle() else {
             unreachable!()
         };

@@ -9,3 +9,4 @@ mod Distinct
 mod Sound
 pub mod NodeEdits
 pub mod NextSerial
+mod Adding

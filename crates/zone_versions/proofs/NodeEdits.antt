@@ -116,13 +116,15 @@ put_at_is v owner rtype s = by (length s.items == 0)
     by true = refl
     by false = refl
 
-pub glue_is : (v : Version) (r : Record) → with_sets v (put_with (opening_set r.ttl r.fields false) (fold r.owner, r.rtype) v.sets) ≡ with_glue v r
+pub glue_is : (v : Version) (r : Record) → has_data v r ≡ false → with_sets v (put_with (opening_set r.ttl r.fields) (fold r.owner, r.rtype) v.sets) ≡ with_glue v r
 glue_is v r = by (set_at v r.owner r.rtype)
   where
-    by : (o : Option RecordSet) → with_sets v (insert_entry key_cmp v.sets (fold r.owner, r.rtype) (opening_set r.ttl r.fields false o))
+    by : (o : Option RecordSet) → list_any (same_data r.fields) (option_map_or (λ (s : RecordSet). s.items) o []) ≡ false → with_sets v (insert_entry key_cmp v.sets (fold r.owner, r.rtype) (opening_set r.ttl r.fields o))
         ≡ put_set v r.owner r.rtype (record { ttl = option_map_or (λ (s : RecordSet). min s.ttl r.ttl) o r.ttl; items = option_map_or (λ (s : RecordSet). s.items) o [] ++ r.fields ∷ [] })
-    by None = put_some v r.owner r.rtype (record { ttl = r.ttl; items = r.fields ∷ [] }) refl
-    by (Some s) = put_some v r.owner r.rtype (record { ttl = min s.ttl r.ttl; items = s.items ++ r.fields ∷ [] }) (pushed_some s.items r.fields)
+    by None h = put_some v r.owner r.rtype (record { ttl = r.ttl; items = r.fields ∷ [] }) refl
+    by (Some s) h =
+        ap (λ (b : Bool). with_sets v (insert_entry key_cmp v.sets (fold r.owner, r.rtype) (record { ttl = min s.ttl r.ttl; items = if b then s.items else s.items ++ r.fields ∷ [] }))) h
+        ∙ put_some v r.owner r.rtype (record { ttl = min s.ttl r.ttl; items = s.items ++ r.fields ∷ [] }) (pushed_some s.items r.fields)
 
 -- ---- one value
 

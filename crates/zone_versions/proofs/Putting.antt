@@ -7,7 +7,7 @@ use Rattle.dns_name.specs.Names.{Name, fold}
 use Rattle.dns_rdata.specs.Records.{Field, Record, same_data}
 use Rattle.zone_model.specs.Version.{RecordSet, Version, key_cmp, set_in}
 use Rattle.zone_model.specs.Classify.{lowest_ttl}
-use Rattle.zone_model.specs.Edits.{with_sets, remove_set, put_set, has_data}
+use Rattle.zone_model.specs.Edits.{with_sets, remove_set, put_set}
 use Rattle.zone_sets.specs.SetEdits.{put_with, last_set, opening_set}
 use Rattle.zone_sets.proofs.Thinning.{suc_not}
 use Rattle.zone_versions.specs.Puts.{appended, opened_by}
@@ -36,14 +36,15 @@ abbrev items_of : Option RecordSet → List (List Field)
 items_of o = option_map_or (λ (t : RecordSet). t.items) o []
 
 -- an opening record in a version
-pub opened_is : (v : Version) (r : Record) → with_sets v (put_with (opening_set r.ttl r.fields (has_data v r)) (fold r.owner, r.rtype) v.sets) ≡ opened_by v r
+pub opened_is : (v : Version) (r : Record) → with_sets v (put_with (opening_set r.ttl r.fields) (fold r.owner, r.rtype) v.sets) ≡ opened_by v r
 opened_is v r = by (set_in v.sets (fold r.owner, r.rtype))
   where
-    some : (s : RecordSet) (b : Bool) → list_any (same_data r.fields) s.items ≡ b → with_sets v (insert_entry key_cmp v.sets (fold r.owner, r.rtype) (opening_set r.ttl r.fields b (Some s))) ≡ put_set v r.owner r.rtype (record { ttl = min s.ttl r.ttl; items = if b then s.items else s.items ++ r.fields ∷ [] })
+    some : (s : RecordSet) (b : Bool) → list_any (same_data r.fields) s.items ≡ b → with_sets v (insert_entry key_cmp v.sets (fold r.owner, r.rtype) (record { ttl = min s.ttl r.ttl; items = if b then s.items else s.items ++ r.fields ∷ [] }))
+        ≡ put_set v r.owner r.rtype (record { ttl = min s.ttl r.ttl; items = if b then s.items else s.items ++ r.fields ∷ [] })
     some s true h = put_some v r.owner r.rtype (record { ttl = min s.ttl r.ttl; items = s.items }) (any_some (same_data r.fields) s.items h)
     some s false h = put_some v r.owner r.rtype (record { ttl = min s.ttl r.ttl; items = s.items ++ r.fields ∷ [] }) (pushed_some s.items r.fields)
 
-    by : (o : Option RecordSet) → with_sets v (insert_entry key_cmp v.sets (fold r.owner, r.rtype) (opening_set r.ttl r.fields (list_any (same_data r.fields) (items_of o)) o))
+    by : (o : Option RecordSet) → with_sets v (insert_entry key_cmp v.sets (fold r.owner, r.rtype) (opening_set r.ttl r.fields o))
         ≡ put_set v r.owner r.rtype (record { ttl = lowest_ttl r o; items = if list_any (same_data r.fields) (items_of o) then items_of o else items_of o ++ r.fields ∷ [] })
     by None = put_some v r.owner r.rtype (record { ttl = r.ttl; items = r.fields ∷ [] }) refl
     by (Some s) = some s (list_any (same_data r.fields) s.items) refl

@@ -1,10 +1,15 @@
 -- What single edits make of a version (RFC 2136, 3.4.2; RFC 2181, 5.2).
-use Rattle.std.specs.Prelude.{ℕ, Bool, List, ◌++◌, ◌∷◌, [], not, ◌&&◌, filter, if◌then◌else◌}
+use Rattle.std.specs.Prelude.{◌≡◌, ℕ, Bool, List, ◌++◌, ◌∷◌, [], not, ◌&&◌, filter, if◌then◌else◌}
+use Rattle.dns_name.specs.Names.{fold}
 use Rattle.dns_name.specs.Codes.{type_soa}
 use Rattle.dns_rdata.specs.Records.{Field, Record, same_data}
-use Rattle.zone_model.specs.Version.{Version, set_at, data_at}
+use Rattle.zone_model.specs.Version.{Key, Version, set_at, data_at}
 use Rattle.zone_model.specs.Edits.{put_set, has_data, second_alias}
 use Rattle.zone_model.specs.Classify.{lowest_ttl}
+
+-- a record stands at a key: its folded owner and its type, with this TTL and these data
+abbrev pub StandsAt : Key → ℕ → List Field → Record → Type 0
+StandsAt k ttl fields r = ((fold r.owner, r.rtype) ≡ k) × (r.ttl ≡ ttl) × (r.fields ≡ fields)
 
 -- the version with a record's data last in its set, whose TTL is then the record's
 abbrev pub appended : Version → Record → Version

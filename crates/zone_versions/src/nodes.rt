@@ -97,8 +97,7 @@ impl ZoneVersion {
     {
         let key = SetKey::new(added.owner(), added.rtype());
         let ttl = added.ttl();
-        self.sets
-            .put_opening(alloc, key, ttl, added.into_data(), false)?;
+        self.sets.put_opening(alloc, key, ttl, added.into_data())?;
         Ok(())
     }
 

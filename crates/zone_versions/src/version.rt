@@ -1,5 +1,5 @@
 // One version of a zone: look-ups, the walk, and edits.
-ghost use Rattle.std.specs.Prelude.{◌≡◌, true, false, not, IsSome, ◌++◌, ◌∷◌, [], Some, None, Ok, Err, IfOk, IfErr, IfSome, OnOk, OnErr, IfNone, IsSomeAnd, is_some, option_copied, option_map, map, find, filter};
+ghost use Rattle.std.specs.Prelude.{◌≡◌, ◌==◌, ◌&&◌, true, false, not, IsOk, IsSome, ◌++◌, ◌∷◌, [], Some, None, Ok, Err, IfOk, IfErr, IfSome, OnOk, OnErr, IfNone, IsSomeAnd, is_some, option_copied, option_map, map, find, filter};
 ghost use Rattle.std.specs.List.{list_any};
 ghost use Rattle.dns_name.specs.Names.{fold, under};
 ghost use Rattle.zone_model.specs.Version.{IsValid, key_cmp, set_in, set_at, below_apex, is_cut};
@@ -7,26 +7,29 @@ ghost use Rattle.zone_model.specs.Classify.{opened_with};
 ghost use Rattle.zone_model.specs.Answer.{highest_cut};
 ghost use Rattle.zone_model.specs.Walk.{next_stop};
 ghost use Rattle.zone_versions.specs.Stops.{stop_of, first_stop, first_from};
-ghost use Rattle.zone_model.specs.Edits.{add, delete, with_sets};
+ghost use Rattle.zone_model.specs.Edits.{delete, with_sets};
 ghost use Rattle.zone_model.specs.Edits as edits;
 ghost use Rattle.zone_versions.specs.Causes.{refusal_of};
 ghost use Rattle.zone_versions.specs.Sound.{IsSound};
 ghost use Rattle.zone_versions.specs.Strays.{is_stray_at};
-ghost use Rattle.zone_versions.specs.Puts.{adds_alias, appended, without, with_soa};
+ghost use Rattle.zone_versions.specs.Puts.{StandsAt, adds_alias, appended, without, with_soa};
 ghost use Rattle.zone_sets.specs.TypedEntries.{item_of, entry_of, typed, typed_set_in};
 ghost use Rattle.std.specs.Map.{keys_of};
 ghost use Rattle.std.specs.Map.Iter.{deref_pair};
 ghost use Rattle.std.specs.Ordering.{is_lt};
+ghost use Rattle.dns_name.specs.Codes.{type_cname};
+ghost use Rattle.dns_rdata.specs.Records.{Record};
 ghost use Rattle.dns_rdata.specs.DataFields.{soa_fields};
+ghost use Rattle.dns_rdata.specs.ZoneData.{rtype_of, data_fields};
 
 use crate::errors::EditError;
 use crate::walk::WalkItem;
 use dns_name::{Class, KeyName, Labelled, NameRef, Rtype, StoredName, ToName, Ttl};
-use dns_rdata::{RecordData, Soa, StoredRecord, ZoneRecordData};
+use dns_rdata::{RecordData, Soa, StoredRecord, StoredRecordData, ZoneRecordData};
 use std::alloc::{AllocError, Global};
 use std::collections::btree_map::{Iter, Keys};
 use std::marker::Model;
-use zone_sets::{KeyedSets, RecordSet, SetKey};
+use zone_sets::{KeyedSets, PutError, RecordSet, SetKey};
 
 /// One version of a zone (RFC 1034, 4.2): the apex as it was given, the class, and the RRsets.
 #[derive(Drop)]
@@ -235,10 +238,10 @@ impl ZoneVersion {
     pub fn is_second_alias(&self, added: &StoredRecord) -> bool
         ensures { result ≡ edits.second_alias self.now added.now }
     {
-        if !self.is_below_apex(added.owner()) {
+        if added.rtype() != Rtype::CNAME {
             return false;
         }
-        if added.rtype() != Rtype::CNAME {
+        if !self.is_below_apex(added.owner()) {
             return false;
         }
         self.has_set(added.owner(), Rtype::CNAME)
@@ -258,20 +261,52 @@ impl ZoneVersion {
         !added.owner().ends_with(&self.apex)
     }
 
+    /// Whether a key's owner is the apex or below it.
+    fn is_in_zone(&self, key: &SetKey) -> bool
+        ensures { result ≡ under key.now.0 self.now.apex }
+    {
+        key.owner().ends_with(&self.apex)
+    }
+
+    /// Whether data of a key's type stand alone: below the apex a name has one CNAME record at most (RFC 2181, 10.1).
+    fn stands_alone(&self, key: &SetKey) -> bool
+        ensures { result ≡ (below_apex self.now key.now.0 && (key.now.1 == type_cname)) }
+    {
+        if key.rtype() != Rtype::CNAME {
+            return false;
+        }
+        self.is_below_apex(key.owner())
+    }
+
+    /// What refuses the data of a record at a key, whatever its TTL.
+    pub fn refusal_at(&self, key: &SetKey, item: &StoredRecordData) -> Option<EditError>
+        ensures refused { (r : Record) → StandsAt key.now r.ttl (data_fields item.now) r
+            → IfSome result (λ e. IsSomeAnd (refusal_of e) (λ why. edits.add self.now r ≡ Err why)) }
+        ensures accepted { (r : Record) → StandsAt key.now r.ttl (data_fields item.now) r → IfNone result (edits.add self.now r ≡ Ok (appended self.now r)) }
+    {
+        if !self.is_in_zone(key) {
+            return Some(EditError::OutOfZone);
+        }
+        match self.set_in(key) {
+            Some(set) => {
+                if set.contains(item) {
+                    Some(EditError::Incompatible)
+                } else if self.stands_alone(key) {
+                    Some(EditError::InvalidData)
+                } else {
+                    None
+                }
+            }
+            None => None,
+        }
+    }
+
     /// What refuses a record.
     pub fn refusal(&self, added: &StoredRecord) -> Option<EditError>
-        ensures refused { IfSome result (λ e. IsSomeAnd (refusal_of e) (λ why. add self.now added.now ≡ Err why)) }
-        ensures accepted { IfNone result (add self.now added.now ≡ Ok (appended self.now added.now)) }
+        ensures refused { IfSome result (λ e. IsSomeAnd (refusal_of e) (λ why. edits.add self.now added.now ≡ Err why)) }
+        ensures accepted { IfNone result (edits.add self.now added.now ≡ Ok (appended self.now added.now)) }
     {
-        if self.is_outside(added) {
-            Some(EditError::OutOfZone)
-        } else if self.has_data(added) {
-            Some(EditError::Incompatible)
-        } else if self.is_second_alias(added) {
-            Some(EditError::InvalidData)
-        } else {
-            None
-        }
+        self.refusal_at(&SetKey::new(added.owner(), added.rtype()), added.data())
     }
 
     /// What refuses the deletion of a record.
@@ -288,16 +323,35 @@ impl ZoneVersion {
         }
     }
 
-    /// Puts the data of a record that isn't refused last in its RRset, whose TTL is then the record's.
-    pub fn append(&mut self, alloc: Global, added: StoredRecord) -> Result<(), AllocError>
-        requires { add self.old added ≡ Ok (appended self.old added) }
-        ensures ok { OnOk result (self.new ≡ appended self.old added) }
+    /// Puts the data of a record last in its RRset, whose TTL is then the record's, in seconds, unless the record is refused. One search of the
+    /// RRsets. Want of memory is answered only for a record that isn't refused.
+    pub fn add(
+        &mut self,
+        alloc: Global,
+        key: SetKey,
+        ttl: Ttl,
+        item: StoredRecordData,
+    ) -> Result<(), EditError>
+        requires { rtype_of item ≡ key.1 }
+        ensures ok { (r : Record) → StandsAt key ttl (data_fields item) r → OnOk result (edits.add self.old r ≡ Ok self.new) }
+        ensures refused { (r : Record) → StandsAt key ttl (data_fields item) r
+            → IfErr result (λ e. IfSome (refusal_of e) (λ why. edits.add self.old r ≡ Err why)) }
+        ensures memory { (r : Record) → StandsAt key ttl (data_fields item) r → result ≡ Err EditError.Memory → IsOk (edits.add self.old r) }
         ensures err { OnErr result (self.new ≡ self.old) }
+        ensures folded { OnOk result (fold key.0 ≡ key.0) }
     {
-        let key = SetKey::new(added.owner(), added.rtype());
-        let ttl = added.ttl();
-        self.sets.put_last(alloc, key, ttl, added.into_data())?;
-        Ok(())
+        if !self.is_in_zone(&key) {
+            drop(item);
+            drop(key);
+            return Err(EditError::OutOfZone);
+        }
+        let alone = self.stands_alone(&key);
+        match self.sets.put_new(alloc, key, ttl, item, alone) {
+            Ok(()) => Ok(()),
+            Err(PutError::Equal) => Err(EditError::Incompatible),
+            Err(PutError::Second) => Err(EditError::InvalidData),
+            Err(PutError::Memory) => Err(EditError::Memory),
+        }
     }
 
     /// Takes the data of a record that isn't refused out of its RRset, whose TTL is then the record's; an emptied RRset goes.
@@ -316,11 +370,9 @@ impl ZoneVersion {
         ensures ok { OnOk result (self.new ≡ opened_with self.old added) }
         ensures err { OnErr result (self.new ≡ self.old) }
     {
-        let had = self.has_data(&added);
         let key = SetKey::new(added.owner(), added.rtype());
         let ttl = added.ttl();
-        self.sets
-            .put_opening(alloc, key, ttl, added.into_data(), had)?;
+        self.sets.put_opening(alloc, key, ttl, added.into_data())?;
         Ok(())
     }
 

@@ -14,7 +14,7 @@ open_with-requires c = c.requires.item ∙ sym (found_own c.args.sets.now.entrie
 -- The set that stood is written anew, or stays.
 pub returns-in-Occupied-clause-ok : goal.returns-in-Occupied-clause-ok
 returns-in-Occupied-clause-ok c =
-    on_ok c.open_with.result _ _ c.open_with.ensures.ok (λ h. stood (opening_set c.args.ttl (data_fields c.args.item) c.args.had) c.args.key c.into_mut.result.now c.open_with.new.self c.args.sets.now.entries c.requires.types
+    on_ok c.open_with.result _ _ c.open_with.ensures.ok (λ h. stood (opening_set c.args.ttl (data_fields c.args.item)) c.args.key c.into_mut.result.now c.open_with.new.self c.args.sets.now.entries c.requires.types
     (sym c.into_mut.ensures.value ∙ ap entry_value (sym c.in-Occupied.is) ∙ c.in-Ok.ensures.value) h _ (search rules))
 
 pub returns-in-Occupied-clause-err : goal.returns-in-Occupied-clause-err
@@ -25,5 +25,5 @@ returns-in-Occupied-clause-err c =
 -- None stood there.
 pub returns-in_ok-of_one-in-Vacant-clause-ok : goal.returns-in_ok-of_one-in-Vacant-clause-ok
 returns-in_ok-of_one-in-Vacant-clause-ok c =
-    newly (opening_set c.args.ttl (data_fields c.args.item) c.args.had) c.args.key c.insert.result.now c.args.sets.now.entries (search rules)
+    newly (opening_set c.args.ttl (data_fields c.args.item)) c.args.key c.insert.result.now c.args.sets.now.entries (search rules)
     (c.insert.ensures.value ∙ c.in_ok-of_one-in-Vacant.ensures ∙ ap (λ (n : ℕ). set_of n c.args.ttl (data_fields c.args.item ∷ [])) c.requires.item) _ (search rules)

@@ -1,4 +1,4 @@
-use Rattle.std.proofs.Common.{◌≡◌, ◌∷◌, ◌++◌, [], ap, ◌∙◌}
+use Rattle.std.proofs.Common.{◌≡◌, ◌∷◌, ◌++◌, [], sym, ap, ◌∙◌}
 use Rattle.std.proofs.lemmas.Result.{err_from_is_err_and}
 use Rattle.xfr_client.specs.Causes.{update_of}
 use Rattle.zone_sync.proofs.Steps.{one_error, one_told, one_untold, wish_told, wish_untold}
@@ -12,21 +12,21 @@ returns-in_err-apply-clause-takes met c base before g a =
 
 pub returns-in-Ok-push-clause-takes : goal.returns-in-Ok-push-clause-takes
 returns-in-Ok-push-clause-takes met c base before g a =
-    one_told base before c.args.updater.now c.apply.new.self c.args.session.now c.apply.new.session c.handle.new.self c.args.made.now.items c.push.new.self.items g (update_of c.args.update) c.in_ok-apply.field-0
-    a c.if-branch.true (ap (λ x. x.current) c.handle.ensures.same) (ap (λ x. x.pending) c.handle.ensures.same)
-    c.in_ok-apply.ensures.current c.in_ok-apply.ensures.told c.in_ok-apply.ensures.numbered
+    one_told base before c.args.updater.now c.apply.new.self c.args.session.now c.apply.new.session c.handle.new.self c.args.made.now.items c.push.new.self.items g (update_of c.args.update)
+    a (sym c.commits.ensures ∙ c.if-commits.true) (ap (λ x. x.current) c.handle.ensures.same) (ap (λ x. x.pending) c.handle.ensures.same)
+    c.in_ok-apply.ensures.current c.in_ok-apply.ensures.numbered
     (c.in-Ok-push.ensures.items ∙ ap (λ l. l ++ c.in-Ok.handle ∷ []) c.reserve.ensures.items ∙ ap (λ h. c.args.made.now.items ++ h ∷ []) c.in-Ok.ensures.current)
     (c.in_ok-apply.ensures.ok g.committed)
 
-pub returns-else-branch-clause-takes : goal.returns-else-branch-clause-takes
-returns-else-branch-clause-takes met c base before g a =
-    one_untold base before c.args.updater.now c.apply.new.self c.args.session.now c.apply.new.session c.args.made.now.items c.reserve.new.self.items g (update_of c.args.update) c.in_ok-apply.field-0
-    a c.if-branch.false c.in_ok-apply.ensures.current c.reserve.ensures.items (c.in_ok-apply.ensures.ok g.committed)
+pub returns-else-commits-clause-takes : goal.returns-else-commits-clause-takes
+returns-else-commits-clause-takes met c base before g a =
+    one_untold base before c.args.updater.now c.apply.new.self c.args.session.now c.apply.new.session c.args.made.now.items c.reserve.new.self.items g (update_of c.args.update)
+    a (sym c.commits.ensures ∙ c.if-commits.false) c.in_ok-apply.ensures.current c.reserve.ensures.items (c.in_ok-apply.ensures.ok g.committed)
 
 pub returns-in-Ok-push-clause-keeps : goal.returns-in-Ok-push-clause-keeps
 returns-in-Ok-push-clause-keeps met c =
-    wish_told c.args.session.now c.apply.new.session c.handle.new.self c.in_ok-apply.field-0 c.if-branch.true c.in_ok-apply.ensures.current c.in_ok-apply.ensures.wish
-    (ap (λ x. x.current) c.handle.ensures.same) (ap (λ x. x.compares) c.handle.ensures.same)
+    wish_told c.args.session.now c.apply.new.session c.handle.new.self (update_of c.args.update) (sym c.commits.ensures ∙ c.if-commits.true) c.in_ok-apply.ensures.current
+    (ap (λ x. x.current) c.handle.ensures.same)
 
-pub returns-else-branch-clause-keeps : goal.returns-else-branch-clause-keeps
-returns-else-branch-clause-keeps met c = wish_untold c.args.session.now c.apply.new.session c.in_ok-apply.field-0 c.if-branch.false c.in_ok-apply.ensures.kept
+pub returns-else-commits-clause-keeps : goal.returns-else-commits-clause-keeps
+returns-else-commits-clause-keeps met c = wish_untold c.args.session.now c.apply.new.session (update_of c.args.update) (sym c.commits.ensures ∙ c.if-commits.false) c.in_ok-apply.ensures.kept

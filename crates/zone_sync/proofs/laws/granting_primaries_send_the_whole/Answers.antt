@@ -6,5 +6,5 @@ use Rattle.zone_sync.proofs.laws.granting_primaries_send_the_whole.Goals as goal
 
 pub returns : goal.returns
 returns g c = λ next provider keys a at offer sent o f.
-    whole_sent _ g.KS.Key.KeyRef.the_key (g.KS.KeyStore.key_of keys) (g.N.Service.Sends next) (g.X.XfrDataProvider.told provider) (request_at (asked_octets a) at) a.key offer f.pages sent
+    whole_sent _ g.KS.Key.KeyRef.the_key (g.KS.KeyStore.key_of keys) (g.N.Service.Sends next) (g.X.XfrDataProvider.told provider) (request_at (asked_octets a) at) a.key offer sent
     (granted g.KS.Key.KeyRef.the_key (g.KS.KeyStore.key_of keys) (g.X.XfrDataProvider.told provider) a at offer o f)

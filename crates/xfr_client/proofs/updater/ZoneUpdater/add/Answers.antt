@@ -1,6 +1,4 @@
-use Rattle.std.proofs.Common.{◌≡◌, true, Result, Ok, Err, List, sym, ap, ◌∙◌}
-use Rattle.std.proofs.lemmas.List.{append-nil}
-use Rattle.zone_model.specs.Version.{Version}
+use Rattle.std.proofs.Common.{◌≡◌, true, Result, Ok, Err, sym, ap, ◌∙◌}
 use Rattle.zone_model.specs.Session.{Session}
 use Rattle.zone_model.specs.Edits.{Incompatible, add}
 use Rattle.zone_model.specs.Updates.{Progress, UpdateFault}
@@ -13,10 +11,6 @@ returns-then-self-clause-ok c before fin =
     let u = c.args.self.now in
     let rep : u.replacing ≡ true = ap (λ v. v.replacing) (sym c.self.view_is) ∙ c.if-self.true in
     let said = rw c.in-Err-Incompatible.field-0-is at c.in-Err-Incompatible.ensures in
-    let refused : add c.args.session.now.pending c.args.added.now ≡ Err Incompatible
-    = ap (add c.args.session.now.pending) (sym c.in_ok-stored.ensures.ok) ∙ said.refused in
+    let refused : add c.args.session.now.pending c.args.added.now ≡ Err Incompatible = said.refused in
     let S : Session → Result Progress UpdateFault = λ s. Ok (progress_of u s before) in
-    let V : List Version → Result Progress UpdateFault = λ vs. Ok (progress_of u c.add_record.new.self vs) in
-    update_passed (progress_of u c.args.session.now before) c.args.added.now fin rep refused
-    ∙ ap S (sym c.in-Err-Incompatible.ensures.err)
-    ∙ ap V (sym (append-nil before))
+    update_passed (progress_of u c.args.session.now before) c.args.added.now fin rep refused ∙ ap S (sym c.in-Err-Incompatible.ensures.err)

@@ -10,4 +10,4 @@ invariant_of-self c =
     let v = c.self.inside.version.value in
     let base = c.self.inside.base.value.sets in
     covers_edit c.add_glue.result c.self.inside.touched c.note.new.self c.new-key.result (fold c.args.added.owner, c.args.added.rtype) base v c.add_glue.new.pending.value (add_glue v c.args.added) (c.new-key.ensures ∙ (λ i. (fold (c.owner.ensures i), c.rtype.ensures i))) c.in-Ok.ensures.ok c.add_glue.ensures.ok c.add_glue.ensures.err
-    (λ t h. covers_glue _ base v c.args.added t h) c.self.invariant
+    (λ all t h. covers_glue all base v c.args.added t h) c.self.invariant

@@ -12,4 +12,4 @@ invariant_of-self-2 c =
     let v = c.self.inside.version.value in
     let base = c.self.inside.base.value.sets in
     covers_edit c.bump.result c.self.inside.touched c.note.new.self c.new.result (fold v.apex, type_soa) base v c.bump.new.pending.value (bump c.deref-2.result.now v) (c.new.ensures ∙ (λ i. (fold ((c.apex.ensures ∙ ap (λ (x : Version). x.apex) c.deref.ensures) i), type_soa))) c.in_ok-note.ensures.ok c.bump.ensures.ok c.bump.ensures.err
-    (λ t h. covers_bump _ base c.deref-2.result.now v t h) c.self.invariant
+    (λ all t h. covers_bump all base c.deref-2.result.now v t h) c.self.invariant

@@ -5,10 +5,10 @@ use Rattle.zone_model.specs.Version.{Version}
 use Rattle.zone_model.specs.Edits.{close}
 use Rattle.zone_versions.specs.Strays.{is_stray_at}
 use Rattle.zone_versions.proofs.Closing.{closed_is}
-use Rattle.zone_changes.specs.Touched.{noted_all, stray_keys}
+use Rattle.zone_changes.specs.Touched.{noted_all, noted_all_in, stray_keys}
 use Rattle.zone_changes.specs.Drafts.{Drafted, with_version}
 use Rattle.zone_changes.proofs.Covering.{covers_close}
-use Rattle.zone_changes.proofs.Drafting.{covers_is}
+use Rattle.zone_changes.proofs.Drafting.{covers_in, covers_is}
 use Rattle.zone_changes.proofs.draft.Draft.close.Goals as goal
 
 -- Without a stray set, the version is closed.
@@ -21,10 +21,10 @@ returns-then-not-has_stray-clause-ok c =
 -- The stray sets go, and were noted.
 pub invariant_of-self-2 : goal.invariant_of-self-2
 invariant_of-self-2 c =
-    let keys = c.self.inside.touched in
+    let kept = c.self.inside.touched in
     let v = c.self.inside.version.value in
     let base = c.self.inside.base.value.sets in
-    covers_is (noted_all keys (stray_keys v)) c.note_strays.new.self base (close v) c.in_ok-closed-2.closed.value
-    (c.in_ok-note_strays.ensures.ok ∙ ap (λ (x : Version). noted_all keys (stray_keys x)) c.deref-3.ensures)
+    covers_is (noted_all_in kept (stray_keys v)) c.note_strays.new.self base (close v) c.in_ok-closed-2.closed.value
+    (c.in_ok-note_strays.ensures.ok ∙ ap (λ (x : Version). noted_all_in kept (stray_keys x)) c.deref-3.ensures)
     (c.in_ok-closed-2.ensures.ok ∙ c.in_ok-closed.ensures.is ∙ ap close c.deref-2.ensures)
-    (covers_close keys base v c.self.invariant)
+    (covers_in (λ keys. noted_all keys (stray_keys v)) kept base v.sets base (close v).sets (λ keys h. covers_close keys base v h) c.self.invariant)

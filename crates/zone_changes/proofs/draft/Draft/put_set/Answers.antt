@@ -9,4 +9,4 @@ invariant_of-self-2 c =
     let v = c.self.inside.version.value in
     let base = c.self.inside.base.value.sets in
     covers_edit c.put_set.result c.self.inside.touched c.note.new.self c.new.result (fold c.args.owner.now, c.args.set.rtype) base v c.put_set.new.pending.value _ (c.new.ensures ∙ ap (λ t. (fold c.args.owner.now, t)) c.rtype.ensures) c.in_ok-note.ensures.ok c.put_set.ensures.ok c.put_set.ensures.err
-    (λ t h. covers_put _ base v c.args.owner.now c.args.set.rtype c.args.set.contents t h) c.self.invariant
+    (λ all t h. covers_put all base v c.args.owner.now c.args.set.rtype c.args.set.contents t h) c.self.invariant

@@ -10,4 +10,4 @@ invariant_of-self-2 c =
     let v = c.self.inside.version.value in
     let base = c.self.inside.base.value.sets in
     covers_edit c.remove.result c.self.inside.touched c.note.new.self c.new.result (fold c.args.deleted.now.owner, c.args.deleted.now.rtype) base v c.remove.new.pending.value (without v c.args.deleted.now) (c.new.ensures ∙ (λ i. (fold (c.owner.ensures i), c.rtype.ensures i))) c.in_ok-note.ensures.ok c.remove.ensures.ok c.remove.ensures.err
-    (λ t h. covers_put _ base v c.args.deleted.now.owner c.args.deleted.now.rtype _ t h) c.self.invariant
+    (λ all t h. covers_put all base v c.args.deleted.now.owner c.args.deleted.now.rtype _ t h) c.self.invariant

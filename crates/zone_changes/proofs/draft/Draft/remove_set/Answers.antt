@@ -10,4 +10,4 @@ invariant_of-self-2 c =
     let v = c.self.inside.version.value in
     let base = c.self.inside.base.value.sets in
     covers_edit c.remove_set.result c.self.inside.touched c.note.new.self c.new.result (fold c.args.owner.now, c.args.rtype) base v c.remove_set.new.pending.value _ c.new.ensures c.in_ok-note.ensures.ok c.remove_set.ensures.ok c.remove_set.ensures.err
-    (λ t h. covers_remove_set _ base v c.args.owner.now c.args.rtype t h) c.self.invariant
+    (λ all t h. covers_remove_set all base v c.args.owner.now c.args.rtype t h) c.self.invariant

@@ -13,4 +13,4 @@ invariant_of-self-2 c =
     let v = c.self.inside.version.value in
     let base = c.self.inside.base.value.sets in
     covers_edit c.set_soa.result c.self.inside.touched c.note.new.self c.new.result (fold v.apex, type_soa) base v c.set_soa.new.pending.value (with_soa v c.args.ttl (soa_fields (λ n. n) c.args.soa)) (c.new.ensures ∙ (λ i. (fold ((c.apex.ensures ∙ ap (λ (x : Version). x.apex) c.deref.ensures) i), type_soa))) c.in_ok-note.ensures.ok c.set_soa.ensures.ok c.set_soa.ensures.err
-    (λ t h. covers_put _ base v v.apex type_soa (record { ttl = c.args.ttl; items = soa_fields (λ n. n) c.args.soa ∷ [] }) t h) c.self.invariant
+    (λ all t h. covers_put all base v v.apex type_soa (record { ttl = c.args.ttl; items = soa_fields (λ n. n) c.args.soa ∷ [] }) t h) c.self.invariant

@@ -1,9 +1,7 @@
 use Rattle.std.proofs.Common.{◌≡◌, ap, sym, subst, ◌∙◌}
 use Rattle.dns_name.specs.Names.{fold}
 use Rattle.zone_model.specs.Version.{Key, Sets}
-use Rattle.zone_sets.specs.SetEdits.{put_with, opening_set, items_at}
-use Rattle.std.specs.List.{list_any}
-use Rattle.dns_name.specs.Records.{same_data}
+use Rattle.zone_sets.specs.SetEdits.{put_with, opening_set}
 use Rattle.zone_records.specs.Parsed.{IsTidy}
 use Rattle.zone_records.specs.Taking.{put_to}
 use Rattle.zone_records.proofs.Tidy.{put_opening_is, put_tidy}
@@ -19,10 +17,8 @@ invariant_of-self-2 c =
     let sets = c.self.inside.sets in
     let r = c.args.found in
     let key : c.new-key.result ≡ (fold r.owner, r.rtype) = c.new-key.ensures ∙ (λ i. (fold (c.owner.ensures i), c.rtype.ensures i)) in
-    let had : c.has_item-had.result ≡ list_any (same_data r.fields) (items_at sets (fold r.owner, r.rtype))
-    = c.has_item-had.ensures ∙ (λ i. list_any (same_data (c.data.ensures.fields i)) (items_at sets (key i))) in
     let made : c.put_opening.new.self ≡ put_to sets r
-    = c.in_ok-put_opening.ensures.ok ∙ (λ i. put_with (opening_set (c.ttl-ttl.ensures i) (c.into_data.ensures.fields i) (had i)) (key i) sets) ∙ put_opening_is sets r c.self.invariant in
+    = c.in_ok-put_opening.ensures.ok ∙ (λ i. put_with (opening_set (c.ttl-ttl.ensures i) (c.into_data.ensures.fields i)) (key i) sets) ∙ put_opening_is sets r c.self.invariant in
     subst (λ (l : Sets). IsTidy l) (sym made) (put_tidy sets r c.self.invariant)
 
 pub returns-clause-ok : goal.returns-clause-ok
@@ -30,7 +26,5 @@ returns-clause-ok c =
     let sets = c.self.inside.sets in
     let r = c.args.found in
     let key : c.new-key.result ≡ (fold r.owner, r.rtype) = c.new-key.ensures ∙ (λ i. (fold (c.owner.ensures i), c.rtype.ensures i)) in
-    let had : c.has_item-had.result ≡ list_any (same_data r.fields) (items_at sets (fold r.owner, r.rtype))
-    = c.has_item-had.ensures ∙ (λ i. list_any (same_data (c.data.ensures.fields i)) (items_at sets (key i))) in
-    c.in_ok-put_opening.ensures.ok ∙ (λ i. put_with (opening_set (c.ttl-ttl.ensures i) (c.into_data.ensures.fields i) (had i)) (key i) sets) ∙ put_opening_is sets r c.self.invariant
+    c.in_ok-put_opening.ensures.ok ∙ (λ i. put_with (opening_set (c.ttl-ttl.ensures i) (c.into_data.ensures.fields i)) (key i) sets) ∙ put_opening_is sets r c.self.invariant
     ∙ ap (λ (l : Sets). put_to l r) c.self.view_is

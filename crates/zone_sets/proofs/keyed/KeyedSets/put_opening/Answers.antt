@@ -10,9 +10,9 @@ use Rattle.zone_sets.proofs.keyed.KeyedSets.put_opening.Goals as goal
 pub invariant_of-self-2 : goal.invariant_of-self-2
 invariant_of-self-2 c =
     let es = c.self.inside.entries.entries in
-    subst (λ (l : TypedEntries). IsTrue (list_all has_own_type l)) (sym c.in_ok-put_opening.ensures.ok) (insert_own es c.args.key (made_at (opening_set c.args.ttl (data_fields c.args.item) c.args.had) c.args.key es) refl c.self.invariant)
+    subst (λ (l : TypedEntries). IsTrue (list_all has_own_type l)) (sym c.in_ok-put_opening.ensures.ok) (insert_own es c.args.key (made_at (opening_set c.args.ttl (data_fields c.args.item)) c.args.key es) refl c.self.invariant)
 
 pub returns-clause-ok : goal.returns-clause-ok
 returns-clause-ok c =
     let es = c.self.inside.entries.entries in
-    ap (map entry_of) c.in_ok-put_opening.ensures.ok ∙ insert_seen es c.args.key (made_at (opening_set c.args.ttl (data_fields c.args.item) c.args.had) c.args.key es) ∙ ap (put_with (opening_set c.args.ttl (data_fields c.args.item) c.args.had) c.args.key) c.self.view_is
+    ap (map entry_of) c.in_ok-put_opening.ensures.ok ∙ insert_seen es c.args.key (made_at (opening_set c.args.ttl (data_fields c.args.item)) c.args.key es) ∙ ap (put_with (opening_set c.args.ttl (data_fields c.args.item)) c.args.key) c.self.view_is

@@ -1,7 +1,7 @@
-use Rattle.std.proofs.Common.{◌≡◌, [], ◌∷◌, ◌++◌, sym, ap, ◌∙◌}
+use Rattle.std.proofs.Common.{◌≡◌}
 use Rattle.std.proofs.lemmas.Result.{err_from_is_err_and}
 use Rattle.zone_sync.specs.SoFar.{asked_mac}
-use Rattle.zone_sync.proofs.Checking.{answer_refused, answer_unsigned, answer_checked}
+use Rattle.zone_sync.proofs.Checking.{answer_refused, answer_checked}
 use Rattle.zone_sync.proofs.client.Exchange.checked.Goals as goal
 
 pub returns-in_err-answer-clause-answers : goal.returns-in_err-answer-clause-answers
@@ -10,14 +10,7 @@ returns-in_err-answer-clause-answers c a taken at key stands =
     rw (p.1, p.2) (answer_refused a taken c.args.octets.items c.in_ok-message.message c.answer.new.message c.args.self.now.sequence.key c.args.at c.in_err-answer.field-0.0 key at c.in_ok-message.ensures.found c.in_ok-message.ensures.whole
     (c.in_err-answer.ensures.checked (asked_mac a) taken stands))
 
-pub returns-then-unsigned-gt0-clause-answers : goal.returns-then-unsigned-gt0-clause-answers
-returns-then-unsigned-gt0-clause-answers c a taken at key stands =
-    let stood = c.in_ok-answer.ensures.taken.1 (asked_mac a) taken stands in
-    answer_unsigned a taken c.args.octets.items c.in_ok-message.message c.answer.new.message c.args.self.now.sequence.key c.args.at c.unsigned.result key at c.in_ok-message.ensures.found c.in_ok-message.ensures.whole
-    (c.in_ok-answer.ensures.checked (asked_mac a) taken stands) (c.unsigned.ensures (asked_mac a) (taken ++ c.in_ok-message.message ∷ []) stood) c.if-unsigned-gt0.true
-
 pub returns-clause-answers : goal.returns-clause-answers
 returns-clause-answers c a taken at key stands =
-    let stood = c.in_ok-answer.ensures.taken.1 (asked_mac a) taken stands in
-    answer_checked a taken c.args.octets.items c.in_ok-message.message c.answer.new.message c.args.self.now.sequence.key c.args.at c.unsigned.result c.answer.new.self key at c.in_ok-message.ensures.found c.in_ok-message.ensures.whole
-    (c.in_ok-answer.ensures.checked (asked_mac a) taken stands) (c.unsigned.ensures (asked_mac a) (taken ++ c.in_ok-message.message ∷ []) stood) c.if-unsigned-gt0.false (c.in_ok-answer.ensures.taken.0) stood
+    answer_checked a taken c.args.octets.items c.in_ok-message.message c.answer.new.message c.args.self.now.sequence.key c.args.at c.answer.new.self key at c.in_ok-message.ensures.found c.in_ok-message.ensures.whole
+    (c.in_ok-answer.ensures.checked (asked_mac a) taken stands) (c.in_ok-answer.ensures.taken.0) (c.in_ok-answer.ensures.taken.1 (asked_mac a) taken stands)

@@ -22,9 +22,8 @@ invariant_of-self-2 c =
     let before : Version = record { apex = c.self.inside.apex; class = c.self.inside.class; sets = c.self.inside.sets } in
     let same : before ≡ c.args.self.now = c.self.view_is in
     let key : c.new-key.result ≡ (fold c.args.added.owner, c.args.added.rtype) = c.new-key.ensures ∙ (λ i. (fold (c.owner.ensures i), c.rtype.ensures i)) in
-    let had : c.has_data-had.result ≡ has_data before c.args.added = c.has_data-had.ensures ∙ ap (λ (v : Version). has_data v c.args.added) (sym same) in
     let made : with_sets before c.put_opening.new.self ≡ opened_by before c.args.added
-    = ap (with_sets before) (c.in_ok-put_opening.ensures.ok ∙ (λ i. put_with (opening_set (c.ttl-ttl.ensures i) (c.into_data.ensures.fields i) (had i)) (key i) before.sets)) ∙ opened_is before c.args.added in
+    = ap (with_sets before) (c.in_ok-put_opening.ensures.ok ∙ (λ i. put_with (opening_set (c.ttl-ttl.ensures i) (c.into_data.ensures.fields i)) (key i) before.sets)) ∙ opened_is before c.args.added in
     subst (λ (v : Version). IsSound v) (sym made)
     (opened_sound before c.args.added c.self.invariant (subst (λ (v : Version). under c.args.added.owner v.apex ≡ true) (sym same) c.requires.zone)
     (subst (λ (v : Version). adds_alias v c.args.added ≡ false) (sym same) c.requires.no_alias))
@@ -34,6 +33,5 @@ returns-clause-ok c =
     let before : Version = record { apex = c.self.inside.apex; class = c.self.inside.class; sets = c.self.inside.sets } in
     let same : before ≡ c.args.self.now = c.self.view_is in
     let key : c.new-key.result ≡ (fold c.args.added.owner, c.args.added.rtype) = c.new-key.ensures ∙ (λ i. (fold (c.owner.ensures i), c.rtype.ensures i)) in
-    let had : c.has_data-had.result ≡ has_data before c.args.added = c.has_data-had.ensures ∙ ap (λ (v : Version). has_data v c.args.added) (sym same) in
-    ap (with_sets before) (c.in_ok-put_opening.ensures.ok ∙ (λ i. put_with (opening_set (c.ttl-ttl.ensures i) (c.into_data.ensures.fields i) (had i)) (key i) before.sets)) ∙ opened_is before c.args.added
+    ap (with_sets before) (c.in_ok-put_opening.ensures.ok ∙ (λ i. put_with (opening_set (c.ttl-ttl.ensures i) (c.into_data.ensures.fields i)) (key i) before.sets)) ∙ opened_is before c.args.added
     ∙ opens_as_file before c.args.added (distinct_data before c.self.invariant) ∙ ap (λ (v : Version). opened_with v c.args.added) same
