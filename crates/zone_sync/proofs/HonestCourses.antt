@@ -1,28 +1,28 @@
 -- What a granting primary sends to a secondary's request makes a course that succeeds, and a first part of it one that goes on.
-use Rattle.std.proofs.Common.{◌≡◌, ℕ, suc, ◌+◌, ◌-◌, ◌<◌, ◌≤◌, Bool, true, false, true≢false, not, ◌&&◌, List, [], ◌∷◌, ◌++◌, map, length, length-append, append-nil, refl, sym, ap, ◌∙◌, subst, arith, lit<, lit≤, eq-eqb, Option, Some, None, is_some, ◌⊎◌, inl, inr}
+use Rattle.std.proofs.Common.{◌≡◌, ℕ, suc, ◌+◌, ◌-◌, ◌^◌, ◌<◌, ◌≤◌, Bool, true, false, not, ◌&&◌, List, [], ◌∷◌, ◌++◌, map, length, length-append, append-nil, refl, sym, ap, ◌∙◌, subst, arith, lit<, lit≤, Option, Some, None, is_some, ◌⊎◌, inl, inr}
+use Rattle.std.specs.Cmp.{first_so}
 use Rattle.std.specs.Prelude.{◌==◌, flat_map, unwrap_or, if◌then◌else◌}
 use Rattle.std.specs.List.{AllByRecursion, list_all, last_or}
 use Rattle.std.proofs.lemmas.List.{map-append}
 use Rattle.std.proofs.lemmas.Bool.Decides.{nat_tests}
-use Rattle.dns_name.specs.Names.{same_name}
+use Rattle.dns_name.specs.Names.{is_name, same_name}
 use Rattle.dns_name.specs.NameOrder.{same_name_equiv}
 use Rattle.dns_rdata.specs.Records.{Record}
-use Rattle.dns_wire.specs.Wire.{Header, Message, Question, same_question, header_in, header_of, flags_word, id_in}
-use Rattle.dns_wire.specs.Parse.{questions_in}
-use Rattle.dns_wire.proofs.Headers.{header_of-flags_word}
+use Rattle.dns_wire.specs.Wire.{Message, Question, id_in}
 use Rattle.tsig_port.specs.Tsig.{compose_len}
 use Rattle.tsig_port.specs.Checked.{taken_message}
-use Rattle.zone_model.specs.Version.{Version, has_one_soa}
+use Rattle.zone_model.specs.Version.{Version, has_one_soa, has_one_apex_soa}
 use Rattle.zone_model.specs.Spells.{spelling}
-use Rattle.zone_model.specs.TransferText.{Mode, Axfr, is_soa}
+use Rattle.zone_model.specs.TransferText.{Mode, Axfr}
 use Rattle.zone_model.specs.Offer.{whole_text, IsCutInto}
 use Rattle.zone_model.proofs.Valid.{one_soa}
 use Rattle.zone_model.proofs.WholeText.{middle_of, soa_of, whole_is, whole_spells}
-use Rattle.xfr_batch.specs.XfrBatches.{axfr_header}
-use Rattle.xfr_model.specs.Messages.{ReadMessage, type_of, read_of}
+use Rattle.xfr_model.specs.Messages.{read_of}
 use Rattle.xfr_model.specs.Read.{request_fault}
 use Rattle.xfr_model.specs.Carried.{Carrier, Carries}
 use Rattle.xfr_replies.specs.TransferPages.{page_answer}
+use Rattle.xfr_server.proofs.Accepted.{whole_is_taken}
+use Rattle.xfr_server.proofs.Pages.{IsPage, each_page}
 use Rattle.xfr_course.specs.Outcome.{Outcome, Updated, UpToDate, Checked, Course, outcome, made}
 use Rattle.xfr_course.specs.Courses.{has_header, most_replies, stop_after}
 use Rattle.xfr_course.specs.Client.{Decided}
@@ -39,56 +39,11 @@ use Rattle.zone_sync.proofs.Replying.{so_far}
 use Rattle.zone_sync.proofs.HonestRequests as requests
 use Rattle.zone_sync.proofs.HonestReplies as replies
 
--- ---- what the pages' messages say
-
-same_alone : (q : Question) → same_question q q ≡ true
-same_alone q =
-    let name : same_name q.qname q.qname ≡ true = same_name_equiv.refl q.qname in
-    let type : (q.qtype == q.qtype) ≡ true = eq-eqb q.qtype q.qtype refl in
-    let class : (q.qclass == q.qclass) ≡ true = eq-eqb q.qclass q.qclass refl in
-    rw (name, type, class) refl
-
 no_empty : (n : ℕ) → not (suc n == 0) ≡ true
 no_empty n = grind (arith, nat_tests)
 
-not_none : (n : ℕ) → not (n == 0) ≡ true → (n == 0) ≡ false
-not_none n h = grind (arith, nat_tests)
-
--- a message as it is read, whose questions are the request's
-abbrev read_with : Header → Question → List Record → ReadMessage
-read_with h q rs = record { header = axfr_header h; questions = q ∷ []; answers = map Some rs; authority = 0 }
-
-header_again : (h : Header) → header_of (axfr_header h).id (flags_word (axfr_header h)) ≡ axfr_header h
-header_again h = header_of-flags_word (axfr_header h) (lit< tt) (lit< tt)
-
-as_many : (rs : List Record) → length (map (λ (r : Record). Some r) rs) ≡ length rs
-as_many [] = refl
-as_many (r ∷ rs) = ap suc (as_many rs)
-
--- none is refused as a later message
-later_at : (h : Header) (q : Question) (rs : List Record) → not (length rs == 0) ≡ true → request_fault h.id q false (read_with h q rs) ≡ None
-later_at h q rs full =
-    let id : (h.id == h.id) ≡ true = eq-eqb h.id h.id refl in
-    let some : (length (map (λ (r : Record). Some r) rs) == 0) ≡ false = ap (λ n. n == 0) (as_many rs) ∙ not_none (length rs) full in
-    rw (id, same_alone q, some) refl
-
--- the one that begins with an SOA isn't as the first
-first_at : (h : Header) (q : Question) (r : Record) (rest : List Record) → q.qtype ≡ type_of Axfr → is_soa r ≡ true → request_fault h.id q true (read_with h q (r ∷ rest)) ≡ None
-first_at h q r rest axfr soa =
-    let id : (h.id == h.id) ≡ true = eq-eqb h.id h.id refl in
-    let n = length (map (λ (x : Record). Some x) rest) in
-    let some : (suc n == 0) ≡ false = not_none (suc n) (no_empty n) in
-    let type : (q.qtype == type_of Axfr) ≡ true = eq-eqb q.qtype (type_of Axfr) axfr in
-    rw (id, same_alone q, some, type, soa) refl
-
--- the first of pages that are a text begins as the text does
-record Begins (r : Record) (page : List Record) : Type 0 where
-  rest : List Record
-  is : page ≡ r ∷ rest
-
-begins : (r : Record) (page : List Record) (more text : List Record) → not (length page == 0) ≡ true → page ++ more ≡ r ∷ text → Begins r page
-begins r [] more text full e = absurd (true≢false (sym full))
-begins r (x ∷ page) more text full e = let first : x ≡ r = cc in record { rest = page; is = ap (λ y. y ∷ page) first }
+is_full : (n : ℕ) → 1 ≤ n → not (n == 0) ≡ true
+is_full n some = grind (arith, nat_tests)
 
 -- ---- the two ends, so far as the course depends on them
 
@@ -127,6 +82,12 @@ module _ (a : Asking) (at : ℕ) (c : Bool) (v : Version) (f : Fits a at c v) wh
   abbrev request : List ℕ
   request = replies.request a at c v f
 
+  abbrev name : is_name a.base.version.apex ≡ true
+  name = replies.apex_is_name a at c v f
+
+  abbrev class : a.base.version.class < 2 ^ 16
+  class = replies.small_class a at c v f
+
   one_soa_is : has_one_soa v ≡ true
   one_soa_is = f.published.one_soa
 
@@ -159,31 +120,14 @@ module _ (a : Asking) (at : ℕ) (c : Bool) (v : Version) (f : Fits a at c v) wh
 
   -- ---- what the messages carry
 
-  -- a page's message, as it is read
-  said : (page : List Record) → read_of (page_answer request page) ≡ read_with (header_in request) q page
-  said page =
-      ap (λ h. record { header = h; questions = questions_in request; answers = map Some page; authority = 0 }) (header_again (header_in request))
-      ∙ ap (λ qs. record { header = axfr_header (header_in request); questions = qs; answers = map Some page; authority = 0 }) (replies.asked_alone a at c v f)
-
   taken_id : id_in request ≡ id
-  taken_id = requests.taken_id a f.is_key f.asked_early (replies.apex_is_name a at c v f) (replies.small_class a at c v f)
+  taken_id = requests.taken_id a f.is_key f.asked_early name class
 
-  sound_later : (page : List Record) → not (length page == 0) ≡ true → request_fault id q false (read_of (page_answer request page)) ≡ None
-  sound_later page full =
-      ap (λ n. request_fault n q false (read_of (page_answer request page))) (sym taken_id)
-      ∙ ap (request_fault (id_in request) q false) (said page) ∙ later_at (header_in request) q page full
-
-  carry_later : (pages : List (List Record)) → AllByRecursion (replies.IsWithin (answer_room a)) pages → AllByRecursion (Carries (request_fault id q) false) (map carrier_of (page_answers a pages))
-  carry_later [] within = tt
-  carry_later (page ∷ more) within = (record { sound = sound_later page within.0.full; answers = refl; full = within.0.full }, carry_later more within.1)
-
-  sound_first : (page more : List Record) → not (length page == 0) ≡ true → page ++ more ≡ text → request_fault id q true (read_of (page_answer request page)) ≡ None
-  sound_first page more full joined =
-      let o = one_soa v f.published.valid one_soa_is in
-      let b = begins (soa_of v o) page more (middle_of v ++ soa_of v o ∷ []) full (joined ∙ whole_is v o) in
-      ap (λ n. request_fault n q true (read_of (page_answer request page))) (sym taken_id)
-      ∙ ap (request_fault (id_in request) q true) (said page ∙ ap (read_with (header_in request) q) b.is)
-      ∙ first_at (header_in request) q (soa_of v o) b.rest (ap type_of f.mode) refl
+  carry_later : (pages : List (List Record)) → AllByRecursion (IsPage (answer_room a)) pages → AllByRecursion (λ page. request_fault (id_in request) q false (read_of (page_answer request page)) ≡ None) pages
+      → AllByRecursion (Carries (request_fault id q) false) (map carrier_of (page_answers a pages))
+  carry_later [] each sound = tt
+  carry_later (page ∷ more) each sound =
+      (record { sound = ap (λ n. request_fault n q false (read_of (page_answer request page))) (sym taken_id) ∙ sound.0; answers = refl; full = is_full (length page) each.0.0 }, carry_later more each.1 sound.1)
 
   texts : (pages : List (List Record)) → flat_map (λ (k : Carrier). k.page) (map carrier_of (page_answers a pages)) ≡ flat_map (λ page. page) pages
   texts [] = refl
@@ -207,22 +151,21 @@ module _ (a : Asking) (at : ℕ) (c : Bool) (v : Version) (f : Fits a at c v) wh
       ∙ ap (λ ks. asked_course a ks stop) (replies.sent_checked a at c v f)
       ∙ ap (λ (m : Mode). record { mode = m; id = id; question = q; base = a.base.version; number = a.base.number; checked = map signed_checked (map carrier_of (page_answers a f.pages)); stop = stop }) f.mode
 
-  carried : (pages : List (List Record)) (stop : Outcome) → AllByRecursion (replies.IsWithin (answer_room a)) pages → flat_map (λ page. page) pages ≡ text
-      → Succeeds (sent_course e id (map carrier_of (page_answers a pages)) stop) v
-  carried [] stop within joined =
-      let o = one_soa v f.published.valid one_soa_is in
-      absurd (cc (joined ∙ whole_is v o))
-  carried (page ∷ more) stop within joined =
+  carried : (pages : List (List Record)) (stop : Outcome) → IsCutInto (answer_room a) c text pages → Succeeds (sent_course e id (map carrier_of (page_answers a pages)) stop) v
+  carried [] stop cut = absurd (cc (cut.joined ∙ whole_is v (one_soa v f.published.valid one_soa_is)))
+  carried (page ∷ more) stop cut =
+      let taken = whole_is_taken request q v (answer_room a) c page more (requests.taken_mode a f.is_key f.asked_early name class f.mode) (requests.taken_question a f.is_key f.asked_early name class) (first_so (has_one_apex_soa v) _ one_soa_is) cut in
+      let each = each_page (answer_room a) c (page ∷ more) cut.filled in
       let carry : CarrySent e id (carrier_of (page_answer request page)) (map carrier_of (page_answers a more)) = record {
-        first = record { sound = sound_first page (flat_map (λ p. p) more) within.0.full joined; answers = refl; full = within.0.full };
-        later = carry_later more within.1;
-        text = texts (page ∷ more) ∙ joined;
+        first = record { sound = ap (λ n. request_fault n q true (read_of (page_answer request page))) (sym taken_id) ∙ taken.0; answers = refl; full = is_full (length page) each.0.0 };
+        later = carry_later more each.1 taken.1;
+        text = texts (page ∷ more) ∙ cut.joined;
         together = tt;
       } in
       granted_succeeds e id (carrier_of (page_answer request page)) (map carrier_of (page_answers a more)) stop granting (f.published, tt) carry
 
   pub succeeds : (gave : Outcome) → Succeeds (course_so_far a w gave) v
-  succeeds gave = subst (λ (k : Course). Succeeds k v) (sym (course_is gave)) (carried f.pages (stop_after gave w None) (replies.within a at c v f) f.cut.joined)
+  succeeds gave = subst (λ (k : Course). Succeeds k v) (sym (course_is gave)) (carried f.pages (stop_after gave w None) f.cut)
 
 -- the law of full transfers
 pub whole_succeeds : WholeSucceeds

@@ -26,7 +26,9 @@ use Rattle.xfr_batch.specs.XfrBatches.{axfr_header}
 use Rattle.xfr_model.specs.Messages.{HaveData, ReadMessage, read_of, message_of}
 use Rattle.xfr_model.proofs.ReadingBuilt.{built_is_read}
 use Rattle.xfr_replies.specs.TransferPages.{page_answer, page_room}
+use Rattle.xfr_server.proofs.Accepted.{transfer_is_message}
 use Rattle.xfr_server.proofs.Answers.{wire_length}
+use Rattle.xfr_server.proofs.Pages.{IsPage, each_page}
 use Rattle.xfr_course.specs.Outcome.{Checked}
 use Rattle.xfr_course.specs.Courses.{has_header}
 use Rattle.xfr_course.specs.Honest.{carrier_of}
@@ -39,33 +41,6 @@ use Rattle.zone_sync.proofs.HonestNames.{same_is_name}
 use Rattle.zone_sync.proofs.HonestRequests as requests
 
 -- ---- pages
-
--- a page that has records, within its room
-pub record IsWithin (room : ℕ) (page : List Record) : Type 0 where
-  pub full : not (length page == 0) ≡ true
-  pub fits : room_of page ≤ room
-
-filled_within : (room : ℕ) (pages : List (List Record)) → are_pages room pages ≡ true → AllByRecursion (IsWithin room) pages
-filled_within room [] h = tt
-filled_within room (page ∷ more) h =
-    let all = and_parts (not (length page == 0) && nat_le (room_of page) room && is_filled room page more) (are_pages room more) h in
-    let front = and_parts (not (length page == 0) && nat_le (room_of page) room) (is_filled room page more) all.0 in
-    let both = and_parts (not (length page == 0)) (nat_le (room_of page) room) front.0 in
-    (record { full = both.0; fits = leb-true (room_of page) room both.1 }, filled_within room more all.1)
-
-one_is_some : (n : ℕ) → (n == 1) ≡ true → not (n == 0) ≡ true
-one_is_some n h = grind (arith, nat_tests)
-
-single_within : (room : ℕ) (pages : List (List Record)) → are_single room pages ≡ true → AllByRecursion (IsWithin room) pages
-single_within room [] h = tt
-single_within room (page ∷ more) h =
-    let all = and_parts ((length page == 1) && nat_le (room_of page) room) (are_single room more) h in
-    let both = and_parts (length page == 1) (nat_le (room_of page) room) all.0 in
-    (record { full = one_is_some (length page) both.0; fits = leb-true (room_of page) room both.1 }, single_within room more all.1)
-
-all_within : (room : ℕ) (singles : Bool) (text : List Record) (pages : List (List Record)) → IsCutInto room singles text pages → AllByRecursion (IsWithin room) pages
-all_within room true text pages cut = single_within room pages cut.filled
-all_within room false text pages cut = filled_within room pages cut.filled
 
 -- a text that one message has room for is one page
 pub one_cut : (room : ℕ) (text : List Record) → not (length text == 0) ≡ true → room_of text ≤ room → IsCutInto room false text (text ∷ [])
@@ -168,12 +143,6 @@ module _ (a : Asking) (at : ℕ) (c : Bool) (v : Version) (f : Fits a at c v) wh
   pub asked_alone : questions_in request ≡ q ∷ []
   asked_alone = requests.taken_questions a f.is_key f.asked_early name class
 
-  small_id : id_in request < 2 ^ 16
-  small_id = omega (arith, requests.taken_id a f.is_key f.asked_early name class, f.asked_early)
-
-  asked : IsMessage (request_message a)
-  asked = requests.is_message a f.is_key f.asked_early name class
-
   -- how long a page's message is
   asked_length : length (flat_map question_wire (questions_in request)) ≡ length (question_wire q)
   asked_length = ap (λ qs. length (flat_map question_wire qs)) asked_alone ∙ ap length (append-nil (question_wire q))
@@ -184,47 +153,33 @@ module _ (a : Asking) (at : ℕ) (c : Bool) (v : Version) (f : Fits a at c v) wh
   pub room_is : answer_room a ≡ 65535 - 12 - length (question_wire q) - compose_len a.key
   room_is = omega (arith, page_length [])
 
-  page_is_message : (page : List Record) → IsWithin (answer_room a) page → AllByRecursion IsRecord page → IsMessage (page_answer request page)
-  page_is_message page within records =
-      let P : List Question → Type 0 = λ qs. AllByRecursion IsQuestion qs in
-      let Q : List Question → Type 0 = λ qs. length qs < 2 ^ 16 in
-      record {
-        id = small_id;
-        flags = word_small h (lit< tt) (lit< tt);
-        questions = subst P (sym asked_alone) asked.questions;
-        answers = records;
-        authority = tt;
-        additional = tt;
-        qdcount = subst Q (sym asked_alone) (lit< tt);
-        ancount = omega (arith, long_records page, within.fits, room_is);
-        nscount = lit< tt;
-        arcount = lit< tt;
-      }
+  -- so few records fit into one
+  few_records : (page : List Record) → IsPage (answer_room a) page → length page < 2 ^ 16
+  few_records page is = omega (arith, long_records page, leb-true (room_of page) (answer_room a) is.1, room_is)
 
-  short_page : (n : ℕ) → not (n == 0) ≡ true → 1 ≤ n
-  short_page n some = grind (arith, nat_tests)
+  page_is_message : (page : List Record) → IsPage (answer_room a) page → AllByRecursion IsRecord page → IsMessage (page_answer request page)
+  page_is_message page is records =
+      transfer_is_message request (request_message a) page (requests.taken_header a f.is_key f.asked_early name class) (requests.is_message a f.is_key f.asked_early name class)
+      (requests.taken_parses a f.is_key f.asked_early name class) records (few_records page is)
 
-  can_sign : (page : List Record) → IsWithin (answer_room a) page → AllByRecursion IsRecord page → CanSign a.key (page_answer request page)
-  can_sign page within records = record {
-    message = page_is_message page within records;
+  can_sign : (page : List Record) → IsPage (answer_room a) page → AllByRecursion IsRecord page → CanSign a.key (page_answer request page)
+  can_sign page is records = record {
+    message = page_is_message page is records;
     unsigned = tt;
     count = lit< tt;
-    room = omega (arith, page_length page, long_records page, short_page (length page) within.full, within.fits, room_is);
+    room = omega (arith, page_length page, long_records page, is.0, leb-true (room_of page) (answer_room a) is.1, room_is);
   }
 
-  all_can_sign : (pages : List (List Record)) → AllByRecursion (IsWithin (answer_room a)) pages → AllByRecursion (λ page. AllByRecursion IsRecord page) pages → AllByRecursion (CanSign a.key) (page_answers a pages)
-  all_can_sign [] within records = tt
-  all_can_sign (page ∷ more) within records = (can_sign page within.0 records.0, all_can_sign more within.1 records.1)
+  all_can_sign : (pages : List (List Record)) → AllByRecursion (IsPage (answer_room a)) pages → AllByRecursion (λ page. AllByRecursion IsRecord page) pages → AllByRecursion (CanSign a.key) (page_answers a pages)
+  all_can_sign [] each records = tt
+  all_can_sign (page ∷ more) each records = (can_sign page each.0 records.0, all_can_sign more each.1 records.1)
 
   all_have : (pages : List (List Record)) → AllByRecursion (λ page. HaveData page) pages → AllByRecursion (λ (m : Message). HaveData m.answers) (page_answers a pages)
   all_have [] have = tt
   all_have (page ∷ more) have = (have.0, all_have more have.1)
 
-  pub within : AllByRecursion (IsWithin (answer_room a)) f.pages
-  within = all_within (answer_room a) c (whole_text v) f.pages f.cut
-
   pub signable : AllByRecursion (CanSign a.key) (page_answers a f.pages)
-  signable = all_can_sign f.pages within (in_pages IsRecord (answer_room a) c (whole_text v) f.pages f.cut f.records)
+  signable = all_can_sign f.pages (each_page (answer_room a) c f.pages f.cut.filled) (in_pages IsRecord (answer_room a) c (whole_text v) f.pages f.cut f.records)
 
   pub readable : AllByRecursion (λ (m : Message). HaveData m.answers) (page_answers a f.pages)
   readable = all_have f.pages (in_pages (λ r. IsTrue (is_data r.rtype r.fields)) (answer_room a) c (whole_text v) f.pages f.cut f.have)

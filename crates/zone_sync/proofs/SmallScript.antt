@@ -1,5 +1,5 @@
 -- The worked script: its zones, key and moments fit each other.
-use Rattle.std.proofs.Common.{◌≡◌, ◌+◌, ◌-◌, ◌≤◌, [], ◌∷◌, length, min, refl, ap, arith, lit<, lit≤}
+use Rattle.std.proofs.Common.{◌≡◌, ◌+◌, ◌-◌, ◌≤◌, false, [], ◌∷◌, length, min, refl, ap, arith, lit<, lit≤}
 use Rattle.std.specs.Prelude.{flat_map}
 use Rattle.dns_wire.specs.Wire.{header_in, question_wire, message_wire}
 use Rattle.dns_wire.specs.Parse.{questions_in}
