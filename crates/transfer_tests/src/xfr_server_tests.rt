@@ -65,7 +65,7 @@ fn fill<R: Abort>(rt: &R, alloc: Global, session: &mut WriteZone<'_>) {
     session.commit(rt, false).expect(rt, "a version");
 }
 
-fn example_zone<R: Abort>(rt: &R, alloc: Global) -> ReadZone {
+pub(crate) fn example_zone<R: Abort>(rt: &R, alloc: Global) -> ReadZone {
     let mut zone = empty_zone(rt, alloc);
     let mut session = zone.write(alloc);
     fill(rt, alloc, &mut session);
@@ -87,7 +87,7 @@ pub(crate) fn primary<R: Abort>(rt: &R, alloc: Global, grants: bool) -> Primary 
     TsigMiddlewareSvc::new(transfers, key)
 }
 
-fn axfr_question<R: Abort>(rt: &R, alloc: Global, class: Class) -> AdditionalBuilder {
+pub(crate) fn axfr_question<R: Abort>(rt: &R, alloc: Global, class: Class) -> AdditionalBuilder {
     let mut builder = MessageBuilder::new(alloc).expect(rt, "memory");
     builder.set_header(Header::new(1000));
     let mut section = builder.question();

@@ -1,4 +1,3 @@
 pub mod TransferPages
 pub mod PagedReplies
-pub mod StubTexts
 pub mod PulledStreams

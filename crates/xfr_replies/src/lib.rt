@@ -3,8 +3,6 @@
 #![tactic(auto)]
 
 mod laws;
-mod stub_text;
 mod transfer_replies;
 
-pub use stub_text::TransferText;
 pub use transfer_replies::TransferReplies;

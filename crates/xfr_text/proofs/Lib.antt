@@ -2,3 +2,5 @@ mod Behind
 mod Texts
 mod Stops
 mod Placing
+mod Reading
+mod Skipping

@@ -32,7 +32,7 @@ some_records : {X : Type 0} (xs : List X) → (length xs == 0) ≡ false → 0 <
 some_records [] h = cc
 some_records (x ∷ xs) h = omega arith
 
-some_inj : {X : Type 0} (x y : X) → Some x ≡ Some y → x ≡ y
+pub some_inj : {X : Type 0} (x y : X) → Some x ≡ Some y → x ≡ y
 some_inj x y e = cc
 
 -- a place that begins one text begins another that is the same
@@ -198,6 +198,26 @@ sides_at_side v ds sides more sets p at f =
 
 pub side_empty : (v : Version) (sides more : List Sets) (sets : Sets) → sides ≡ sets ∷ more → side_text v sets ≡ [] → sides_text v more ≡ sides_text v sides
 side_empty v sides more sets at none = ap (λ rs. rs ++ sides_text v more) (sym none) ∙ sides_split v sets more ∙ ap (sides_text v) (sym at)
+
+-- ---- the rest of a side, seen by a text of its sets, and the sides behind it
+
+pub rest_at_place : (v : Version) (ds : List Difference) (f : Sets → List Record) (sides : List Sets) (sets : Sets) (p : Option Place) → sides ≡ sets ∷ drop 1 sides
+    → Begins v ds (f sets ++ sides_text v (drop 1 sides)) p → Begins v ds (f (first_side sides) ++ sides_text v (drop 1 sides)) p
+rest_at_place v ds f sides sets p at b =
+    begins_as v ds (f sets ++ sides_text v (drop 1 sides)) (f (first_side sides) ++ sides_text v (drop 1 sides)) p
+    (ap (λ (l : List Sets). f (first_side l) ++ sides_text v (drop 1 sides)) (sym at)) b
+
+pub rest_empty : (v : Version) (ds : List Difference) (f : Sets → List Record) (sides next : List Sets) (sets : Sets) (p : Option Place) → sides ≡ sets ∷ drop 1 sides → f sets ≡ []
+    → next ≡ drop 1 sides → Begins v ds (sides_text v next) p → Begins v ds (f (first_side sides) ++ sides_text v (drop 1 sides)) p
+rest_empty v ds f sides next sets p at none is b =
+    rest_at_place v ds f sides sets p at
+    (begins_as v ds (sides_text v next) (f sets ++ sides_text v (drop 1 sides)) p (ap (sides_text v) is ∙ ap (λ rs. rs ++ sides_text v (drop 1 sides)) (sym none)) b)
+
+pub rest_missing : (v : Version) (ds : List Difference) (f : Sets → List Record) (sides : List Sets) (p : Option Place) → f [] ≡ [] → sides ≡ [] → Begins v ds (apex_soa_record v) p
+    → Begins v ds (f (first_side sides) ++ sides_text v (drop 1 sides)) p
+rest_missing v ds f sides p empty none b =
+    begins_as v ds (apex_soa_record v) (f (first_side sides) ++ sides_text v (drop 1 sides)) p
+    (ap (λ rs. rs ++ apex_soa_record v) (sym empty) ∙ ap (λ (l : List Sets). f (first_side l) ++ sides_text v (drop 1 l)) (sym none)) b
 
 -- ---- the next of a place
 

@@ -55,12 +55,12 @@ pub(crate) fn key_behind<'d>(sets: &'d DiffSets, key: &SetKey) -> Option<&'d Set
 
 /// The first of a key and those behind it that isn't of SOA records.
 fn plain_key<'d>(sets: &'d DiffSets, first: Option<&'d SetKey>) -> Option<&'d SetKey>
-    ensures { (rest : Sets) → Heads sets.now rest (option_copied first) → SkipsSoas sets.now rest (option_copied result) }
+    ensures { (rest : Sets) → Heads sets.now rest (option_copied first.entry) → SkipsSoas sets.now rest (option_copied result) }
 {
     let mut next = first;
     'keys: while let Some(key) = next {
         if key.rtype() != Rtype::SOA {
-            return Some(key);
+            return next;
         }
         next = key_behind(sets, key);
     }
@@ -85,12 +85,16 @@ pub(crate) fn plain_place(
     side: Side,
     first: Option<&SetKey>,
 ) -> Option<Place>
-    ensures { (ds : List Difference) (more : List Sets) (rest : Sets) → sides_from ds side ≡ sets.now ∷ more → Heads sets.now rest (option_copied first)
+    ensures { (ds : List Difference) (more : List Sets) (rest : Sets) → sides_from ds side ≡ sets.now ∷ more → Heads sets.now rest (option_copied first.entry)
         → FindsFrom zone.now.version ds (side_records zone.now.version rest) (sides_text zone.now.version more) result }
 {
-    let key = plain_key(sets, first)?;
-    let owner = shown_owner(zone, key.owner());
-    Some(Place::first_of(Part::SideSets(side), owner, key.rtype()))
+    match plain_key(sets, first) {
+        Some(key) => {
+            let owner = shown_owner(zone, key.owner());
+            Some(Place::first_of(Part::SideSets(side), owner, key.rtype()))
+        }
+        None => None,
+    }
 }
 
 /// Whether a side has an SOA record of the apex.

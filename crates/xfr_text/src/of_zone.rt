@@ -62,7 +62,7 @@ fn is_soa_stop(zone: &ReadZone, stop: &WalkItem<'_>) -> bool
 
 /// The first of a set and those behind it that isn't the apex SOA's.
 fn other_stop<'z>(zone: &'z ReadZone, first: Option<WalkItem<'z>>) -> Option<WalkItem<'z>>
-    ensures { (rest : Sets) → HeadsAt zone.now.version rest first → SkipsApexSoa zone.now.version rest result }
+    ensures { (rest : Sets) → HeadsAt zone.now.version rest first.entry → SkipsApexSoa zone.now.version rest result }
 {
     let mut next = first;
     'stops: while let Some(stop) = next {
@@ -76,7 +76,7 @@ fn other_stop<'z>(zone: &'z ReadZone, first: Option<WalkItem<'z>>) -> Option<Wal
 
 /// The first record from a set of the zone on that isn't the apex SOA's, or the SOA record that ends the text.
 pub(crate) fn zone_place(zone: &ReadZone, first: Option<WalkItem<'_>>) -> Option<Place>
-    ensures { (rest : Sets) → HeadsAt zone.now.version rest first
+    ensures { (rest : Sets) → HeadsAt zone.now.version rest first.entry
         → (ds : _) → Begins zone.now.version ds (middle_of zone.now.version rest ++ apex_soa_record zone.now.version) result }
 {
     match other_stop(zone, first) {

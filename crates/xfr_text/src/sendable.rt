@@ -14,6 +14,13 @@ use zone_sets::SetKey;
 pub fn are_sendable(zone: &ReadZone, diffs: &[Arc<InMemoryZoneDiff>]) -> bool
     ensures { result ≡ list_all (is_sendable zone.now.version) (map arc_value diffs.now) }
 {
+    all_sendable(zone, diffs)
+}
+
+/// The same of the differences as they are kept.
+fn all_sendable(zone: &ReadZone, diffs: &[Arc<InMemoryZoneDiff>]) -> bool
+    ensures { result ≡ list_all (λ diff. is_sendable zone.now.version (arc_value diff)) diffs.now }
+{
     diffs.iter().all(|diff| is_sendable(zone, diff))
 }
 

@@ -46,9 +46,9 @@ pub(crate) fn next_place(
     requires { IsPlace zone.now.version (map arc_value diffs.now) (Some place.now) }
     ensures { Begins zone.now.version (map arc_value diffs.now) (drop 1 (text_from zone.now.version (map arc_value diffs.now) place.now)) result }
 {
-    let next = place.index + 1;
-    if next < record_count(zone, diffs, place) {
-        Some(place.at_index(next))
+    let count = record_count(zone, diffs, place);
+    if place.index + 1 < count {
+        Some(place.at_index(place.index + 1))
     } else {
         place_behind(zone, diffs, place)
     }

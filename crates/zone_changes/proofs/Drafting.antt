@@ -1,14 +1,14 @@
 -- An edit of a draft at keys that were noted before: done or refused, the keys cover what the draft and its base differ in.
-use Rattle.std.proofs.Common.{◌≡◌, ℕ, ◌+◌, ◌%◌, ◌^◌, ◌==◌, Bool, true, false, not, ◌||◌, ◌&&◌, if◌then◌else◌, List, [], ◌∷◌, refl, sym, ap, ◌∙◌, subst, Option, Some, None, option_map, Result, Ok, Err, OnOk, OnErr}
+use Rattle.std.proofs.Common.{◌≡◌, ℕ, ◌+◌, ◌%◌, ◌^◌, Bool, true, false, not, ◌||◌, if◌then◌else◌, List, [], ◌∷◌, refl, sym, ap, ◌∙◌, subst, Option, Some, None, option_map, Result, Ok, Err, OnOk, OnErr}
 use Rattle.dns_name.specs.Names.{Name, fold, under}
-use Rattle.dns_name.specs.Codes.{type_a, type_aaaa, type_ns, type_cname, type_soa, type_ds}
+use Rattle.dns_name.specs.Codes.{type_ns, type_cname, type_soa, type_ds}
 use Rattle.dns_rdata.specs.Records.{Field, Record}
 use Rattle.dns_rdata.specs.Soa.{serial_of, with_serial}
-use Rattle.zone_model.specs.Version.{RecordSet, Key, Sets, Version, below_apex, set_at, data_at}
-use Rattle.zone_model.specs.Edits.{OutOfZone, Incompatible, InvalidData, put_set, remove_set, has_data, second_alias, add, add_glue, make_plain, first_soa, is_news, bump_from, bump}
+use Rattle.zone_model.specs.Version.{RecordSet, Key, Sets, Version}
+use Rattle.zone_model.specs.Edits.{OutOfZone, Incompatible, InvalidData, put_set, remove_set, has_data, second_alias, add, add_glue, first_soa, is_news, bump_from, bump}
 use Rattle.zone_versions.specs.Nodes.{is_address_in, with_glue}
 use Rattle.zone_versions.specs.Puts.{StandsAt, appended}
-use Rattle.zone_changes.specs.Touched.{is_touched, noted, Keeps, Covers, CoversIn, noted_in}
+use Rattle.zone_changes.specs.Touched.{is_touched, noted, Covers, CoversIn, noted_in}
 use Rattle.zone_changes.specs.Drafts.{without_special}
 use Rattle.zone_changes.proofs.Noting.{noted_itself, keeps_all, keeps_noted}
 use Rattle.zone_changes.proofs.Covering.{covers_noted, covers_put_set, covers_remove_set}

@@ -1,4 +1,4 @@
-use Rattle.std.proofs.Common.{◌≡◌, sym, ap, ◌∙◌}
+use Rattle.std.proofs.Common.{◌∙◌}
 use Rattle.dns_name.specs.Names.{fold}
 use Rattle.zone_model.specs.Edits.{add_glue}
 use Rattle.zone_changes.proofs.Drafting.{covers_edit, covers_glue}

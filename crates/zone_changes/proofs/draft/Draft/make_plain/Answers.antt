@@ -1,4 +1,4 @@
-use Rattle.std.proofs.Common.{◌≡◌, refl, ap, ◌∙◌}
+use Rattle.std.proofs.Common.{refl, ap, ◌∙◌}
 use Rattle.zone_changes.specs.Touched.{noted_in}
 use Rattle.zone_changes.specs.Drafts.{without_special}
 use Rattle.zone_changes.proofs.Drafting.{covers_in, covers_noted_in, covers_is, covers_either, special, special_in, special_is, covers_special, covers_special_keys}

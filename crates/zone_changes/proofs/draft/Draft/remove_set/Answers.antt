@@ -1,4 +1,3 @@
-use Rattle.std.proofs.Common.{◌≡◌, sym, ap, ◌∙◌}
 use Rattle.dns_name.specs.Names.{fold}
 use Rattle.zone_changes.proofs.Covering.{covers_remove_set}
 use Rattle.zone_changes.proofs.Drafting.{covers_edit}

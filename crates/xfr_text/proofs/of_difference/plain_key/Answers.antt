@@ -1,0 +1,26 @@
+use Rattle.std.proofs.Common.{◌≡◌, ℕ, Bool, not, true, false, Bor, ◌==◌, Option, Some, None, subst, sym, ap, ◌∙◌}
+use Rattle.std.specs.Prelude.{option_copied}
+use Rattle.dns_name.specs.Codes.{type_soa}
+use Rattle.zone_model.specs.Version.{Key, Sets}
+use Rattle.xfr_text.specs.Steps.{Heads, SkipsSoas}
+use Rattle.xfr_text.proofs.Skipping.{Passed, passed_none, passed_more, passed_soas, passed_all}
+use Rattle.xfr_text.proofs.Reading.{not_true, not_false}
+use Rattle.xfr_text.proofs.of_difference.plain_key.Goals as goal
+
+pub keys-init : goal.keys-init
+keys-init c rest h = passed_none c.args.sets.now rest (option_copied c.args.first) h
+
+pub keys-preserved : goal.keys-preserved
+keys-preserved c rest h =
+    let soa = ap (λ (n : ℕ). n == type_soa) (sym c.rtype.ensures) ∙ not_false _ (sym c.ne.ensures ∙ c.if-ne.false) in
+    let passed = subst (λ (o : Option (Bor Key)). Passed c.args.sets.now rest (option_copied o)) c.in-Some.is (c.keys.invariant rest h) in
+    passed_more c.args.sets.now rest c.in-Some.key.now (option_copied c.key_behind-next.result) soa c.key_behind-next.ensures passed
+
+pub returns-then-ne : goal.returns-then-ne
+returns-then-ne c rest h =
+    let plain = ap (λ (n : ℕ). n == type_soa) (sym c.rtype.ensures) ∙ not_true _ (sym c.ne.ensures ∙ c.if-ne.true) in
+    let passed = subst (λ (o : Option (Bor Key)). Passed c.args.sets.now rest (option_copied o)) c.in-Some.is (c.keys.invariant rest h) in
+    subst (λ (o : Option (Bor Key)). SkipsSoas c.args.sets.now rest (option_copied o)) (sym c.in-Some.is) (passed_soas c.args.sets.now rest c.in-Some.key.now plain passed)
+
+pub returns : goal.returns
+returns c rest h = passed_all c.args.sets.now rest (subst (λ (o : Option (Bor Key)). Passed c.args.sets.now rest (option_copied o)) c.in_default.is (c.keys.invariant rest h))
