@@ -9,12 +9,12 @@ use Rattle.xfr_server.specs.declared.transfer.XfrMode.{XfrMode}
 
 here : (told : Option ℕ → Result Offer XfrDataProviderError) (mode : XfrMode) (udp : Bool) (message : List ℕ) (offer : Offer)
     → (is_ixfr mode && not (is_some (asked_serial message))) ≡ false → told (asked_serial message) ≡ Ok offer
-    → chosen told mode udp message ≡ choice_of mode udp (sole_question_in message) (asked_serial message) offer.version
+    → chosen told mode udp message ≡ choice_of mode udp (sole_question_in message) (asked_serial message) offer
 here told mode udp message offer test given = rw (test, given) refl
 
 pub chosen_offer : (told : Option ℕ → Result Offer XfrDataProviderError) (mode : XfrMode) (udp : Bool) (message : List ℕ) (offer : Offer) (asked : Option ℕ) → asked ≡ asked_serial message
     → (is_ixfr mode && not (is_some asked)) ≡ false → told asked ≡ Ok offer
-    → chosen told mode udp message ≡ choice_of mode udp (sole_question_in message) asked offer.version
+    → chosen told mode udp message ≡ choice_of mode udp (sole_question_in message) asked offer
 chosen_offer told mode udp message offer asked same test given =
-    let P : Option ℕ → Type 0 = λ o. (is_ixfr mode && not (is_some o)) ≡ false → told o ≡ Ok offer → chosen told mode udp message ≡ choice_of mode udp (sole_question_in message) o offer.version in
+    let P : Option ℕ → Type 0 = λ o. (is_ixfr mode && not (is_some o)) ≡ false → told o ≡ Ok offer → chosen told mode udp message ≡ choice_of mode udp (sole_question_in message) o offer in
     subst P (sym same) (here told mode udp message offer) test given

@@ -78,7 +78,7 @@ pages_are_sent request limit singles text pages cut =
       cut = subst (λ rs. IsCutInto room singles rs pages) (sym all) cut;
       sent = ap (λ last. map (page_sent request limit) pages ++ last ∷ []) (sym end);
     } in
-    (paged request limit pages, (refl, rest))
+    (paged request limit pages, refl, rest)
 
 -- ---- each message has room for its signature
 
