@@ -9,8 +9,7 @@ use Rattle.zone_model.specs.Session.{Session}
 use Rattle.xfr_client.specs.declared.protocol.Error.TheVariants as message
 use Rattle.xfr_client.specs.declared.protocol.IterationError.TheVariants as item
 use Rattle.xfr_client.specs.declared.update.Error.TheVariants as update
-use Rattle.xfr_server.specs.Items.{Sending, Sent, sent_by}
-use Rattle.xfr_server.specs.FullTransfer.{IsSentWhole}
+use Rattle.xfr_server.specs.Items.{Sending, sent_by}
 use Rattle.xfr_services.specs.declared.services.ServiceError.{ServiceError}
 use Rattle.xfr_course.specs.Outcome.{Outcome, Updated, UpToDate, Ended, Short, Course, outcome, made}
 use Rattle.xfr_course.specs.Courses.{has_header}

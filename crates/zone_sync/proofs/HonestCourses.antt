@@ -1,40 +1,38 @@
 -- What a granting primary sends to a secondary's request makes a course that succeeds, and a first part of it one that goes on.
-use Rattle.std.proofs.Common.{◌≡◌, ℕ, suc, ◌+◌, ◌-◌, ◌^◌, ◌<◌, ◌≤◌, Bool, true, false, not, ◌&&◌, List, [], ◌∷◌, ◌++◌, map, length, length-append, append-nil, refl, sym, ap, ◌∙◌, subst, arith, lit<, lit≤, Option, Some, None, is_some, ◌⊎◌, inl, inr}
+use Rattle.std.proofs.Common.{◌≡◌, ℕ, suc, ◌+◌, ◌-◌, ◌^◌, ◌<◌, ◌≤◌, Bool, true, false, not, List, [], ◌∷◌, ◌++◌, map, length, length-append, append-nil, refl, sym, ap, ◌∙◌, subst, arith, lit≤, Option, Some, None, ◌⊎◌, inl, inr}
 use Rattle.std.specs.Cmp.{first_so}
-use Rattle.std.specs.Prelude.{◌==◌, flat_map, unwrap_or, if◌then◌else◌}
+use Rattle.std.specs.Prelude.{◌==◌, flat_map, unwrap_or}
 use Rattle.std.specs.List.{AllByRecursion, list_all, last_or}
 use Rattle.std.proofs.lemmas.List.{map-append}
 use Rattle.std.proofs.lemmas.Bool.Decides.{nat_tests}
 use Rattle.dns_name.specs.Names.{is_name, same_name}
 use Rattle.dns_name.specs.NameOrder.{same_name_equiv}
 use Rattle.dns_rdata.specs.Records.{Record}
-use Rattle.dns_wire.specs.Wire.{Message, Question, id_in}
+use Rattle.dns_wire.specs.Wire.{Question, id_in}
 use Rattle.tsig_port.specs.Tsig.{compose_len}
-use Rattle.tsig_port.specs.Checked.{taken_message}
 use Rattle.zone_model.specs.Version.{Version, has_one_soa, has_one_apex_soa}
 use Rattle.zone_model.specs.Spells.{spelling}
 use Rattle.zone_model.specs.TransferText.{Mode, Axfr}
 use Rattle.zone_model.specs.Offer.{whole_text, IsCutInto}
 use Rattle.zone_model.proofs.Valid.{one_soa}
-use Rattle.zone_model.proofs.WholeText.{middle_of, soa_of, whole_is, whole_spells}
+use Rattle.zone_model.proofs.WholeText.{whole_is, whole_spells}
 use Rattle.xfr_model.specs.Messages.{read_of}
 use Rattle.xfr_model.specs.Read.{request_fault}
 use Rattle.xfr_model.specs.Carried.{Carrier, Carries}
 use Rattle.xfr_replies.specs.TransferPages.{page_answer}
 use Rattle.xfr_server.proofs.Accepted.{whole_is_taken}
 use Rattle.xfr_server.proofs.Pages.{IsPage, each_page}
-use Rattle.xfr_course.specs.Outcome.{Outcome, Updated, UpToDate, Checked, Course, outcome, made}
+use Rattle.xfr_course.specs.Outcome.{Outcome, Updated, UpToDate, Course, outcome, made}
 use Rattle.xfr_course.specs.Courses.{has_header, most_replies, stop_after}
-use Rattle.xfr_course.specs.Client.{Decided}
-use Rattle.xfr_course.specs.Granting.{Ends, IsGranting, message_room}
+use Rattle.xfr_course.specs.Granting.{Ends, IsGranting}
 use Rattle.xfr_course.specs.Honest.{carrier_of}
 use Rattle.xfr_course.specs.Success.{signed_checked, sent_course, CarrySent, Succeeds}
 use Rattle.xfr_course.proofs.Clients.{met_decides}
 use Rattle.xfr_course.proofs.Succeeding.{granted_succeeds}
-use Rattle.zone_sync.specs.SoFar.{Asking, asked_id, asked_question, asked_octets, asked_course, course_so_far, checked_so_far, fault_so_far, client_so_far}
+use Rattle.zone_sync.specs.SoFar.{Asking, asked_id, asked_question, asked_course, course_so_far, checked_so_far, fault_so_far, client_so_far}
 use Rattle.zone_sync.specs.Standing.{Passed}
 use Rattle.zone_sync.specs.Fitting.{answer_room, page_answers, sent_whole, Fits, WholeSucceeds}
-use Rattle.zone_sync.proofs.Outcomes.{Comes, comes, passed_course, stop_few}
+use Rattle.zone_sync.proofs.Outcomes.{comes, passed_course, stop_few}
 use Rattle.zone_sync.proofs.Replying.{so_far}
 use Rattle.zone_sync.proofs.HonestRequests as requests
 use Rattle.zone_sync.proofs.HonestReplies as replies

@@ -1,31 +1,28 @@
 -- The whole text as its primary sends it, message by message, taken by the secondary that asked.
-use Rattle.std.proofs.Common.{◌≡◌, ℕ, zero, suc, ◌+◌, ◌-◌, ◌*◌, ◌^◌, ◌<◌, ◌≤◌, Bool, true, false, ◌&&◌, not, nat_le, List, [], ◌∷◌, ◌++◌, length, length-append, append_assoc, append-nil, map, take, drop, refl, sym, ap, ◌∙◌, subst, arith, Option, Some, None, lit<, lit≤, le-leb, leb-true}
-use Rattle.std.specs.Prelude.{◌==◌, flat_map, sum_by, option_map, unwrap_or, IsTrue, if◌then◌else◌}
+use Rattle.std.proofs.Common.{◌≡◌, ℕ, suc, ◌+◌, ◌-◌, ◌*◌, ◌^◌, ◌<◌, ◌≤◌, Bool, true, false, not, nat_le, List, [], ◌∷◌, ◌++◌, length, length-append, append_assoc, append-nil, map, take, drop, refl, sym, ap, ◌∙◌, subst, arith, Option, Some, None, lit<, lit≤, le-leb, leb-true}
+use Rattle.std.specs.Prelude.{◌==◌, flat_map, unwrap_or, IsTrue}
 use Rattle.std.specs.List.{AllByRecursion}
-use Rattle.std.proofs.lemmas.Bool.{and_parts}
-use Rattle.std.proofs.lemmas.Bool.Decides.{nat_tests}
 use Rattle.std.proofs.lemmas.List.Concat.{length-flat_map}
 use Rattle.std.proofs.lemmas.List.Sums.{sum_by-cons}
 use Rattle.std.proofs.lemmas.List.{length-map}
 use Rattle.dns_name.specs.Names.{is_name, name_wire}
 use Rattle.dns_name.specs.Octets.{u16_octets, u32_octets}
 use Rattle.dns_rdata.specs.Records.{Record, record_wire, data_wire, is_data}
-use Rattle.dns_wire.specs.Wire.{Header, Message, Question, header_in, id_in, flags_word, header_of, question_wire, message_wire}
+use Rattle.dns_wire.specs.Wire.{Header, Message, Question, header_in, question_wire, message_wire}
 use Rattle.dns_wire.specs.Parse.{questions_in}
-use Rattle.dns_wire.specs.Written.{IsMessage, IsQuestion, IsRecord}
-use Rattle.dns_wire.proofs.Headers.{header_of-flags_word, word_small}
+use Rattle.dns_wire.specs.Written.{IsMessage, IsRecord}
 use Rattle.tsig_port.specs.Tsig.{TsigKey, compose_len, mac_in, tsig_record, answer_tsig, signed_answer, signed_from}
 use Rattle.tsig_port.specs.Checked.{answer_fault, taken_message, prior_mac}
 use Rattle.tsig_port.specs.Signing.{CanSign}
 use Rattle.tsig_port.proofs.SignedAnswers as answers
 use Rattle.zone_model.specs.Version.{Version}
-use Rattle.zone_model.specs.Offer.{whole_text, room_of, is_filled, are_pages, are_single, IsCutInto}
+use Rattle.zone_model.specs.Offer.{whole_text, room_of, IsCutInto}
 use Rattle.zone_model.proofs.Valid.{one_soa}
 use Rattle.zone_model.proofs.WholeText.{middle_of, soa_of, whole_is}
 use Rattle.xfr_batch.specs.XfrBatches.{axfr_header}
 use Rattle.xfr_model.specs.Messages.{HaveData, ReadMessage, read_of, message_of}
 use Rattle.xfr_model.proofs.ReadingBuilt.{built_is_read}
-use Rattle.xfr_replies.specs.TransferPages.{page_answer, page_room}
+use Rattle.xfr_replies.specs.TransferPages.{page_answer}
 use Rattle.xfr_server.proofs.Accepted.{transfer_is_message}
 use Rattle.xfr_server.proofs.Answers.{wire_length}
 use Rattle.xfr_server.proofs.Pages.{IsPage, each_page}

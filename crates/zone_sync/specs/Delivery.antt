@@ -19,8 +19,8 @@ abbrev pub WasHonest : Option LinkLists → Option LinkLists → ℕ → ℕ →
 WasHonest (Some old) (Some new) faults_old faults_new = IsHonest old new faults_old faults_new × (faults_old < 2 ^ 64 - 1)
 WasHonest _ _ faults_old faults_new = ⊥
 
--- the premises: to the secondary's request a primary sends the whole text of a version, one record a message or as many as have room, and the secondary fits
--- both and the link
+-- the premises: to the secondary's request a primary sends the whole text of a version, one record a message or as many as have room, and the
+-- secondary fits both and the link
 pub record IsGranted (Sends : List ℕ → Option (List Sending) → Type 0) (a : Asking) (at longest : ℕ) (v : Version) : Type 0 where
   pub compatibility : Bool
   pub fits : Fits a at compatibility v

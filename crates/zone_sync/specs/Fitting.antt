@@ -1,5 +1,5 @@
 -- When an honest full transfer succeeds, from the secondary's request on (RFC 5936, 2 and 6; RFC 8945, 5).
-use Rattle.std.specs.Prelude.{◌≡◌, ℕ, ◌+◌, ◌-◌, ◌^◌, ◌≤◌, ◌<◌, Bool, true, List, map, length, IsTrue}
+use Rattle.std.specs.Prelude.{◌≡◌, ℕ, ◌+◌, ◌-◌, ◌^◌, ◌≤◌, ◌<◌, Bool, true, List, map, length}
 use Rattle.std.specs.Int.{abs_diff}
 use Rattle.std.specs.List.{AllByRecursion}
 use Rattle.dns_rdata.specs.Records.{Record}
@@ -31,7 +31,8 @@ page_answers a pages = map (page_answer (taken_message (asked_octets a))) pages
 abbrev pub sent_whole : Asking → ℕ → List (List Record) → List (List ℕ)
 sent_whole a at pages = signed_answers a.key (mac_in (asked_octets a)) at 300 (map message_wire (page_answers a pages))
 
--- a secondary that asks, and the moment and the version of a primary, which fit each other; its messages hold one record each, or as many as have room
+-- a secondary that asks, and the moment and the version of a primary, which fit each other; the messages hold one record each (RFC 5936, 7.2), or
+-- as many as have room
 pub record Fits (a : Asking) (at : ℕ) (compatibility : Bool) (v : Version) : Type 0 where
   pub mode : a.mode ≡ Axfr
   pub is_key : IsKey a.key
