@@ -130,7 +130,7 @@ udp_reply request limit v text = if fits limit (message_wire (page_answer reques
 
 -- one reply, without feedback
 abbrev pub sent_once : Option Building → Option (List Sending)
-sent_once reply = option_map (λ b. all_given (one_reply b)) reply
+sent_once reply = option_map all_given (option_map one_reply reply)
 
 -- a text by UDP, or by a stream: there in as many messages as it needs, with feedback (RFC 5936, 2.2)
 abbrev pub SendsTextBy : Bool → List ℕ → ℕ → Version → Bool → List Record → Option (List Sending) → Type 0

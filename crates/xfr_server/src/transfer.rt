@@ -7,7 +7,8 @@ ghost use Rattle.dns_rdata.specs.Soa as soas;
 ghost use Rattle.dns_wire.specs.Parse.{sole_question_in};
 ghost use Rattle.xfr_server.specs.Items.{Calls, Makes, all_given, one_reply};
 ghost use Rattle.xfr_server.specs.Transfers as transfers;
-ghost use Rattle.xfr_server.specs.Choosing.{Chooses, choice_shown, is_no_news};
+ghost use Rattle.xfr_server.specs.Transfers.Choice.{Refuse};
+ghost use Rattle.xfr_server.specs.Choosing.{Chooses, choice_shown, short_sent, is_no_news};
 ghost use Rattle.xfr_server.specs.Streams.{items_left, TransferLeft};
 ghost use Rattle.xfr_services.specs.declared.services.CallResult.{CallResult as Item};
 
@@ -176,15 +177,31 @@ fn transfer_mode(message: &Message<'_>) -> Option<XfrMode>
     }
 }
 
-/// What is sent in answer.
+/// What is sent in answer without a text, in one message.
 #[derive(Drop)]
-enum Reply {
+enum Short {
     /// No record.
     Error(Rcode),
     /// The apex SOA alone: the requestor has caught up (RFC 1995, 2).
     SoaAlone(ReadZone),
+}
+
+/// What is sent in answer.
+#[derive(Drop)]
+enum Reply {
+    /// No text.
+    Short(Short),
     /// The whole zone or differences, and whether each message is to hold one record (RFC 5936, 2.2 and 7; RFC 1995, 4).
     Text(TransferText, bool),
+}
+
+impl Reply {
+    /// No record.
+    fn error(rcode: Rcode) -> Reply
+        ensures { choice_shown result ≡ Refuse rcode }
+    {
+        Reply::Short(Short::Error(rcode))
+    }
 }
 
 /// The replies to a transfer request.
@@ -214,12 +231,26 @@ fn send_reply<S: ReplyStream>(
     ensures { Calls (transfers.SendsChoice request limit is_udp (choice_shown reply)) (TransferLeft S.LeftOf) result }
 {
     match reply {
-        Reply::Error(rcode) => sent_once(replies::refuse(alloc, &request, rcode)),
-        Reply::SoaAlone(zone) => sent_once(soa_alone(alloc, &request, limit, &zone)),
+        Reply::Short(short) => sent_once(short_reply(alloc, &request, limit, &short)),
         Reply::Text(text, _) if is_udp => sent_once(one_message(alloc, &request, limit, text)),
         Reply::Text(text, singles) => Ok(XfrMiddlewareStream::Transfer(TransferReplies::new(
             alloc, request, limit, singles, text,
         ))),
+    }
+}
+
+/// A refusal, or the apex SOA alone.
+fn short_reply(
+    alloc: Global,
+    request: &MessageBuf,
+    limit: usize,
+    short: &Short,
+) -> Result<Replies, ServiceError>
+    ensures { Makes (option_map one_reply (short_sent request.now limit short.now)) result }
+{
+    match short {
+        Short::Error(rcode) => replies::refuse(alloc, request, *rcode),
+        Short::SoaAlone(zone) => soa_alone(alloc, request, limit, zone),
     }
 }
 
@@ -246,7 +277,7 @@ fn choose_reply<R, M, X: XfrDataProvider<M>>(
     let message = request.message.as_message();
     let asked = asked_serial(&message);
     if lacks_serial(mode, &asked) {
-        return Ok(Reply::Error(Rcode::FORMERR));
+        return Ok(Reply::error(Rcode::FORMERR));
     }
     match provider.request(rt, alloc, request, asked) {
         Ok(found) => {
@@ -254,7 +285,7 @@ fn choose_reply<R, M, X: XfrDataProvider<M>>(
             Ok(reply_with(alloc, &message, mode, is_udp, asked, found))
         }
         Err(XfrDataProviderError::Memory) => Err(ServiceError::Memory),
-        Err(error) => Ok(Reply::Error(rcode_of(error))),
+        Err(error) => Ok(Reply::error(rcode_of(error))),
     }
 }
 
@@ -277,16 +308,16 @@ fn reply_with(
     ensures { choice_shown result ≡ transfers.choice_of mode is_udp (sole_question_in message.now) asked found }
 {
     if !asks_for_apex(message, found.zone()) {
-        return Reply::Error(Rcode::SERVFAIL);
+        return Reply::error(Rcode::SERVFAIL);
     }
     if !mode.is_ixfr() && is_udp {
-        return Reply::Error(Rcode::NOTIMP);
+        return Reply::error(Rcode::NOTIMP);
     }
     let Some(serial) = transfer_message::zone_serial(found.zone()) else {
-        return Reply::Error(Rcode::SERVFAIL);
+        return Reply::error(Rcode::SERVFAIL);
     };
     if mode.is_ixfr() && is_caught_up(serial, asked) {
-        return Reply::SoaAlone(found.into_zone());
+        return Reply::Short(Short::SoaAlone(found.into_zone()));
     }
     let with_changes = mode.is_ixfr() && has_changes(&found);
     text_reply(alloc, with_changes, found)
@@ -438,8 +469,7 @@ fn one_message(
     match transfer_message::text_message(alloc, request, limit, &mut text) {
         Ok(reply) => Ok(Replies::single(alloc, reply)?),
         Err(PushError::Memory) => Err(ServiceError::Memory),
-        Err(PushError::ShortBuf | PushError::CountOverflow) => {
-            soa_alone(alloc, request, limit, text.zone())
-        }
+        Err(PushError::ShortBuf) => soa_alone(alloc, request, limit, text.zone()),
+        Err(PushError::CountOverflow) => soa_alone(alloc, request, limit, text.zone()),
     }
 }

@@ -140,11 +140,11 @@ record_at f v ds p s xs x found items at =
     let there : set_in_part v ds p.part p.owner p.rtype ≡ Some s.contents = sym (ap untyped found ∙ untyped_typed p.rtype (set_in_part v ds p.part p.owner p.rtype)) in
     let rs : List Record = map (with_data p.owner p.rtype v.class s.contents.ttl) (map f xs) in
     let is : place_records v ds p ≡ rs =
-        ap (records_of_option p.owner p.rtype v.class) there ∙ ap (λ (ds : List (List Field)). map (with_data p.owner p.rtype v.class s.contents.ttl) ds) (sym items) in
+    ap (records_of_option p.owner p.rtype v.class) there ∙ ap (λ (ds : List (List Field)). map (with_data p.owner p.rtype v.class s.contents.ttl) ds) (sym items) in
     let after : List Record = text_behind v ds p.part p.owner p.rtype in
     ap (λ (l : List Record). slice_get (drop p.index l ++ after) 0) is
     ∙ first_of_rest rs after p.index (with_data p.owner p.rtype v.class s.contents.ttl (f x))
-      (mapped_at (with_data p.owner p.rtype v.class s.contents.ttl) (map f xs) p.index (f x) (mapped_at f xs p.index x at))
+    (mapped_at (with_data p.owner p.rtype v.class s.contents.ttl) (map f xs) p.index (f x) (mapped_at f xs p.index x at))
 
 pub found_rtype : (rtype : ℕ) (s : TypedSet) (o : Option RecordSet) → Some s ≡ option_map (typed rtype) o → s.rtype ≡ rtype
 found_rtype rtype s None e = absurd (true≢false (ap is_some e))

@@ -4,6 +4,7 @@
 //! message is on its way, and never holds a list of the zone's records.
 #![tactic(auto)]
 
+mod examples;
 mod lent_set;
 mod of_difference;
 mod of_zone;

@@ -1,6 +1,7 @@
 // Places in the sides of differences.
 ghost use Rattle.std.specs.Prelude.{◌≡◌, ◌==◌, ◌<◌, ◌∷◌, List, length, map, not, IsSome, option_copied, slice_get};
 ghost use Rattle.std.specs.Arc.{arc_value};
+ghost use Rattle.dns_name.specs.Codes.{type_soa};
 ghost use Rattle.zone_model.specs.Version.{Sets};
 ghost use Rattle.zone_model.specs.Difference.{Difference};
 ghost use Rattle.zone_model.specs.Offer.{side_records, side_soas};
@@ -53,13 +54,20 @@ pub(crate) fn key_behind<'d>(sets: &'d DiffSets, key: &SetKey) -> Option<&'d Set
     }
 }
 
+/// Whether a set is one of SOA records.
+fn is_soa_key(key: &SetKey) -> bool
+    ensures { result ≡ (key.now.1 == type_soa) }
+{
+    key.rtype() == Rtype::SOA
+}
+
 /// The first of a key and those behind it that isn't of SOA records.
 fn plain_key<'d>(sets: &'d DiffSets, first: Option<&'d SetKey>) -> Option<&'d SetKey>
     ensures { (rest : Sets) → Heads sets.now rest (option_copied first.entry) → SkipsSoas sets.now rest (option_copied result) }
 {
     let mut next = first;
     'keys: while let Some(key) = next {
-        if key.rtype() != Rtype::SOA {
+        if !is_soa_key(key) {
             return next;
         }
         next = key_behind(sets, key);

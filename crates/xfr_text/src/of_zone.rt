@@ -32,6 +32,7 @@ pub(crate) fn last_place(zone: &ReadZone) -> Option<Place>
 }
 
 /// The first set of the zone.
+#[tactic(auto, using(crate::proofs::Stops::heads_at_first))]
 pub(crate) fn first_stop(zone: &ReadZone) -> Option<WalkItem<'_>>
     ensures { HeadsAt zone.now.version zone.now.version.sets result }
 {
@@ -41,6 +42,7 @@ pub(crate) fn first_stop(zone: &ReadZone) -> Option<WalkItem<'_>>
 }
 
 /// The first set of the zone behind an owner and type.
+#[tactic(auto, using(crate::proofs::Stops::heads_at_next))]
 pub(crate) fn stop_behind<'z>(
     zone: &'z ReadZone,
     owner: &KeyName,

@@ -5,7 +5,7 @@ ghost use Rattle.xfr_text.specs.Sides.{sides_from, sides_of};
 use dns_name::{KeyName, Rtype};
 
 /// One side of a difference: of which one, counted from 0, and whether it is what that adds.
-#[derive(Clone, Copy, Debug, Drop)]
+#[derive(Clone, Copy, Drop)]
 pub(crate) struct Side {
     pub(crate) number: usize,
     pub(crate) adds: bool,
@@ -42,7 +42,7 @@ impl Side {
 }
 
 /// A part of the text. A side of a difference has two: its SOA records, and all others.
-#[derive(Clone, Copy, Debug, Drop)]
+#[derive(Clone, Copy, Drop)]
 pub(crate) enum Part {
     /// The zone's SOA record that stands before the whole zone.
     BeforeZone,
@@ -59,7 +59,7 @@ pub(crate) enum Part {
 }
 
 /// A record of the text: the part, the owner and type of the set in it, and the index in that set from 0.
-#[derive(Debug, Drop)]
+#[derive(Drop)]
 pub(crate) struct Place {
     pub(crate) part: Part,
     pub(crate) owner: KeyName,

@@ -1,10 +1,8 @@
-use Rattle.std.proofs.Common.{◌≡◌, ℕ, Bool, not, true, false, Bor, ◌==◌, Option, Some, None, subst, sym, ap, ◌∙◌}
+use Rattle.std.proofs.Common.{Bor, Option, subst, sym, ◌∙◌}
 use Rattle.std.specs.Prelude.{option_copied}
-use Rattle.dns_name.specs.Codes.{type_soa}
 use Rattle.zone_model.specs.Version.{Key, Sets}
 use Rattle.xfr_text.specs.Steps.{Heads, SkipsSoas}
 use Rattle.xfr_text.proofs.Skipping.{Passed, passed_none, passed_more, passed_soas, passed_all}
-use Rattle.xfr_text.proofs.Reading.{not_true, not_false}
 use Rattle.xfr_text.proofs.of_difference.plain_key.Goals as goal
 
 pub keys-init : goal.keys-init
@@ -12,13 +10,13 @@ keys-init c rest h = passed_none c.args.sets.now rest (option_copied c.args.firs
 
 pub keys-preserved : goal.keys-preserved
 keys-preserved c rest h =
-    let soa = ap (λ (n : ℕ). n == type_soa) (sym c.rtype.ensures) ∙ not_false _ (sym c.ne.ensures ∙ c.if-ne.false) in
+    let soa = sym c.is_soa_key.ensures ∙ c.if-not-is_soa_key.false in
     let passed = subst (λ (o : Option (Bor Key)). Passed c.args.sets.now rest (option_copied o)) c.in-Some.is (c.keys.invariant rest h) in
     passed_more c.args.sets.now rest c.in-Some.key.now (option_copied c.key_behind-next.result) soa c.key_behind-next.ensures passed
 
-pub returns-then-ne : goal.returns-then-ne
-returns-then-ne c rest h =
-    let plain = ap (λ (n : ℕ). n == type_soa) (sym c.rtype.ensures) ∙ not_true _ (sym c.ne.ensures ∙ c.if-ne.true) in
+pub returns-then-not-is_soa_key : goal.returns-then-not-is_soa_key
+returns-then-not-is_soa_key c rest h =
+    let plain = sym c.is_soa_key.ensures ∙ c.if-not-is_soa_key.true in
     let passed = subst (λ (o : Option (Bor Key)). Passed c.args.sets.now rest (option_copied o)) c.in-Some.is (c.keys.invariant rest h) in
     subst (λ (o : Option (Bor Key)). SkipsSoas c.args.sets.now rest (option_copied o)) (sym c.in-Some.is) (passed_soas c.args.sets.now rest c.in-Some.key.now plain passed)
 

@@ -13,7 +13,7 @@ returns-in-Some c ds more rest at h =
     let key = c.in-Some.key.now in
     let owner = c.shown_owner-owner.ensures ∙ ap (shown_owner v) c.owner.ensures in
     let made : c.first_of.result ≡ record { part = SideSets c.args.side; owner = shown_owner v key.0; rtype = key.1; index = 0 } =
-        c.first_of.ensures ∙ (λ i. record { part = SideSets c.args.side; owner = owner i; rtype = c.rtype.ensures i; index = 0 }) in
+    c.first_of.ensures ∙ (λ i. record { part = SideSets c.args.side; owner = owner i; rtype = c.rtype.ensures i; index = 0 }) in
     subst (λ (p : Place). Begins v ds (side_records v rest ++ sides_text v more) (Some p)) (sym made)
     (side_at_key v ds c.args.side c.args.sets.now rest more key at (c.in-Some.ensures rest h))
 

@@ -13,7 +13,7 @@ returns-in-Some c rest h ds =
     let stop = c.in-Some.stop in
     let owner = c.duplicate.ensures ∙ c.owner.ensures in
     let made : c.first_of.result ≡ record { part = Zone; owner = stop.owner; rtype = stop.rtype; index = 0 } =
-        c.first_of.ensures ∙ (λ i. record { part = Zone; owner = owner i; rtype = c.rtype.ensures i; index = 0 }) in
+    c.first_of.ensures ∙ (λ i. record { part = Zone; owner = owner i; rtype = c.rtype.ensures i; index = 0 }) in
     subst (λ (p : Place). Begins v ds (middle_of v rest ++ apex_soa_record v) (Some p)) (sym made) (zone_at_stop v ds rest stop (c.in-Some.ensures rest h))
 
 pub returns-in-None : goal.returns-in-None
