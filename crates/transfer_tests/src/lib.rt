@@ -10,6 +10,8 @@ mod provider_tests;
 #[cfg(test)]
 mod reply_vector_tests;
 #[cfg(test)]
+mod service_tests;
+#[cfg(test)]
 mod transfer_replies_tests;
 #[cfg(test)]
 mod transfer_vectors;

@@ -1,7 +1,6 @@
 -- One record added, as an update of the progress.
 use Rattle.std.proofs.Common.{◌≡◌, Bool, true, false, Result, Ok, Err, refl, ap, ◌∙◌, sym}
-use Rattle.std.specs.Prelude.{◌&&◌, not, if◌then◌else◌, List, [], ◌++◌}
-use Rattle.std.proofs.lemmas.List.{append-nil}
+use Rattle.std.specs.Prelude.{◌&&◌, not, if◌then◌else◌}
 use Rattle.dns_name.specs.Names.{under}
 use Rattle.dns_rdata.specs.Records.{Record}
 use Rattle.zone_model.specs.Version.{Version}
@@ -72,7 +71,3 @@ update_outside p r f e = not_finished p (AddRecord r) f ∙ refused_outside p r 
 
 pub update_bad_data : (p : Progress) (r : Record) → p.finished ≡ false → add p.pending r ≡ Err InvalidData → apply_update p (AddRecord r) ≡ Err (Edit InvalidData)
 update_bad_data p r f e = not_finished p (AddRecord r) f ∙ refused_data p r e
-
--- nothing more is committed
-pub and_none : (vs : List Version) → vs ++ [] ≡ vs
-and_none vs = append-nil vs

@@ -9,6 +9,7 @@ pub mod Taking
 pub mod UnknownData
 pub mod ToldAll
 pub mod Published
+mod ToldOf
 pub mod EditsLead
 pub mod UpdatesLead
 pub mod Named

@@ -1,5 +1,5 @@
 -- Calls in turn, each as its contract says (RFC 5936, 2.2; RFC 1995, 4).
-use Rattle.std.specs.Prelude.{◌≡◌, Bool, true, false, List, [], ◌∷◌, ◌++◌, map, Some, None, Result, Ok, Err, IsOk, IsTrue}
+use Rattle.std.specs.Prelude.{◌≡◌, Bool, true, false, List, [], ◌∷◌, ◌++◌, map, if◌then◌else◌, Some, None, Result, Ok, Err, IsOk, IsTrue}
 use Rattle.std.specs.Option.{option_map}
 use Rattle.std.specs.Cmp.Lexicographic.{pointwise}
 use Rattle.dns_name.specs.Names.{same_name}
@@ -7,7 +7,7 @@ use Rattle.dns_rdata.specs.Records.{Record}
 use Rattle.zone_model.specs.Version.{Version, IsValid, Same, same_version, has_one_soa}
 use Rattle.zone_model.specs.Session.{Session}
 use Rattle.zone_model.specs.Edits.{Refusal, add, delete}
-use Rattle.zone_model.specs.Difference.{difference, records_in}
+use Rattle.zone_model.specs.Difference.{difference, diffable, records_in}
 use Rattle.zone_model.specs.TransferText.{Mode, is_soa}
 use Rattle.zone_model.specs.TransferLaws.{IsSoaOf, batch_of}
 use Rattle.zone_model.specs.Spells.{spelling}
@@ -21,7 +21,7 @@ use Rattle.xfr_client.specs.declared.update.ZoneUpdate.{ZoneUpdate}
 use Rattle.xfr_client.specs.Causes.{update_of}
 use Rattle.xfr_client.specs.Rest.{Rest, NextTold}
 use Rattle.xfr_client.specs.Interpreting.{Interpreting, Interprets, is_over}
-use Rattle.xfr_client.specs.Updating.{Updating, progress_of, new_version}
+use Rattle.xfr_client.specs.Updating.{Updating, progress_of, new_version, told_by}
 
 -- Updates told: `next_update` in turn, each time with an update.
 abbrev pub Tells : Rest → List (ZoneUpdate Record) → Rest → Type 0
@@ -70,6 +70,11 @@ new_updater = record { replacing = false; finished = false }
 abbrev pub Applies : Updating → Session → Update → Updating → Session → Type 0
 Applies u s w v t = (before : List Version)
     → apply_update (progress_of u s before) w ≡ Ok (progress_of v t (before ++ new_version (commits w) t))
+
+-- the law of differences told: where one is wanted, an update that commits tells that of the version published before and the one published by it
+abbrev pub TellsOfPublished : Type 0
+TellsOfPublished = (u v : Updating) (s t : Session) (w : Update) → Applies u s w v t → commits w ≡ true
+    → told_by s w ≡ (if s.compares then (if diffable s.current.version t.current.version then Some (difference s.current.version t.current.version) else None) else None)
 
 -- one that is refused
 abbrev pub IsRefused : Updating → Session → Update → UpdateFault → Type 0

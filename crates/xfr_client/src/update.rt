@@ -17,7 +17,8 @@ pub enum ZoneUpdate<R> {
     DeleteRecord(R),
     /// This record is added.
     AddRecord(R),
-    /// A batch begins with its deletes; what was pending before it is committed. The record is the old SOA.
+    /// A batch begins with its deletes; what was pending before it is committed, and the difference from there is wanted. The record is the
+    /// old SOA.
     BeginBatchDelete(R),
     /// A batch's adds begin. The record is the new SOA.
     BeginBatchAdd(R),

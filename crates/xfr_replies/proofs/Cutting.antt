@@ -58,7 +58,7 @@ not_nil [] rest some e = some refl
 not_nil (x ∷ page) rest some e = cc
 
 -- the tests of pages one by one
-within_first : (room : ℕ) (page : List Record) (more : List (List Record)) → are_pages room (page ∷ more) ≡ true → nat_le (room_of page) room ≡ true
+pub within_first : (room : ℕ) (page : List Record) (more : List (List Record)) → are_pages room (page ∷ more) ≡ true → nat_le (room_of page) room ≡ true
 within_first room page more each =
     let three = (and_parts _ _ each).0 in
     let two = (and_parts _ _ three).0 in
@@ -67,7 +67,7 @@ within_first room page more each =
 filled_first : (room : ℕ) (page : List Record) (more : List (List Record)) → are_pages room (page ∷ more) ≡ true → is_filled room page more ≡ true
 filled_first room page more each = (and_parts _ _ (and_parts _ _ each).0).1
 
-pages_behind : (room : ℕ) (page : List Record) (more : List (List Record)) → are_pages room (page ∷ more) ≡ true → are_pages room more ≡ true
+pub pages_behind : (room : ℕ) (page : List Record) (more : List (List Record)) → are_pages room (page ∷ more) ≡ true → are_pages room more ≡ true
 pages_behind room page more each = (and_parts _ _ each).1
 
 -- a page that is filled has no room for what stands behind it
@@ -256,7 +256,7 @@ ends_first : (room : ℕ) (page : List Record) (more : List (List Record)) (rest
 ends_first room page more [] filled joined = tt
 ends_first room page more (x ∷ rest) filled joined = filled_by room page more x rest filled joined
 
-some_page : (room : ℕ) (page : List Record) (more : List (List Record)) → are_pages room (page ∷ more) ≡ true → page ≢ []
+pub some_page : (room : ℕ) (page : List Record) (more : List (List Record)) → are_pages room (page ∷ more) ≡ true → page ≢ []
 some_page room [] more each none = true≢false (sym each)
 some_page room (r ∷ page) more each none = cc
 

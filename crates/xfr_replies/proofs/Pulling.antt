@@ -1,63 +1,29 @@
 -- What is pulled of a text, message by message.
-use Rattle.std.proofs.Common.{◌≡◌, ℕ, ◌+◌, ◌-◌, ◌≤◌, ◌<◌, Bool, true, false, true≢false, List, [], ◌∷◌, ◌++◌, length, map, drop, refl, sym, ap, ◌∙◌, subst, arith}
-use Rattle.std.specs.Prelude.{◌≢◌, nat_le, min, flat_map, slice_get, Option, Some, None, Ok, Err, if◌then◌else◌}
+use Rattle.std.proofs.Common.{◌≡◌, ℕ, ◌+◌, ◌≤◌, ◌<◌, Bool, true, false, true≢false, List, [], ◌∷◌, ◌++◌, length, map, drop, refl, sym, ap, ◌∙◌, subst, arith}
+use Rattle.std.specs.Prelude.{◌≢◌, nat_le, slice_get, Option, Some, None, Ok, Err, if◌then◌else◌}
 use Rattle.std.specs.List.{list_all}
 use Rattle.std.proofs.lemmas.Bool.{and_left}
-use Rattle.std.proofs.lemmas.Bool.Decides.{nat_tests}
-use Rattle.std.proofs.lemmas.List.{append_assoc, length-append}
-use Rattle.std.proofs.lemmas.List.Sums.{sum_by-cons, sum_by_push}
+use Rattle.std.proofs.lemmas.List.{append_assoc}
+use Rattle.std.proofs.lemmas.List.Sums.{sum_by_push}
 use Rattle.dns_rdata.specs.Records.{Record, record_wire}
-use Rattle.dns_wire.specs.Wire.{Building, header_in, ancount_in, message_wire, fits}
-use Rattle.dns_wire.specs.Parse.{questions_in}
+use Rattle.dns_wire.specs.Wire.{Building, ancount_in}
 use Rattle.dns_wire.specs.declared.builder.PushError.TheVariants.{ShortBuf}
 use Rattle.zone_model.specs.Offer.{room_of, IsCutInto}
 use Rattle.xfr_batch.specs.Batches.{Batching, IsBegun, message_with, has_room}
 use Rattle.xfr_batch.specs.BatchSteps.{Tries}
 use Rattle.xfr_batch.specs.ReadyMessages.{Kept, none_ready}
-use Rattle.xfr_batch.specs.XfrBatches.{axfr_header, push_limit, has_reached, transfer_begins, transfer_is_full}
+use Rattle.xfr_batch.specs.XfrBatches.{has_reached, transfer_begins, transfer_is_full}
 use Rattle.xfr_batch.specs.declared.batcher.PushResult.TheVariants.{PushedAndReadyForMore, PushedAndLimitReached, NotPushedMessageFull}
-use Rattle.xfr_batch.proofs.BatchAdding.{wire_length, record_long}
 use Rattle.xfr_batch.proofs.BatchRooms.{not_nil, begun_none}
 use Rattle.xfr_batch.proofs.XfrReady.{fewer, small_batch}
 use Rattle.xfr_services.specs.Items.{Sending, reply_item, feedback_item}
 use Rattle.xfr_services.specs.Items.Sending.{Given}
 use Rattle.xfr_services.specs.declared.services.ServiceFeedback.TheVariants.{BeginTransaction, EndTransaction}
-use Rattle.xfr_replies.specs.TransferPages.{page_answer, page_message, page_room, has_page, sendable, EndsBefore, FirstPage}
+use Rattle.xfr_replies.specs.TransferPages.{page_message, page_room, has_page, sendable, EndsBefore, FirstPage}
 use Rattle.xfr_replies.specs.PagedReplies.{SendsRest, TransferSends, page_sent, end_sent, servfail_sent}
 use Rattle.xfr_replies.specs.PulledStreams.{Continues, begun_left, messages_left}
+use Rattle.xfr_replies.proofs.PageRooms.{room_is, message_is}
 use Rattle.xfr_replies.proofs.Cutting.{one_room, first_page, first_single, no_pages, sendable_behind, sendable_none, all_behind, has_pages, one_cut}
-
--- ---- room
-
-room_length : (rs : List Record) → length (flat_map record_wire rs) ≡ room_of rs
-room_length [] = refl
-room_length (r ∷ rs) =
-    length-append (record_wire r) (flat_map record_wire rs) ∙ ap (λ n. length (record_wire r) + n) (room_length rs)
-    ∙ sym (sum_by-cons (λ x. length (record_wire x)) r rs)
-
-page_length : (q : List ℕ) (page : List Record) → length (message_wire (page_answer q page)) ≡ length (message_wire (page_answer q [])) + room_of page
-page_length q page =
-    omega (arith, wire_length (axfr_header (header_in q)) (questions_in q) page, wire_length (axfr_header (header_in q)) (questions_in q) [], room_length page)
-
-within_rest : (n base len most : ℕ) → n ≡ base + len → 1 ≤ len → nat_le n most ≡ nat_le len (most - base)
-within_rest n base len most is some = grind (arith, nat_tests)
-
-some_room : (r : Record) (rs : List Record) → 1 ≤ room_of (r ∷ rs)
-some_room r rs = omega (arith, sum_by-cons (λ x. length (record_wire x)) r rs, record_long r)
-
-page_fits : (q : List ℕ) (limit : ℕ) (page : List Record) → page ≢ [] → fits limit (message_wire (page_answer q page)) ≡ nat_le (room_of page) (page_room q limit)
-page_fits q limit [] some = absurd (some refl)
-page_fits q limit (r ∷ rs) some =
-    within_rest (length (message_wire (page_answer q (r ∷ rs)))) (length (message_wire (page_answer q []))) (room_of (r ∷ rs)) (min limit 65535) (page_length q (r ∷ rs)) (some_room r rs)
-
--- a batcher's message has room for a page as its octets have
-pub room_is : (s : Kept) (q : List ℕ) (limit : ℕ) (page : List Record) → s.soft_byte_limit ≡ Some limit → page ≢ []
-    → has_room (transfer_begins s q) page ≡ nat_le (room_of page) (page_room q limit)
-room_is s q limit page soft some = ap (λ l. fits (push_limit l) (message_wire (page_answer q page))) soft ∙ page_fits q limit page some
-
--- .. and that message is the page's
-pub message_is : (s : Kept) (q : List ℕ) (limit : ℕ) (page : List Record) → s.soft_byte_limit ≡ Some limit → message_with (transfer_begins s q) page ≡ page_message q limit page
-message_is s q limit page soft = ap (λ l. record { octets = message_wire (page_answer q page); limit = push_limit l }) soft
 
 -- ---- one page
 

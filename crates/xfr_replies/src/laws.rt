@@ -1,6 +1,6 @@
 // Laws of pages, each the contract of a function with an empty body.
-ghost use Rattle.std.specs.Prelude.{◌≡◌, ◌≢◌, ℕ, Bool, true, false, List, [], ◌∷◌, ◌++◌, nat_le, Option, Some, None, Ok, if◌then◌else◌};
-ghost use Rattle.dns_wire.specs.Wire.{Building};
+ghost use Rattle.std.specs.Prelude.{◌≡◌, ◌≢◌, ℕ, Bool, true, false, List, [], ◌∷◌, ◌++◌, nat_le, All, Option, Some, None, Ok, if◌then◌else◌};
+ghost use Rattle.dns_wire.specs.Wire.{Building, message_wire, fits};
 ghost use Rattle.dns_rdata.specs.Records.{Record};
 ghost use Rattle.zone_model.specs.Offer.{room_of, IsCutInto};
 ghost use Rattle.xfr_batch.specs.Batches.{IsBegun, has_room};
@@ -10,7 +10,7 @@ ghost use Rattle.xfr_batch.specs.XfrBatches.{transfer_begins, transfer_is_full};
 ghost use Rattle.xfr_batch.specs.declared.batcher.PushResult.TheVariants.{NotPushedMessageFull, PushedAndLimitReached};
 ghost use Rattle.xfr_services.specs.Items.{Sending};
 ghost use Rattle.xfr_replies.specs.PagedReplies.{TransferSends};
-ghost use Rattle.xfr_replies.specs.TransferPages.{page_message, page_room, sendable, EndsBefore, FirstPage};
+ghost use Rattle.xfr_replies.specs.TransferPages.{page_answer, page_message, page_room, sendable, EndsBefore, FirstPage};
 
 /// A page that is within its room, and has none for what stands behind it, is the first of any cut.
 pub fn full_pages_come_first()
@@ -62,4 +62,11 @@ pub fn messages_given_back_are_first_pages()
         → IsCutInto (page_room request limit) singles (sendable (page_room request limit) ((begun ++ r ∷ []) ++ rest)) pages
         → (m ≡ page_message request limit (begun ++ r ∷ []))
         × FirstPage (page_room request limit) singles (begun ++ r ∷ []) (sendable (page_room request limit) rest) pages }
+{}
+
+/// The message of each page of a text is within the limit, and within 65,535 octets.
+pub fn messages_are_within_the_limit()
+    ensures { (request : List ℕ) (limit : ℕ) (singles : Bool) (text : List Record) (pages : List (List Record))
+        → IsCutInto (page_room request limit) singles text pages
+        → All (λ page. fits limit (message_wire (page_answer request page)) ≡ true) pages }
 {}

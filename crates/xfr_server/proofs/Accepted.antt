@@ -1,13 +1,13 @@
 -- How a client that asked takes the message of a full transfer.
 use Rattle.std.proofs.Common.{◌≡◌, ℕ, ◌≤◌, ◌<◌, ◌^◌, suc, Bool, true, false, ◌||◌, not, cond, List, [], ◌∷◌, ◌++◌, length, map, filter, Option, Some, None, refl, sym, ap, ◌∙◌, arith, subst, eq-eqb, lit<}
-use Rattle.std.specs.Prelude.{◌==◌, option_map, option_and_then, filter_map}
+use Rattle.std.specs.Prelude.{◌==◌, option_map, option_and_then, filter_map, flat_map}
 use Rattle.std.specs.Option.{option_map_or}
 use Rattle.std.specs.List.{AllByRecursion}
 use Rattle.std.proofs.lemmas.Bool.Decides.{nat_tests}
 use Rattle.dns_name.specs.Names.{same_name}
 use Rattle.dns_name.specs.Codes.{type_soa, type_axfr, type_ixfr}
 use Rattle.dns_rdata.specs.Records.{Field, Record}
-use Rattle.dns_wire.specs.Wire.{Header, Question, same_question, flags_word, header_of, header_in, qdcount_in}
+use Rattle.dns_wire.specs.Wire.{Header, Question, same_question, flags_word, header_of, header_in, id_in, qdcount_in}
 use Rattle.dns_wire.specs.Parse.{Parsed, parsed, readings, question_at, questions_in, sole_question_in, message_end}
 use Rattle.dns_wire.specs.Written.{IsQuestion, parsed_of}
 use Rattle.dns_wire.proofs.Headers.{header_of-flags_word, word_small}
@@ -16,15 +16,17 @@ use Rattle.zone_model.specs.Version.{RecordSet, Version, set_at}
 use Rattle.zone_model.specs.Answer.{apex_soa_record, first_only, records_of, records_of_option}
 use Rattle.zone_model.specs.Offer.{is_apex_soa, whole_text}
 use Rattle.zone_model.specs.Walk.{records_of_version}
-use Rattle.xfr_model.specs.Messages.{ReadMessage}
+use Rattle.xfr_model.specs.Messages.{ReadMessage, read_of}
 use Rattle.xfr_model.specs.Read.{request_fault}
 use Rattle.zone_model.specs.TransferText.{is_soa}
 use Rattle.zone_model.proofs.Folded.{same_name-Decides}
-use Rattle.xfr_server.specs.TransferMessage.{transfer_header}
+use Rattle.xfr_batch.specs.XfrBatches.{axfr_header}
+use Rattle.xfr_replies.specs.TransferPages.{page_answer}
 use Rattle.xfr_server.specs.Transfers.{transfer_mode, mode_of_type}
 use Rattle.xfr_server.specs.FullTransfer.{WholeIsTaken, TransferIsMessage}
 use Rattle.xfr_server.specs.declared.transfer.XfrMode.{XfrMode}
 use Rattle.xfr_server.specs.declared.transfer.XfrMode.TheVariants.{Axfr, Ixfr}
+use Rattle.xfr_server.proofs.Pages.{IsPage, each_page}
 
 -- ---- the request
 
@@ -32,24 +34,18 @@ mode_cases : (b : Bool) (o : Option XfrMode) → cond b None o ≡ Some Axfr →
 mode_cases true o e = cc
 mode_cases false o e = (refl, e)
 
-neither : (a b : Bool) → (a || not b) ≡ false → b ≡ true
-neither true b e = cc
-neither false true e = refl
-neither false false e = cc
-
 axfr_type : (n : ℕ) (a b : Bool) → (n == type_axfr) ≡ a → cond a (Some Axfr) (cond b (Some Ixfr) None) ≡ Some Axfr → (n == type_axfr) ≡ true
 axfr_type n true b is e = is
 axfr_type n false true is e = cc
 axfr_type n false false is e = cc
 
--- it is a query for a full transfer
-asks_axfr : (message : List ℕ) (q : Question) → transfer_mode message ≡ Some Axfr → sole_question_in message ≡ Some q
-    → (((header_in message).opcode == 0) ≡ true) × ((q.qtype == type_axfr) ≡ true)
+-- it asks for a full transfer
+asks_axfr : (message : List ℕ) (q : Question) → transfer_mode message ≡ Some Axfr → sole_question_in message ≡ Some q → (q.qtype == type_axfr) ≡ true
 asks_axfr message q mode sole =
     let h = header_in message in
     let parts = mode_cases (h.qr || not (h.opcode == 0)) (option_and_then (λ (p : Question). mode_of_type p.qtype) (sole_question_in message)) mode in
     let by : mode_of_type q.qtype ≡ Some Axfr = sym (ap (option_and_then (λ (p : Question). mode_of_type p.qtype)) sole) ∙ parts.1 in
-    (neither h.qr (h.opcode == 0) parts.0, axfr_type q.qtype (q.qtype == type_axfr) (q.qtype == type_ixfr) refl by)
+    axfr_type q.qtype (q.qtype == type_axfr) (q.qtype == type_ixfr) refl by
 
 -- its question is the only one
 one_reading : (item : ℕ → Option (Question × ℕ)) (r : Option (Question × ℕ)) (q : Question) → item 12 ≡ r → option_map (λ x. x.0) r ≡ Some q → filter_map (λ x. x) (readings item 1 12) ≡ q ∷ []
@@ -91,37 +87,61 @@ not_none : (n : ℕ) → (suc n == 0) ≡ false
 not_none n = grind (arith, nat_tests)
 
 -- the message as it is read
-abbrev read_with : Header → Question → List Record → ReadMessage
-read_with h q rs = record { header = transfer_header h; questions = q ∷ []; answers = map Some rs; authority = 0 }
+abbrev read_with : Header → List Question → List Record → ReadMessage
+read_with h qs rs = record { header = axfr_header h; questions = qs; answers = map Some rs; authority = 0 }
 
-taken_at : (h : Header) (q : Question) (r : Record) (rest : List Record) → (h.opcode == 0) ≡ true → (q.qtype == type_axfr) ≡ true → is_soa r ≡ true
-    → request_fault h.id q true (read_with h q (r ∷ rest)) ≡ None
-taken_at h q r rest query axfr soa =
+taken_first : (h : Header) (q : Question) (r : Record) (rest : List Record) → (q.qtype == type_axfr) ≡ true → is_soa r ≡ true → request_fault h.id q true (read_with h (q ∷ []) (r ∷ rest)) ≡ None
+taken_first h q r rest axfr soa =
     let id : (h.id == h.id) ≡ true = eq-eqb h.id h.id refl in
     let some : (suc (length (map Some rest)) == 0) ≡ false = not_none (length (map Some rest)) in
-    rw (id, same_alone q, query, some, axfr, soa) refl
+    rw (id, same_alone q, some, axfr, soa) refl
 
-opcode_small : (message : List ℕ) → (header_in message).opcode < 16
-opcode_small message = omega arith
+taken_later : (h : Header) (q : Question) (r : Record) (rest : List Record) → request_fault h.id q false (read_with h (q ∷ []) (r ∷ rest)) ≡ None
+taken_later h q r rest =
+    let id : (h.id == h.id) ≡ true = eq-eqb h.id h.id refl in
+    let some : (suc (length (map Some rest)) == 0) ≡ false = not_none (length (map Some rest)) in
+    rw (id, same_alone q, some) refl
 
-header_again : (h : Header) → h.opcode < 16 → header_of (transfer_header h).id (flags_word (transfer_header h)) ≡ transfer_header h
-header_again h small = header_of-flags_word (transfer_header h) small (lit< tt)
+header_again : (h : Header) → header_of (axfr_header h).id (flags_word (axfr_header h)) ≡ axfr_header h
+header_again h = header_of-flags_word (axfr_header h) (lit< tt) (lit< tt)
 
-zero_small : (n : ℕ) → (n == 0) ≡ true → n < 16
-zero_small n e = grind (arith, nat_tests)
+-- an answer with a page to a request with this question alone, as it is read
+read_page : (message : List ℕ) (q : Question) (page : List Record) → questions_in message ≡ q ∷ [] → read_of (page_answer message page) ≡ read_with (header_in message) (q ∷ []) page
+read_page message q page asked =
+    let h = header_in message in
+    ap (λ head. record { header = head; questions = questions_in message; answers = map Some page; authority = 0 }) (header_again h)
+    ∙ ap (λ qs. read_with h qs page) asked
+
+-- a page of a text that begins with an SOA
+first_taken : (message : List ℕ) (q : Question) (page rest behind : List Record) (r : Record) → questions_in message ≡ q ∷ [] → (q.qtype == type_axfr) ≡ true → is_soa r ≡ true
+    → 1 ≤ length page → page ++ behind ≡ r ∷ rest → request_fault (id_in message) q true (read_of (page_answer message page)) ≡ None
+first_taken message q [] rest behind r asked axfr soa some text = absurd (omega (arith, some))
+first_taken message q (x ∷ page) rest behind r asked axfr soa some text =
+    let first : r ≡ x = cc in
+    ap (request_fault (header_in message).id q true) (read_page message q (x ∷ page) asked)
+    ∙ taken_first (header_in message) q x page axfr (subst (λ y. is_soa y ≡ true) first soa)
+
+later_taken : (message : List ℕ) (q : Question) (page : List Record) → questions_in message ≡ q ∷ [] → 1 ≤ length page → request_fault (id_in message) q false (read_of (page_answer message page)) ≡ None
+later_taken message q [] asked some = absurd (omega (arith, some))
+later_taken message q (x ∷ page) asked some =
+    ap (request_fault (header_in message).id q false) (read_page message q (x ∷ page) asked) ∙ taken_later (header_in message) q x page
+
+all_later : (message : List ℕ) (q : Question) (room : ℕ) (pages : List (List Record)) → questions_in message ≡ q ∷ [] → AllByRecursion (IsPage room) pages
+    → AllByRecursion (λ page. request_fault (id_in message) q false (read_of (page_answer message page)) ≡ None) pages
+all_later message q room [] asked each = tt
+all_later message q room (page ∷ more) asked each = (later_taken message q page asked each.0.0, all_later message q room more asked each.1)
 
 pub whole_is_taken : WholeIsTaken
-whole_is_taken message q v mode sole one =
-    let h = header_in message in
-    let asked = asks_axfr message q mode sole in
+whole_is_taken message q v room singles page more mode sole one cut =
+    let asked = asked_alone message q sole in
     let soa = soa_of v (set_at v v.apex type_soa) one in
     let middle = filter (λ r. not (is_apex_soa v r)) (records_of_version v) in
-    let rest = middle ++ apex_soa_record v in
-    let text : whole_text v ≡ soa.0 ∷ rest = ap (λ rs. (rs ++ middle) ++ apex_soa_record v) soa.1.0 in
-    ap (λ head. request_fault h.id q true (record { header = head; questions = questions_in message; answers = map Some (whole_text v); authority = 0 })) (header_again h (zero_small h.opcode asked.0))
-    ∙ ap (λ qs. request_fault h.id q true (record { header = transfer_header h; questions = qs; answers = map Some (whole_text v); authority = 0 })) (asked_alone message q sole)
-    ∙ ap (λ rs. request_fault h.id q true (read_with h q rs)) text
-    ∙ taken_at h q soa.0 rest asked.0 asked.1 soa.1.1
+    let text : whole_text v ≡ soa.0 ∷ (middle ++ apex_soa_record v) = ap (λ rs. (rs ++ middle) ++ apex_soa_record v) soa.1.0 in
+    let each = each_page room singles (page ∷ more) cut.filled in
+    (
+      first_taken message q page (middle ++ apex_soa_record v) (flat_map (λ p. p) more) soa.0 asked (asks_axfr message q mode sole) soa.1.1 each.0.0 (cut.joined ∙ text),
+      all_later message q room more asked each.1,
+    )
 
 -- ---- a message that has a wire form
 
@@ -151,7 +171,7 @@ transfer_is_message message asked rs header built whole records few =
     let Q : List Question → Type 0 = λ qs. length qs < 2 ^ 16 in
     record {
       id = omega (arith, id, id_small);
-      flags = word_small (transfer_header h) (opcode_small message) (lit< tt);
+      flags = word_small (axfr_header h) (lit< tt) (lit< tt);
       questions = subst P (sym parts.1) built.questions;
       answers = records;
       authority = tt;

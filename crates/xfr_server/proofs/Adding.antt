@@ -14,11 +14,10 @@ use Rattle.dns_wire.proofs.Pushing.{message_wire-more_answers, answers-counted}
 use Rattle.dns_wire.proofs.Questions.{not_fitting}
 use Rattle.zone_model.specs.Version.{RecordSet, Version, set_at}
 use Rattle.zone_model.specs.Answer.{apex_soa_record, first_only, records_of, records_of_option}
-use Rattle.zone_model.specs.Offer.{whole_text}
-use Rattle.zone_model.specs.Walk.{Stop, walk}
-use Rattle.xfr_server.specs.TransferMessage.{transfer_header, transfer_message, AddsAnswers, is_soa_stop, stop_records}
+use Rattle.xfr_batch.specs.XfrBatches.{axfr_header}
+use Rattle.xfr_replies.specs.TransferPages.{page_answer}
+use Rattle.xfr_server.specs.TransferMessage.{AddsAnswers}
 use Rattle.xfr_server.proofs.Answers.{longer, few}
-use Rattle.xfr_server.proofs.Middle.{middle_by_stops}
 
 -- ---- no record, one record, and records after records
 
@@ -68,10 +67,10 @@ refused_front xs ys old new e refused h qs before limit built =
     (refused_more (message_wire (in_answer h qs (before ++ xs))) (message_wire (in_answer h qs ((before ++ xs) ++ ys))) limit e (longer h qs (before ++ xs) ys) (refused h qs before limit built))
 
 -- an answer that can't be begun can't have records
-pub not_begun : (request : List ℕ) (rs : List Record) (limit : ℕ) (e : PushError) → Builds (message_wire (transfer_message request [])) limit (Err e)
-    → Builds (message_wire (transfer_message request rs)) limit (Err e)
+pub not_begun : (request : List ℕ) (rs : List Record) (limit : ℕ) (e : PushError) → Builds (message_wire (page_answer request [])) limit (Err e)
+    → Builds (message_wire (page_answer request rs)) limit (Err e)
 not_begun request rs limit e refused =
-    refused_more (message_wire (transfer_message request [])) (message_wire (transfer_message request rs)) limit e (longer (transfer_header (header_in request)) (questions_in request) [] rs) refused
+    refused_more (message_wire (page_answer request [])) (message_wire (page_answer request rs)) limit e (longer (axfr_header (header_in request)) (questions_in request) [] rs) refused
 
 -- ---- the apex SOA
 
@@ -88,35 +87,3 @@ pub soa_first : (v : Version) (s : RecordSet) (d : List Field) (more : List (Lis
 soa_first v s d more e first =
     ap (λ o. records_of_option v.apex type_soa v.class (option_map first_only o)) e
     ∙ ap (λ items. records_of v.apex type_soa v.class (first_only (record { ttl = s.ttl; items = items }))) first
-
--- ---- stops, and the whole text
-
-pub soa_stop_none : (v : Version) (s : Stop) → is_soa_stop v s ≡ true → stop_records v s ≡ []
-soa_stop_none v s e = rw e refl
-
--- what the calls add one after another is the whole text
-pub whole_is : (v : Version) → (apex_soa_record v ++ flat_map (stop_records v) (walk v)) ++ apex_soa_record v ≡ whole_text v
-whole_is v = ap (λ rs. (apex_soa_record v ++ rs) ++ apex_soa_record v) (middle_by_stops v)
-
-as_whole : (v : Version) (old new : Building) (result : Result (Unit {0}) PushError)
-    → AddsAnswers ((apex_soa_record v ++ flat_map (stop_records v) (walk v)) ++ apex_soa_record v) old result new → AddsAnswers (whole_text v) old result new
-as_whole v old new result added =
-    let P : List Record → Type 0 = λ rs. AddsAnswers rs old result new in
-    subst P (whole_is v) added
-
-pub whole_without_first : (v : Version) (old new : Building) (e : PushError) → AddsAnswers {A = Unit {0}} (apex_soa_record v) old (Err e) new → AddsAnswers {A = Unit {0}} (whole_text v) old (Err e) new
-whole_without_first v old new e refused =
-    as_whole v old new (Err e) (refused_front (apex_soa_record v ++ flat_map (stop_records v) (walk v)) (apex_soa_record v) old new e
-    (refused_front (apex_soa_record v) (flat_map (stop_records v) (walk v)) old new e refused))
-
-pub whole_without_middle : (v : Version) (old mid new : Building) (u : Unit {0}) (e : PushError) → AddsAnswers (apex_soa_record v) old (Ok u) mid
-    → AddsAnswers {A = Unit {0}} (flat_map (stop_records v) (walk v)) mid (Err e) new → AddsAnswers {A = Unit {0}} (whole_text v) old (Err e) new
-whole_without_middle v old mid new u e first refused =
-    as_whole v old new (Err e) (refused_front (apex_soa_record v ++ flat_map (stop_records v) (walk v)) (apex_soa_record v) old new e
-    (adds_behind (apex_soa_record v) (flat_map (stop_records v) (walk v)) old mid new u (Err e) first refused))
-
-pub whole_with_all : (v : Version) (old first_done middle_done new : Building) (u w : Unit {0}) (result : Result (Unit {0}) PushError) → AddsAnswers (apex_soa_record v) old (Ok u) first_done
-    → AddsAnswers (flat_map (stop_records v) (walk v)) first_done (Ok w) middle_done → AddsAnswers (apex_soa_record v) middle_done result new → AddsAnswers (whole_text v) old result new
-whole_with_all v old first_done middle_done new u w result first middle last =
-    as_whole v old new result (adds_behind (apex_soa_record v ++ flat_map (stop_records v) (walk v)) (apex_soa_record v) old middle_done new w result
-    (adds_behind (apex_soa_record v) (flat_map (stop_records v) (walk v)) old first_done middle_done u (Ok w) first middle) last)

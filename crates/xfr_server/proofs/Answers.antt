@@ -45,7 +45,7 @@ record_long r =
       length-append e d,
     )
 
-records_long : (rs : List Record) → 10 * length rs ≤ length (flat_map record_wire rs)
+pub records_long : (rs : List Record) → 10 * length rs ≤ length (flat_map record_wire rs)
 records_long [] = omega arith
 records_long (r ∷ rs) = omega (arith, record_long r, records_long rs, length-append (record_wire r) (flat_map record_wire rs))
 

@@ -1,20 +1,47 @@
--- What is chosen of an offer.
-use Rattle.std.proofs.Common.{◌≡◌, ℕ, Bool, false, ◌&&◌, not, List, Option, refl, sym, subst}
-use Rattle.std.specs.Prelude.{Result, Ok, is_some}
+-- What is chosen of an offer, and what is sent of that.
+use Rattle.std.proofs.Common.{◌≡◌, ℕ, Bool, false, ◌&&◌, not, List, Option, refl, sym, ap, ◌∙◌, subst}
+use Rattle.std.specs.Prelude.{Result, Ok, is_some, option_map}
+use Rattle.dns_rdata.specs.Records.{Record}
+use Rattle.dns_wire.specs.Wire.{message_wire, fits}
 use Rattle.dns_wire.specs.Parse.{sole_question_in}
 use Rattle.zone_model.specs.Offer.{Offer}
-use Rattle.xfr_server.specs.Transfers.{asked_serial, is_ixfr, chosen, choice_of}
+use Rattle.zone_model.specs.Version.{Version}
+use Rattle.xfr_replies.specs.TransferPages.{page_answer}
+use Rattle.xfr_server.specs.Items.{Sending, Calls, Makes, all_given, one_reply}
+use Rattle.xfr_server.specs.Transfers.{asked_serial, is_ixfr, chosen, choice_of, soa_reply, udp_reply, SendsChoice}
+use Rattle.xfr_server.specs.Choosing.{short_shown, short_sent}
+use Rattle.xfr_server.specs.declared.transfer.Short.{Short}
+use Rattle.xfr_server.specs.declared.transfer.Short.TheVariants.{Error, SoaAlone}
+use Rattle.xfr_services.specs.declared.services.CallResult.{CallResult}
+use Rattle.xfr_services.specs.declared.services.ServiceError.{ServiceError}
 use Rattle.xfr_server.specs.declared.providers.XfrDataProviderError.{XfrDataProviderError}
 use Rattle.xfr_server.specs.declared.transfer.XfrMode.{XfrMode}
 
 here : (told : Option ℕ → Result Offer XfrDataProviderError) (mode : XfrMode) (udp : Bool) (message : List ℕ) (offer : Offer)
     → (is_ixfr mode && not (is_some (asked_serial message))) ≡ false → told (asked_serial message) ≡ Ok offer
-    → chosen told mode udp message ≡ choice_of mode udp (sole_question_in message) (asked_serial message) offer.version
+    → chosen told mode udp message ≡ choice_of mode udp (sole_question_in message) (asked_serial message) offer
 here told mode udp message offer test given = rw (test, given) refl
 
 pub chosen_offer : (told : Option ℕ → Result Offer XfrDataProviderError) (mode : XfrMode) (udp : Bool) (message : List ℕ) (offer : Offer) (asked : Option ℕ) → asked ≡ asked_serial message
     → (is_ixfr mode && not (is_some asked)) ≡ false → told asked ≡ Ok offer
-    → chosen told mode udp message ≡ choice_of mode udp (sole_question_in message) asked offer.version
+    → chosen told mode udp message ≡ choice_of mode udp (sole_question_in message) asked offer
 chosen_offer told mode udp message offer asked same test given =
-    let P : Option ℕ → Type 0 = λ o. (is_ixfr mode && not (is_some o)) ≡ false → told o ≡ Ok offer → chosen told mode udp message ≡ choice_of mode udp (sole_question_in message) o offer.version in
+    let P : Option ℕ → Type 0 = λ o. (is_ixfr mode && not (is_some o)) ≡ false → told o ≡ Ok offer → chosen told mode udp message ≡ choice_of mode udp (sole_question_in message) o offer in
     subst P (sym same) (here told mode udp message offer) test given
+
+-- what is answered without a text
+pub calls_short : {S : Type 0} (LeftOf : S → List Sending → Type 0) (request : List ℕ) (limit : ℕ) (udp : Bool) (s : Short) (made : Result S ServiceError)
+    → Calls (λ sent. sent ≡ option_map all_given (option_map one_reply (short_sent request limit s))) LeftOf made → Calls (SendsChoice request limit udp (short_shown s)) LeftOf made
+calls_short LeftOf request limit udp (Error rcode) made calls = calls
+calls_short LeftOf request limit udp (SoaAlone zone) made calls = calls
+
+-- by UDP, where the text has no room
+without_room : (request : List ℕ) (limit : ℕ) (v : Version) (text : List Record) → fits limit (message_wire (page_answer request text)) ≡ false
+    → udp_reply request limit v text ≡ soa_reply request limit v
+without_room request limit v text none = rw none refl
+
+pub makes_soa : (request : List ℕ) (limit : ℕ) (v w : Version) (text : List Record) (made : Result (List CallResult) ServiceError) → fits limit (message_wire (page_answer request text)) ≡ false → w ≡ v
+    → Makes (option_map one_reply (soa_reply request limit w)) made → Makes (option_map one_reply (udp_reply request limit v text)) made
+makes_soa request limit v w text made none same soa =
+    let P : Option (List CallResult) → Type 0 = λ o. Makes o made in
+    subst P (ap (λ x. option_map one_reply (soa_reply request limit x)) same ∙ sym (ap (option_map one_reply) (without_room request limit v text none))) soa

@@ -6,7 +6,7 @@ pub mod Answers
 pub mod Adding
 pub mod Loops
 pub mod Choice
-pub mod Middle
 pub mod Room
+pub mod Pages
 pub mod FullTransfer
 pub mod Accepted

@@ -1,8 +1,8 @@
 -- Records that a loop adds one after another, by what is left.
-use Rattle.std.proofs.Common.{◌≡◌, ℕ, List, [], ◌∷◌, ◌++◌, All, length, map, Option, Some, None, is_some, option_map, true≢false, refl, sym, ap, ◌∙◌, subst}
+use Rattle.std.proofs.Common.{◌≡◌, ℕ, List, [], ◌∷◌, ◌++◌, All, drop, map, Option, Some, None, is_some, option_map, true≢false, refl, sym, ap, ◌∙◌, subst}
 use Rattle.std.specs.Prelude.{Result, Ok, Err, slice_get}
 use Rattle.std.proofs.lemmas.List.{append_assoc, append-nil}
-use Rattle.std.proofs.lemmas.List.Elements.{All-head, All-tail}
+use Rattle.std.proofs.lemmas.List.Elements.{All-head}
 use Rattle.dns_name.specs.Codes.{type_soa}
 use Rattle.dns_name.specs.Names.{Name}
 use Rattle.dns_rdata.specs.Records.{Field, Record, record_wire}
@@ -16,25 +16,17 @@ use Rattle.zone_sets.specs.TypedEntries.{typed}
 use Rattle.xfr_server.specs.TransferMessage.{AddsAnswers}
 use Rattle.xfr_server.proofs.Adding.{adds_none, adds_one, adds_behind, refused_front, soa_empty, soa_first}
 
-pub no_items : {X : Type 0} (xs : List X) → length xs ≡ 0 → xs ≡ []
-no_items [] e = refl
-no_items (x ∷ xs) e = cc
-
--- the records of some data of a set
-abbrev pub set_of : {X : Type 0} → (X → List Field) → Name → ℕ → ℕ → ℕ → List X → List Record
-set_of f owner rtype class ttl xs = records_of owner rtype class (record { ttl = ttl; items = map f xs })
-
 abbrev pub record_with : Name → ℕ → ℕ → ℕ → List Field → Record
 record_with owner rtype class ttl fields = record { owner = owner; rtype = rtype; class = class; ttl = ttl; fields = fields }
 
--- ---- the data of a set
+-- ---- lists
 
--- the first of the data is of the set's type, and so are the others
-pub typed_rest : {X : Type 0} (t : X → ℕ) (rtype : ℕ) (xs behind : List X) (x : X) → xs ≡ x ∷ behind → All (λ d. t d ≡ rtype) xs
-    → (t x ≡ rtype) × All (λ d. t d ≡ rtype) behind
-typed_rest t rtype xs behind x split types =
-    let all = subst (All (λ d. t d ≡ rtype)) split types in
-    (All-head (λ d. t d ≡ rtype) x behind all, All-tail (λ d. t d ≡ rtype) x behind all)
+pub no_first : {X : Type 0} (xs : List X) → None ≡ slice_get xs 0 → xs ≡ []
+no_first [] e = refl
+no_first (x ∷ xs) e = cc
+
+some_inj : {X : Type 0} (x y : X) → Some x ≡ Some y → x ≡ y
+some_inj x y e = cc
 
 -- ---- what a loop keeps
 
@@ -74,19 +66,17 @@ pub record_refused : (r made : Record) (behind rest all : List Record) (now old 
 record_refused r made behind rest all now old new e split is kept added =
     kept_refused (r ∷ []) behind rest all now old new e split kept (adds_one r made now new (Err e) is added)
 
+-- what is left begins with the record that was lent
+pub first_left : {X : Type 0} (xs : List X) (x : X) → Some x ≡ slice_get xs 0 → xs ≡ x ∷ drop 1 xs
+first_left [] x e = cc
+first_left (y ∷ xs) x e = ap (λ z. z ∷ xs) (sym (some_inj x y e))
+
 pub kept_last : (rest all : List Record) (now old : Building) (u : Unit {0}) → rest ≡ [] → Kept now old rest all → AddsAnswers all old (Ok u) now
 kept_last rest all now old u none kept =
     let P : List Record → Type 0 = λ rs. AddsAnswers rs old (Ok u) now in
     subst P (sym (append-nil kept.done) ∙ ap (λ rs. kept.done ++ rs) (sym none) ∙ kept.whole) kept.added
 
 -- ---- the apex SOA
-
-no_first : {X : Type 0} (xs : List X) → None ≡ slice_get xs 0 → xs ≡ []
-no_first [] e = refl
-no_first (x ∷ xs) e = cc
-
-some_inj : {X : Type 0} (x y : X) → Some x ≡ Some y → x ≡ y
-some_inj x y e = cc
 
 has_first : {X : Type 0} (xs : List X) (x : X) → Some x ≡ slice_get xs 0 → (more : List X) × (xs ≡ x ∷ more)
 has_first [] x e = cc

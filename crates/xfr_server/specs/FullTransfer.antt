@@ -1,5 +1,5 @@
 -- An honest full transfer, as a primary sends it (RFC 5936, 2.2; RFC 8945, 5.3).
-use Rattle.std.specs.Prelude.{◌≡◌, ℕ, ◌+◌, ◌^◌, ◌≤◌, ◌<◌, true, false, List, [], ◌∷◌, length, Option, Some, None, IsTrue, Result, Ok}
+use Rattle.std.specs.Prelude.{◌≡◌, ℕ, ◌-◌, ◌^◌, ◌≤◌, ◌<◌, Bool, true, false, List, ◌∷◌, length, map, Option, Some, None, IsTrue, Result, Ok}
 use Rattle.std.specs.List.{AllByRecursion}
 use Rattle.dns_name.specs.Names.{fold}
 use Rattle.dns_rdata.specs.Records.{Record}
@@ -12,21 +12,18 @@ use Rattle.tsig_port.specs.ServerCheck.{Keys, verdict}
 use Rattle.tsig_port.specs.ServerCheck.Verdict.{Accepted}
 use Rattle.zone_model.specs.Version.{Version, has_one_apex_soa}
 use Rattle.xfr_model.specs.Messages.{read_of}
-use Rattle.zone_model.specs.Offer.{Offer, whole_text}
+use Rattle.zone_model.specs.Offer.{Offer, IsCutInto, whole_text}
 use Rattle.xfr_model.specs.Read.{request_fault}
+use Rattle.xfr_replies.specs.TransferPages.{page_answer, page_room}
 use Rattle.xfr_server.specs.Items.{Sending, sent_by}
-use Rattle.xfr_server.specs.TransferMessage.{transfer_message}
 use Rattle.xfr_server.specs.Transfers.{transfer_mode, asked_serial, asks_for_apex}
 use Rattle.xfr_server.specs.declared.providers.XfrDataProviderError.{XfrDataProviderError}
 use Rattle.xfr_services.specs.declared.requests.Request.{Request}
 use Rattle.xfr_services.specs.declared.requests.TransportSpecificContext.TheVariants.{NonUdp}
 use Rattle.xfr_server.specs.declared.transfer.XfrMode.TheVariants.{Axfr}
 
--- the message that answers a request with the whole text of a version
-abbrev pub whole_answer : {M : Type 0} → Request M → Version → Message
-whole_answer r v = transfer_message (taken_message r.message) (whole_text v)
-
--- a signed request for a full transfer by a stream that the server accepts and the provider grants, and whose answer has room
+-- a signed request for a full transfer by a stream that the server accepts and the provider grants, and the pages of its answer: there is room
+-- for each record
 pub record IsGrantedAxfr {M K : Type 0} (the_key : K → TsigKey) (keys : Keys) (told : List ℕ → Option K → Option ℕ → Result Offer XfrDataProviderError) (r : Request M) (key : TsigKey) (offer : Offer) : Type 0 where
   pub accepted : verdict keys r.at r.message ≡ Accepted key
   pub known : keys (fold key.name) key.algorithm ≡ Some key
@@ -37,25 +34,29 @@ pub record IsGrantedAxfr {M K : Type 0} (the_key : K → TsigKey) (keys : Keys) 
   pub granted : (k : K) → the_key k ≡ key → told (taken_message r.message) (Some k) (asked_serial (taken_message r.message)) ≡ Ok offer
   pub apex : asks_for_apex (sole_question_in (taken_message r.message)) offer.version ≡ true
   pub one_soa : has_one_apex_soa offer.version ≡ true
-  pub few : length (whole_text offer.version) < 65536
-  pub room : length (message_wire (whole_answer r offer.version)) + compose_len key ≤ 65535
+  pub pages : List (List Record)
+  pub cut : IsCutInto (page_room (taken_message r.message) (65535 - compose_len key)) offer.compatibility (whole_text offer.version) pages
 
--- what is sent is that message alone, signed as the first answer to the request
-pub record IsSentWhole {M : Type 0} (r : Request M) (key : TsigKey) (v : Version) (sent : Option (List Sending)) : Type 0 where
+-- what is sent is a message for each page, signed one after another as the answers to the request (RFC 8945, 5.3.1)
+pub record IsSentWhole {M : Type 0} (r : Request M) (key : TsigKey) (pages : List (List Record)) (sent : Option (List Sending)) : Type 0 where
   pub items : List Sending
   pub some : sent ≡ Some items
-  pub messages : sent_by items ≡ record { messages = signed_answers key (mac_in r.message) r.at 300 (message_wire (whole_answer r v) ∷ []); fails = false }
+  pub messages : sent_by items ≡ record { messages = signed_answers key (mac_in r.message) r.at 300 (map message_wire (map (page_answer (taken_message r.message)) pages)); fails = false }
 
 -- the law of full transfers: a primary of these services sends that
-abbrev pub SendsWhole : {M K : Type 0} → (Request M → Option (List Sending) → Type 0) → (K → TsigKey) → Keys → (List ℕ → Option K → Option ℕ → Result Offer XfrDataProviderError) → Request M → TsigKey → Offer → Option (List Sending) → Type 0
-SendsWhole Sends the_key keys told r key offer sent = IsGrantedAxfr the_key keys told r key offer → Sends r sent → IsSentWhole r key offer.version sent
+abbrev pub SendsWhole : {M K : Type 0} → (Request M → Option (List Sending) → Type 0) → (K → TsigKey) → Keys → (List ℕ → Option K → Option ℕ → Result Offer XfrDataProviderError)
+    → Request M → TsigKey → Offer → Option (List Sending) → Type 0
+SendsWhole Sends the_key keys told r key offer sent = (g : IsGrantedAxfr the_key keys told r key offer) → Sends r sent → IsSentWhole r key g.pages sent
 
--- the law of what is taken: nothing refuses the message as the first answer to a request that asks so (RFC 5936, 2.2.1)
+-- the law of what is taken: nothing refuses the first page's message as the first answer to a request that asks so, nor the others as later
+-- ones (RFC 5936, 2.2.1)
 abbrev pub WholeIsTaken : Type 0
-WholeIsTaken = (message : List ℕ) (q : Question) (v : Version) → transfer_mode message ≡ Some Axfr → sole_question_in message ≡ Some q → has_one_apex_soa v ≡ true
-    → request_fault (id_in message) q true (read_of (transfer_message message (whole_text v))) ≡ None
+WholeIsTaken = (message : List ℕ) (q : Question) (v : Version) (room : ℕ) (singles : Bool) (page : List Record) (more : List (List Record))
+    → transfer_mode message ≡ Some Axfr → sole_question_in message ≡ Some q → has_one_apex_soa v ≡ true → IsCutInto room singles (whole_text v) (page ∷ more)
+    → (request_fault (id_in message) q true (read_of (page_answer message page)) ≡ None)
+    × AllByRecursion (λ p. request_fault (id_in message) q false (read_of (page_answer message p)) ≡ None) more
 
 -- the law of wire forms: an answer to a request that was built, with records that have a wire form, has one
 abbrev pub TransferIsMessage : Type 0
 TransferIsMessage = (message : List ℕ) (asked : Message) (rs : List Record) → 12 ≤ length message → IsMessage asked → parsed message ≡ Some (parsed_of asked)
-    → AllByRecursion IsRecord rs → length rs < 2 ^ 16 → IsMessage (transfer_message message rs)
+    → AllByRecursion IsRecord rs → length rs < 2 ^ 16 → IsMessage (page_answer message rs)

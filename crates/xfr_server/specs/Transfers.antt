@@ -1,26 +1,27 @@
 -- What is sent in answer to a transfer request (RFC 5936, 2.2; RFC 1995, 2 and 4).
-use Rattle.std.specs.Prelude.{ℕ, codes, ◌-◌, Bool, true, false, ◌&&◌, ◌||◌, not, ◌==◌, List, [], ◌∷◌, Option, Some, None, is_some, option_map, option_and_then, unwrap_or, Result, Ok, Err, if◌then◌else◌}
+use Rattle.std.specs.Prelude.{◌≡◌, ℕ, codes, ◌-◌, Bool, true, false, ◌&&◌, ◌||◌, not, ◌==◌, List, [], ◌∷◌, length, Option, Some, None, is_some, option_map, option_and_then, unwrap_or, Result, Ok, Err, if◌then◌else◌}
+use Rattle.std.specs.List.{list_all}
 use Rattle.dns_name.specs.Names.{same_name}
 use Rattle.dns_name.specs.Serial.{serial_upto}
 use Rattle.dns_name.specs.Codes.{formerr, servfail, notauth, type_soa, type_axfr, type_ixfr}
 use Rattle.dns_rdata.specs.Heads.{RawRecord, readable}
+use Rattle.dns_rdata.specs.Records.{Record}
 use Rattle.dns_rdata.specs.Soa.{serial_of}
 use Rattle.dns_wire.specs.Wire.{Building, Question, header_in, message_wire, fits}
 use Rattle.dns_wire.specs.Parse.{sole_question_in, authority_readings}
 use Rattle.zone_model.specs.Version.{Version, has_one_apex_soa}
 use Rattle.zone_model.specs.Answer.{apex_soa_record}
 use Rattle.zone_model.specs.Difference.{zone_serial}
-use Rattle.zone_model.specs.Offer.{Offer, whole_text}
-use Rattle.xfr_server.specs.Items.{one_reply, reply_item, feedback_item}
+use Rattle.zone_model.specs.Offer.{Offer, is_sendable, whole_text, changes_text}
+use Rattle.xfr_server.specs.Items.{Sending, one_reply, all_given}
 pub use Rattle.xfr_server.specs.Requests.{is_udp}
-use Rattle.xfr_server.specs.Replying.{notimp, refused, error_reply, error_replies}
-use Rattle.xfr_server.specs.TransferMessage.{transfer_message}
+use Rattle.xfr_server.specs.Replying.{notimp, refused, error_reply}
+use Rattle.xfr_replies.specs.TransferPages.{page_answer, page_message}
+use Rattle.xfr_replies.specs.PulledStreams.{SendsText}
 use Rattle.xfr_services.specs.declared.requests.TransportSpecificContext.{TransportSpecificContext}
 use Rattle.xfr_services.specs.declared.requests.TransportSpecificContext.TheVariants.{Udp, NonUdp}
 use Rattle.xfr_server.specs.declared.providers.XfrDataProviderError.{XfrDataProviderError}
 use Rattle.xfr_server.specs.declared.providers.XfrDataProviderError.TheVariants.{ParseError, UnknownZone, Refused, TemporarilyUnavailable, Memory}
-use Rattle.xfr_services.specs.declared.services.CallResult.{CallResult}
-use Rattle.xfr_services.specs.declared.services.ServiceFeedback.TheVariants.{BeginTransaction, EndTransaction}
 use Rattle.xfr_server.specs.declared.transfer.XfrMode.{XfrMode}
 use Rattle.xfr_server.specs.declared.transfer.XfrMode.TheVariants.{Axfr, Ixfr}
 
@@ -74,11 +75,11 @@ reply_limit transport reserved = most_octets transport - reserved
 
 -- ---- the choice
 
--- an rcode, the apex SOA of a version alone, or its whole text
+-- an rcode, the apex SOA of a version alone, or a text that tells of a version, in messages of one record each or not
 pub data Choice : Type 0 where
   Refuse : ℕ → Choice
   SoaAlone : Version → Choice
-  Whole : Version → Choice
+  Text : Version → Bool → List Record → Choice
 
 -- the rcode that tells why a provider gives nothing (RFC 5936, 2.2.1)
 abbrev pub rcode_of : XfrDataProviderError → ℕ
@@ -88,19 +89,28 @@ rcode_of Refused = refused
 rcode_of TemporarilyUnavailable = servfail
 rcode_of Memory = servfail
 
--- what is sent of a version that the provider gives: SERVFAIL for a name that isn't the apex, NOTIMP for AXFR by UDP, SERVFAIL
--- without exactly one apex SOA, the SOA to one who has caught up, else the whole text
-abbrev pub choice_of : XfrMode → Bool → Option Question → Option ℕ → Version → Choice
-choice_of mode udp question asked v =
-    if not (asks_for_apex question v) then Refuse servfail
+-- whether an offer's differences can be sent: there are some, and each has the two SOA records that a text of changes wants (RFC 1995, 4)
+abbrev pub has_changes : Offer → Bool
+has_changes offer = not (length offer.differences == 0) && list_all (is_sendable offer.version) offer.differences
+
+-- the differences, or else the whole text, which alone heeds the mode of one record a message (RFC 1995, 4; RFC 5936, 7)
+abbrev pub text_of_offer : Bool → Offer → Choice
+text_of_offer true offer = Text offer.version false (changes_text offer.version offer.differences)
+text_of_offer false offer = Text offer.version offer.compatibility (whole_text offer.version)
+
+-- what is sent of what the provider offers: SERVFAIL for a name that isn't the apex, NOTIMP for AXFR by UDP, SERVFAIL
+-- without exactly one apex SOA, the SOA to one who has caught up, else a text
+abbrev pub choice_of : XfrMode → Bool → Option Question → Option ℕ → Offer → Choice
+choice_of mode udp question asked offer =
+    if not (asks_for_apex question offer.version) then Refuse servfail
     else if not (is_ixfr mode) && udp then Refuse notimp
-    else if not (has_one_apex_soa v) then Refuse servfail
-    else if is_ixfr mode && is_caught_up v asked then SoaAlone v
-    else Whole v
+    else if not (has_one_apex_soa offer.version) then Refuse servfail
+    else if is_ixfr mode && is_caught_up offer.version asked then SoaAlone offer.version
+    else text_of_offer (is_ixfr mode && has_changes offer) offer
 
 abbrev pub choice_by : XfrMode → Bool → Option Question → Option ℕ → Result Offer XfrDataProviderError → Choice
 choice_by mode udp question asked (Err e) = Refuse (rcode_of e)
-choice_by mode udp question asked (Ok offer) = choice_of mode udp question asked offer.version
+choice_by mode udp question asked (Ok offer) = choice_of mode udp question asked offer
 
 -- the first rule that applies; an incremental request without a readable SOA record is a FORMERR (RFC 1995, 3)
 abbrev pub chosen : (Option ℕ → Result Offer XfrDataProviderError) → XfrMode → Bool → List ℕ → Choice
@@ -112,28 +122,28 @@ chosen told mode udp message =
 
 -- the message with the apex SOA alone (RFC 1995, 2); SERVFAIL where it doesn't fit
 abbrev pub soa_reply : List ℕ → ℕ → Version → Option Building
-soa_reply request limit v =
-    let m = transfer_message request (apex_soa_record v) in
-    if fits limit (message_wire m) then Some (record { octets = message_wire m; limit = limit }) else error_reply request servfail
+soa_reply request limit v = if fits limit (message_wire (page_answer request (apex_soa_record v))) then Some (page_message request limit (apex_soa_record v)) else error_reply request servfail
 
--- a reply that is a whole transfer, with feedback before and after it
-abbrev pub transaction : Building → List CallResult
-transaction reply = feedback_item BeginTransaction ∷ reply_item reply ∷ feedback_item EndTransaction ∷ []
+-- by UDP: the message with a whole text, and where that doesn't fit the SOA alone, which has the requestor ask again by a stream (RFC 1995, 2)
+abbrev pub udp_reply : List ℕ → ℕ → Version → List Record → Option Building
+udp_reply request limit v text = if fits limit (message_wire (page_answer request text)) then Some (page_message request limit text) else soa_reply request limit v
 
--- the message with the whole text (RFC 5936, 2.2). Where it doesn't fit: SERVFAIL, by UDP the SOA alone (RFC 1995, 2)
-abbrev pub whole_replies : List ℕ → ℕ → Bool → Version → Option (List CallResult)
-whole_replies request limit udp v =
-    let m = transfer_message request (whole_text v) in
-    let reply : Building = record { octets = message_wire m; limit = limit } in
-    if fits limit (message_wire m) then Some (if udp then one_reply reply else transaction reply)
-    else option_map one_reply (if udp then soa_reply request limit v else error_reply request servfail)
+-- one reply, without feedback
+abbrev pub sent_once : Option Building → Option (List Sending)
+sent_once reply = option_map all_given (option_map one_reply reply)
 
-abbrev pub replies_of : List ℕ → ℕ → Bool → Choice → Option (List CallResult)
-replies_of request limit udp (Refuse rcode) = error_replies request rcode
-replies_of request limit udp (SoaAlone v) = option_map one_reply (soa_reply request limit v)
-replies_of request limit udp (Whole v) = whole_replies request limit udp v
+-- a text by UDP, or by a stream: there in as many messages as it needs, with feedback (RFC 5936, 2.2)
+abbrev pub SendsTextBy : Bool → List ℕ → ℕ → Version → Bool → List Record → Option (List Sending) → Type 0
+SendsTextBy true request limit v singles text sent = sent ≡ sent_once (udp_reply request limit v text)
+SendsTextBy false request limit v singles text sent = SendsText request limit singles text sent
 
--- the replies to a transfer request of this kind, where a provider tells that of a serial
-abbrev pub transfer_replies : (Option ℕ → Result Offer XfrDataProviderError) → XfrMode → TransportSpecificContext → ℕ → List ℕ → Option (List CallResult)
-transfer_replies told mode transport reserved message =
-    replies_of message (reply_limit transport reserved) (is_udp transport) (chosen told mode (is_udp transport) message)
+-- what is sent of a choice in answer to a request, in messages of up to so many octets
+abbrev pub SendsChoice : List ℕ → ℕ → Bool → Choice → Option (List Sending) → Type 0
+SendsChoice request limit udp (Refuse rcode) sent = sent ≡ sent_once (error_reply request rcode)
+SendsChoice request limit udp (SoaAlone v) sent = sent ≡ sent_once (soa_reply request limit v)
+SendsChoice request limit udp (Text v singles text) sent = SendsTextBy udp request limit v singles text sent
+
+-- what is sent in answer to a transfer request of this kind, where a provider tells that of a serial
+abbrev pub SendsAnswer : (Option ℕ → Result Offer XfrDataProviderError) → XfrMode → TransportSpecificContext → ℕ → List ℕ → Option (List Sending) → Type 0
+SendsAnswer told mode transport reserved message sent =
+    SendsChoice message (reply_limit transport reserved) (is_udp transport) (chosen told mode (is_udp transport) message) sent

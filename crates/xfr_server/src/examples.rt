@@ -1,10 +1,13 @@
 // Worked replies of a primary, proved by computation.
 ghost use Rattle.std.specs.Prelude.{map, ◌≡◌, [], ◌∷◌, true, false, Some, None};
 ghost use Rattle.dns_name.specs.Codes.{type_axfr, type_ixfr, type_soa};
+ghost use Rattle.zone_model.specs.Difference.{difference};
+ghost use Rattle.zone_model.specs.Offer.{offer_of, whole_text};
 ghost use Rattle.zone_model.specs.ZoneRows as rows;
 ghost use Rattle.xfr_model.specs.ReplyRows as replies;
+ghost use Rattle.xfr_server.specs.Offers.{offer_alone};
 ghost use Rattle.xfr_server.specs.Transfers as transfers;
-ghost use Rattle.xfr_server.specs.Transfers.Choice.{Refuse, SoaAlone, Whole};
+ghost use Rattle.xfr_server.specs.Transfers.Choice.{Refuse, SoaAlone, Text};
 ghost use Rattle.xfr_server.specs.declared.transfer.XfrMode.TheVariants.{Axfr, Ixfr};
 ghost use Rattle.xfr_services.specs.declared.requests.TransportSpecificContext.TheVariants.{Udp, NonUdp};
 ghost use Rattle.xfr_server.specs.declared.providers.XfrDataProviderError.TheVariants.{ParseError, UnknownZone, Refused, TemporarilyUnavailable};
@@ -17,13 +20,23 @@ pub fn part_row()
     ensures news { map (λ n. transfers.is_caught_up rows.history_2 n) (None ∷ Some 1 ∷ Some 2 ∷ Some 3 ∷ Some 2147483649 ∷ Some 2147483650 ∷ []) ≡ false ∷ false ∷ true ∷ true ∷ true ∷ false ∷ [] }
 {}
 
-/// What is sent of a version: a refusal for another name, for AXFR by UDP, and without an apex SOA, in this order; the SOA to one who has caught up; else the whole text.
+/// What is sent of an offer: a refusal for another name, for AXFR by UDP, and without an apex SOA, in this order; the SOA to one who has caught
+/// up; else a text.
 pub fn choice_row()
-    ensures other_name { transfers.choice_of Axfr true (Some (record (replies.asked type_axfr) { qname = rows.sub })) None rows.history_1 ≡ Refuse 2 }
-    ensures unread { transfers.choice_of Axfr false None None rows.history_1 ≡ Refuse 2 }
-    ensures by_udp { transfers.choice_of Axfr true (Some (replies.asked type_axfr)) None rows.empty_zone ≡ Refuse 4 }
-    ensures no_soa { transfers.choice_of Axfr false (Some (replies.asked type_axfr)) None rows.empty_zone ≡ Refuse 2 }
-    ensures caught_up { transfers.choice_of Ixfr true (Some (replies.asked type_ixfr)) (Some 1) rows.history_1 ≡ SoaAlone rows.history_1 }
-    ensures behind { transfers.choice_of Ixfr true (Some (replies.asked type_ixfr)) (Some 1) rows.history_2 ≡ Whole rows.history_2 }
-    ensures whole { transfers.choice_of Axfr false (Some (replies.asked type_axfr)) (Some 1) rows.history_1 ≡ Whole rows.history_1 }
+    ensures other_name { transfers.choice_of Axfr true (Some (record (replies.asked type_axfr) { qname = rows.sub })) None (offer_alone rows.history_1) ≡ Refuse 2 }
+    ensures unread { transfers.choice_of Axfr false None None (offer_alone rows.history_1) ≡ Refuse 2 }
+    ensures by_udp { transfers.choice_of Axfr true (Some (replies.asked type_axfr)) None (offer_alone rows.empty_zone) ≡ Refuse 4 }
+    ensures no_soa { transfers.choice_of Axfr false (Some (replies.asked type_axfr)) None (offer_alone rows.empty_zone) ≡ Refuse 2 }
+    ensures caught_up { transfers.choice_of Ixfr true (Some (replies.asked type_ixfr)) (Some 1) (offer_alone rows.history_1) ≡ SoaAlone rows.history_1 }
+    ensures behind { transfers.choice_of Ixfr true (Some (replies.asked type_ixfr)) (Some 1) (offer_alone rows.history_2) ≡ Text rows.history_2 false (whole_text rows.history_2) }
+    ensures whole { transfers.choice_of Axfr false (Some (replies.asked type_axfr)) (Some 1) (offer_alone rows.history_1) ≡ Text rows.history_1 false (whole_text rows.history_1) }
+{}
+
+/// Which text is sent of an offer with differences: these to one who asks for them where each has its two SOA records, never one record a
+/// message; else the whole text, with one record a message where the provider wants it.
+pub fn text_row()
+    ensures changes { transfers.choice_of Ixfr false (Some (replies.asked type_ixfr)) (Some 1) (offer_of rows.history_3 rows.history_differences true 1) ≡ Text rows.history_3 false rows.history_text }
+    ensures none { transfers.choice_of Ixfr false (Some (replies.asked type_ixfr)) (Some 0) (offer_of rows.history_3 rows.history_differences true 0) ≡ Text rows.history_3 true (whole_text rows.history_3) }
+    ensures full { transfers.choice_of Axfr false (Some (replies.asked type_axfr)) (Some 1) (offer_of rows.history_3 rows.history_differences true 1) ≡ Text rows.history_3 true (whole_text rows.history_3) }
+    ensures unsendable { transfers.choice_of Ixfr false (Some (replies.asked type_ixfr)) (Some 0) (offer_of rows.history_3 (difference rows.empty_zone rows.history_3 ∷ []) false 0) ≡ Text rows.history_3 false (whole_text rows.history_3) }
 {}

@@ -10,8 +10,8 @@ ghost use Rattle.xfr_services.specs.declared.requests.Request.{Request as Reques
 use crate::{PrimaryStack, Service, XfrDataProvider};
 use tsig_port::KeyStore;
 
-/// A signed request for a full transfer that a primary accepts and its provider grants is answered with the whole text in one
-/// message, signed as the first answer.
+/// A signed request for a full transfer that a primary accepts and its provider grants is answered with the whole text, a message for each
+/// of its pages, signed one after another.
 pub fn full_transfers_are_sent<
     KS: KeyStore + Drop,
     N: Service<Option<KS::Key>> + Drop,
@@ -21,7 +21,7 @@ pub fn full_transfers_are_sent<
         → SendsWhole (⟦<PrimaryStack<N, X, KS> as Service<()>>⟧.Sends ((next, provider), keys)) KS.Key.the_key (KS.key_of keys) (X.told provider) r key offer sent }
 {}
 
-/// Nothing refuses that message as the first answer to its request, and it has a wire form where its records have one.
+/// Nothing refuses these messages as the answers to their request, and each has a wire form where its records have one.
 pub fn full_transfers_are_taken()
     ensures taken { WholeIsTaken }
     ensures wire { TransferIsMessage }

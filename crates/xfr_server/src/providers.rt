@@ -44,7 +44,8 @@ impl Model for XfrData {
 
 impl XfrData {
     /// This version, the differences that lead to it, oldest first (RFC 1995, 4), and whether each message is to hold one record (RFC 5936, 7).
-    /// The transfer service heeds neither differences nor that mode yet.
+    /// The transfer service sends the differences in answer to an incremental request where each has its two SOA records, and else the whole
+    /// version, which alone heeds that mode.
     pub fn new(
         zone: ReadZone,
         diffs: Vec<Arc<InMemoryZoneDiff>>,
@@ -93,6 +94,20 @@ impl XfrData {
         let XfrData { zone, diffs, .. } = self;
         drop(zone);
         diffs
+    }
+
+    /// All three as values of their own: the version, the differences, oldest first, and whether each message is to hold one record.
+    pub fn into_parts(self) -> (ReadZone, Vec<Arc<InMemoryZoneDiff>>, bool)
+        ensures zone { result.0.version ≡ self.version }
+        ensures diffs { map arc_value result.1.items ≡ self.differences }
+        ensures mode { result.2 ≡ self.compatibility }
+    {
+        let XfrData {
+            zone,
+            diffs,
+            compatibility_mode,
+        } = self;
+        (zone, diffs, compatibility_mode)
     }
 
     /// Whether each message is to hold one record.
@@ -262,7 +277,7 @@ impl HistoryProvider {
         Ok(())
     }
 
-    /// Whether each message is to hold one record (RFC 5936, 7), which the transfer service doesn't heed yet.
+    /// Whether each message is to hold one record (RFC 5936, 7). The transfer service heeds it where it sends the whole version.
     pub fn set_compatibility(&mut self, compatibility_mode: bool)
         ensures { self.new ≡ record self.old { compatibility = compatibility_mode } }
     {

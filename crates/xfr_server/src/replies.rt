@@ -2,9 +2,9 @@
 ghost use Rattle.std.specs.Prelude.{[]};
 ghost use Rattle.dns_wire.specs.Wire.{message_wire};
 ghost use Rattle.dns_wire.specs.Builds.{Builds};
-ghost use Rattle.xfr_server.specs.TransferMessage.{transfer_message};
+ghost use Rattle.xfr_replies.specs.TransferPages.{page_answer};
 
-use dns_name::Rcode;
+use dns_name::{Opcode, Rcode};
 use dns_wire::{AnswerBuilder, MessageBuf, MessageBuilder, PushError};
 use std::alloc::Global;
 
@@ -15,7 +15,7 @@ pub fn start_transfer(
     request: &MessageBuf,
     limit: usize,
 ) -> Result<AnswerBuilder, PushError>
-    ensures { Builds (message_wire (transfer_message request.now [])) limit result }
+    ensures { Builds (message_wire (page_answer request.now [])) limit result }
 {
     let Ok(mut builder) = MessageBuilder::new(alloc) else {
         return Err(PushError::Memory);
@@ -23,6 +23,7 @@ pub fn start_transfer(
     builder.set_push_limit(limit);
     let mut answer = builder.start_answer(&request.as_message(), Rcode::NOERROR)?;
     let mut header = request.header().answer(Rcode::NOERROR);
+    header.opcode = Opcode::QUERY;
     header.aa = true;
     answer.set_header(header);
     Ok(answer)

@@ -1,28 +1,32 @@
 // The service that answers transfer requests (RFC 5936; RFC 1995).
-ghost use Rattle.std.specs.Prelude.{◌≡◌, ◌&&◌, not, is_some, IfOk, option_map};
+ghost use Rattle.std.specs.Prelude.{◌≡◌, ◌&&◌, not, is_some, List, Option, option_map};
 ghost use Rattle.dns_name.specs.Codes.{type_soa};
 ghost use Rattle.dns_name.specs.Serial.{serial_upto};
 ghost use Rattle.dns_rdata.specs.Heads.{readable};
 ghost use Rattle.dns_rdata.specs.Soa as soas;
 ghost use Rattle.dns_wire.specs.Parse.{sole_question_in};
-ghost use Rattle.xfr_server.specs.Items.{Makes, one_reply};
+ghost use Rattle.xfr_server.specs.Items.{Calls, Makes, all_given, one_reply};
 ghost use Rattle.xfr_server.specs.Transfers as transfers;
-ghost use Rattle.xfr_server.specs.Choosing.{Chooses, choice_shown, is_no_news};
+ghost use Rattle.xfr_server.specs.Transfers.Choice.{Refuse};
+ghost use Rattle.xfr_server.specs.Choosing.{Chooses, choice_shown, short_sent, is_no_news};
 ghost use Rattle.xfr_server.specs.Streams.{items_left, TransferLeft};
+ghost use Rattle.xfr_services.specs.declared.services.CallResult.{CallResult as Item};
 
-use crate::providers::{XfrDataProvider, XfrDataProviderError};
+use crate::providers::{XfrData, XfrDataProvider, XfrDataProviderError};
 use crate::transfer_message;
 use dns_name::{Opcode, Rcode, Rtype, Serial, ToName};
 use dns_rdata::{ParsedRecord, ZoneRecordData};
-use dns_wire::{AdditionalBuilder, Message, MessageBuf, PushError, RecordSection};
-use std::alloc::{AllocError, Global};
+use dns_wire::{Message, MessageBuf, PushError, RecordSection};
+use std::alloc::Global;
 use std::cmp::Ordering;
 use std::fmt;
 use std::marker::Model;
+use xfr_replies::TransferReplies;
 use xfr_services::{
-    CallResult, Replies, ReplyStream, Request, Service, ServiceError, ServiceFeedback,
-    TransportSpecificContext, replies,
+    CallResult, Replies, ReplyStream, Request, Service, ServiceError, TransportSpecificContext,
+    replies,
 };
+use xfr_text::{TransferText, are_sendable};
 use zone_sessions::ReadZone;
 
 /// The most octets of a message by UDP, where the requestor says nothing else (RFC 1035, 2.3.4).
@@ -107,10 +111,14 @@ impl<N: Drop, X: Drop> XfrMiddlewareSvc<N, X> {
     }
 }
 
-/// The replies of the transfer service: its own, or those of the next one.
+/// The replies of the transfer service: one of its own, those of a transfer, or those of the next service.
 #[derive(Drop)]
 pub enum XfrMiddlewareStream<S: ReplyStream> {
+    /// A refusal, or one message.
     Own(Replies),
+    /// A text in as many messages as it needs.
+    Transfer(TransferReplies),
+    /// What the next service replies.
     Next(S),
 }
 
@@ -122,6 +130,7 @@ impl<S: ReplyStream> ReplyStream for XfrMiddlewareStream<S> {
     fn next_item(&mut self) -> Option<Result<CallResult, ServiceError>> {
         match self {
             XfrMiddlewareStream::Own(replies) => replies.next_item(),
+            XfrMiddlewareStream::Transfer(replies) => replies.next_item(),
             XfrMiddlewareStream::Next(replies) => replies.next_item(),
         }
     }
@@ -145,10 +154,7 @@ impl<M: Default + Drop, N: Service<M> + Drop, X: XfrDataProvider<M> + Drop> Serv
         ensures { Calls (SendsTransfer M.is_default (N.Sends self.now.0) (X.told self.now.1) request) (TransferLeft N.Stream.LeftOf) result }
     {
         match transfer_mode(&request.message.as_message()) {
-            Some(mode) => {
-                let replies = answer_transfer(rt, alloc, &self.provider, &request, mode)?;
-                Ok(XfrMiddlewareStream::Own(replies))
-            }
+            Some(mode) => answer_transfer(rt, alloc, &self.provider, request, mode),
             None => {
                 let request = request.with_new_metadata(M::default());
                 Ok(XfrMiddlewareStream::Next(self.next.call(rt, alloc, request)?))
@@ -171,48 +177,91 @@ fn transfer_mode(message: &Message<'_>) -> Option<XfrMode>
     }
 }
 
-/// What is sent in answer.
+/// What is sent in answer without a text, in one message.
 #[derive(Drop)]
-enum Reply {
+enum Short {
     /// No record.
     Error(Rcode),
     /// The apex SOA alone: the requestor has caught up (RFC 1995, 2).
     SoaAlone(ReadZone),
-    /// The whole zone (RFC 5936, 2.2; RFC 1995, 4).
-    Whole(ReadZone),
+}
+
+/// What is sent in answer.
+#[derive(Drop)]
+enum Reply {
+    /// No text.
+    Short(Short),
+    /// The whole zone or differences, and whether each message is to hold one record (RFC 5936, 2.2 and 7; RFC 1995, 4).
+    Text(TransferText, bool),
+}
+
+impl Reply {
+    /// No record.
+    fn error(rcode: Rcode) -> Reply
+        ensures { choice_shown result ≡ Refuse rcode }
+    {
+        Reply::Short(Short::Error(rcode))
+    }
 }
 
 /// The replies to a transfer request.
-fn answer_transfer<R, M, X: XfrDataProvider<M>>(
+fn answer_transfer<R, M: Drop, X: XfrDataProvider<M>, S: ReplyStream>(
     rt: &R,
     alloc: Global,
     provider: &X,
-    request: &Request<M>,
+    request: Request<M>,
     mode: XfrMode,
-) -> Result<Replies, ServiceError>
-    ensures { Makes (transfers.transfer_replies (X.told provider.now request.now.message request.now.metadata) mode request.now.transport request.now.reserved request.now.message) result }
+) -> Result<XfrMiddlewareStream<S>, ServiceError>
+    ensures { Calls (transfers.SendsAnswer (X.told provider.now request.message request.metadata) mode request.transport request.reserved request.message) (TransferLeft S.LeftOf) result }
 {
     let limit = reply_limit(request.transport, request.reserved);
     let is_udp = request.transport.is_udp();
-    let reply = choose_reply(rt, alloc, provider, request, mode)?;
-    replies_with(alloc, &request.message, limit, is_udp, &reply)
+    let reply = choose_reply(rt, alloc, provider, &request, mode)?;
+    send_reply(alloc, request.message, limit, is_udp, reply)
 }
 
 /// The replies to a request of which it is known what is sent in answer.
-fn replies_with(
+fn send_reply<S: ReplyStream>(
+    alloc: Global,
+    request: MessageBuf,
+    limit: usize,
+    is_udp: bool,
+    reply: Reply,
+) -> Result<XfrMiddlewareStream<S>, ServiceError>
+    ensures { Calls (transfers.SendsChoice request limit is_udp (choice_shown reply)) (TransferLeft S.LeftOf) result }
+{
+    match reply {
+        Reply::Short(short) => sent_once(short_reply(alloc, &request, limit, &short)),
+        Reply::Text(text, _) if is_udp => sent_once(one_message(alloc, &request, limit, text)),
+        Reply::Text(text, singles) => Ok(XfrMiddlewareStream::Transfer(TransferReplies::new(
+            alloc, request, limit, singles, text,
+        ))),
+    }
+}
+
+/// A refusal, or the apex SOA alone.
+fn short_reply(
     alloc: Global,
     request: &MessageBuf,
     limit: usize,
-    is_udp: bool,
-    reply: &Reply,
+    short: &Short,
 ) -> Result<Replies, ServiceError>
-    ensures { Makes (transfers.replies_of request.now limit is_udp (choice_shown reply.now)) result }
+    ensures { Makes (option_map one_reply (short_sent request.now limit short.now)) result }
 {
-    match reply {
-        Reply::Error(rcode) => replies::refuse(alloc, request, *rcode),
-        Reply::SoaAlone(zone) => soa_alone(alloc, request, limit, zone),
-        Reply::Whole(zone) => whole_zone(alloc, request, limit, is_udp, zone),
+    match short {
+        Short::Error(rcode) => replies::refuse(alloc, request, *rcode),
+        Short::SoaAlone(zone) => soa_alone(alloc, request, limit, zone),
     }
+}
+
+/// The service's own replies as its stream.
+fn sent_once<S: ReplyStream>(
+    made: Result<Replies, ServiceError>,
+) -> Result<XfrMiddlewareStream<S>, ServiceError>
+    ensures { (items : Option (List Item)) → Makes items made
+        → Calls (λ sent. sent ≡ option_map all_given items) (TransferLeft S.LeftOf) result }
+{
+    Ok(XfrMiddlewareStream::Own(made?))
 }
 
 /// What is sent in answer, by the first test that applies.
@@ -228,18 +277,15 @@ fn choose_reply<R, M, X: XfrDataProvider<M>>(
     let message = request.message.as_message();
     let asked = asked_serial(&message);
     if lacks_serial(mode, &asked) {
-        return Ok(Reply::Error(Rcode::FORMERR));
+        return Ok(Reply::error(Rcode::FORMERR));
     }
     match provider.request(rt, alloc, request, asked) {
-        Ok(found) => Ok(reply_with(
-            &message,
-            mode,
-            request.transport.is_udp(),
-            asked,
-            found.into_zone(),
-        )),
+        Ok(found) => {
+            let is_udp = request.transport.is_udp();
+            Ok(reply_with(alloc, &message, mode, is_udp, asked, found))
+        }
         Err(XfrDataProviderError::Memory) => Err(ServiceError::Memory),
-        Err(error) => Ok(Reply::Error(rcode_of(error))),
+        Err(error) => Ok(Reply::error(rcode_of(error))),
     }
 }
 
@@ -250,29 +296,50 @@ fn lacks_serial(mode: XfrMode, asked: &Option<Serial>) -> bool
     mode.is_ixfr() && asked.is_none()
 }
 
-/// What is sent of a zone that the provider gives.
+/// What is sent of what the provider gives.
 fn reply_with(
+    alloc: Global,
     message: &Message<'_>,
     mode: XfrMode,
     is_udp: bool,
     asked: Option<Serial>,
-    zone: ReadZone,
+    found: XfrData,
 ) -> Reply
-    ensures { choice_shown result ≡ transfers.choice_of mode is_udp (sole_question_in message.now) asked zone.version }
+    ensures { choice_shown result ≡ transfers.choice_of mode is_udp (sole_question_in message.now) asked found }
 {
-    if !asks_for_apex(message, &zone) {
-        return Reply::Error(Rcode::SERVFAIL);
+    if !asks_for_apex(message, found.zone()) {
+        return Reply::error(Rcode::SERVFAIL);
     }
     if !mode.is_ixfr() && is_udp {
-        return Reply::Error(Rcode::NOTIMP);
+        return Reply::error(Rcode::NOTIMP);
     }
-    let Some(serial) = transfer_message::zone_serial(&zone) else {
-        return Reply::Error(Rcode::SERVFAIL);
+    let Some(serial) = transfer_message::zone_serial(found.zone()) else {
+        return Reply::error(Rcode::SERVFAIL);
     };
     if mode.is_ixfr() && is_caught_up(serial, asked) {
-        return Reply::SoaAlone(zone);
+        return Reply::Short(Short::SoaAlone(found.into_zone()));
     }
-    Reply::Whole(zone)
+    let with_changes = mode.is_ixfr() && has_changes(&found);
+    text_reply(alloc, with_changes, found)
+}
+
+/// Whether the differences can be sent: there are some, and each has its two SOA records (RFC 1995, 4).
+fn has_changes(found: &XfrData) -> bool
+    ensures { result ≡ transfers.has_changes found.now }
+{
+    !found.diffs().is_empty() && are_sendable(found.zone(), found.diffs())
+}
+
+/// The differences, or else the whole zone, of which alone each message may have to hold one record.
+fn text_reply(alloc: Global, with_changes: bool, found: XfrData) -> Reply
+    ensures { choice_shown result ≡ transfers.text_of_offer with_changes found }
+{
+    let (zone, diffs, compatibility_mode) = found.into_parts();
+    if with_changes {
+        return Reply::Text(TransferText::changes(zone, diffs), false);
+    }
+    drop(diffs);
+    Reply::Text(TransferText::whole(alloc, zone), compatibility_mode)
 }
 
 /// The rcode that tells why a provider gives nothing (RFC 5936, 2.2.1).
@@ -389,33 +456,20 @@ fn soa_alone(
     }
 }
 
-/// The whole zone in one message. Where it can't be held, by UDP the SOA alone, which has the requestor ask again by a stream
-/// (RFC 1995, 2), else SERVFAIL.
-fn whole_zone(
+/// By UDP a text in one message. Where that can't be held, the SOA alone, which has the requestor ask again by a stream (RFC 1995, 2).
+fn one_message(
     alloc: Global,
     request: &MessageBuf,
     limit: usize,
-    is_udp: bool,
-    zone: &ReadZone,
+    text: TransferText,
 ) -> Result<Replies, ServiceError>
-    ensures { Makes (transfers.whole_replies request.now limit is_udp zone.now.version) result }
+    ensures { Makes (option_map one_reply (transfers.udp_reply request.now limit text.zone.version text.records)) result }
 {
-    match transfer_message::whole_message(alloc, request, limit, zone) {
-        Ok(reply) if is_udp => Ok(Replies::single(alloc, reply)?),
-        Ok(reply) => Ok(transaction(alloc, reply)?),
+    let mut text = text;
+    match transfer_message::text_message(alloc, request, limit, &mut text) {
+        Ok(reply) => Ok(Replies::single(alloc, reply)?),
         Err(PushError::Memory) => Err(ServiceError::Memory),
-        Err(_) if is_udp => soa_alone(alloc, request, limit, zone),
-        Err(_) => replies::refuse(alloc, request, Rcode::SERVFAIL),
+        Err(PushError::ShortBuf) => soa_alone(alloc, request, limit, text.zone()),
+        Err(PushError::CountOverflow) => soa_alone(alloc, request, limit, text.zone()),
     }
-}
-
-/// A reply that is a whole transfer, with feedback before and after it.
-fn transaction(alloc: Global, reply: AdditionalBuilder) -> Result<Replies, AllocError>
-    ensures { IfOk result (λ replies. replies ≡ transfers.transaction reply) }
-{
-    let mut replies = Replies::new(alloc);
-    replies.push(CallResult::feedback_only(ServiceFeedback::BeginTransaction))?;
-    replies.push(CallResult::new(reply))?;
-    replies.push(CallResult::feedback_only(ServiceFeedback::EndTransaction))?;
-    Ok(replies)
 }

@@ -1,6 +1,6 @@
 -- Over an honest link to a granting primary a transfer ends well.
-use Rattle.std.proofs.Common.{◌≡◌, ℕ, ◌+◌, ◌-◌, ◌^◌, ◌<◌, ◌≤◌, Bool, true, false, ◌&&◌, List, [], ◌∷◌, ◌++◌, length, drop, min, append-nil, refl, sym, ap, ◌∙◌, subst, arith, ◌⊎◌, inl, inr, Option, Some, None, Result, Ok, Err}
-use Rattle.std.specs.Prelude.{unwrap_or}
+use Rattle.std.proofs.Common.{◌≡◌, ℕ, ◌+◌, ◌-◌, ◌^◌, ◌<◌, ◌≤◌, Bool, true, false, not, ◌&&◌, List, [], ◌∷◌, ◌++◌, length, length-append, drop, min, append_assoc, append-nil, refl, sym, ap, ◌∙◌, subst, arith, ◌⊎◌, inl, inr, Option, Some, None, Result, Ok, Err}
+use Rattle.std.specs.Prelude.{◌==◌, unwrap_or}
 use Rattle.std.specs.List.{last_or, list_all}
 use Rattle.dns_message.specs.declared.message.ShortMessage.{ShortMessage}
 use Rattle.zone_model.specs.Version.{Version, Same}
@@ -9,10 +9,9 @@ use Rattle.zone_model.specs.Session.{Session}
 use Rattle.xfr_client.specs.declared.protocol.Error.TheVariants as message
 use Rattle.xfr_client.specs.declared.protocol.IterationError.TheVariants as item
 use Rattle.xfr_client.specs.declared.update.Error.TheVariants as update
-use Rattle.xfr_server.specs.Items.{Sending, Sent, sent_by}
-use Rattle.xfr_server.specs.FullTransfer.{IsSentWhole}
+use Rattle.xfr_server.specs.Items.{Sending, sent_by}
 use Rattle.xfr_services.specs.declared.services.ServiceError.{ServiceError}
-use Rattle.xfr_course.specs.Outcome.{Outcome, Updated, UpToDate, Ended, Course, outcome, made}
+use Rattle.xfr_course.specs.Outcome.{Outcome, Updated, UpToDate, Ended, Short, Course, outcome, made}
 use Rattle.xfr_course.specs.Courses.{has_header}
 use Rattle.xfr_course.specs.Success.{Succeeds}
 use Rattle.zone_devices.specs.Calls.{Rose}
@@ -28,11 +27,9 @@ use Rattle.zone_sync.specs.declared.outcome.SyncOk.{SyncOk}
 use Rattle.zone_sync.specs.declared.outcome.SyncOk.TheVariants as done
 use Rattle.zone_sync.specs.declared.outcome.SyncError.{SyncError}
 use Rattle.zone_sync.specs.declared.outcome.SyncError.TheVariants as why
-use Rattle.zone_sync.proofs.Exchanges.{none_done}
 use Rattle.zone_sync.proofs.Serving.{headed_served}
 use Rattle.zone_sync.proofs.HonestRequests.{request_has_header}
-use Rattle.zone_sync.proofs.HonestReplies.{reply, sent_is}
-use Rattle.zone_sync.proofs.HonestCourses.{whole_succeeds}
+use Rattle.zone_sync.proofs.HonestCourses.{Waits, IsPart, part_of}
 
 -- ---- outcomes
 
@@ -135,9 +132,6 @@ in_place (Err (why.Update update.Memory)) h = absurd (cc h)
 in_place (Err why.VersionsExhausted) h = absurd (cc h)
 in_place (Err why.Memory) h = refl
 
-nothing_came : (a : Asking) (answer : Result SyncOk SyncError) → is_memory answer ≡ false → AnswersCourse (course_answered a [] answer) answer → is_early answer ≡ true
-nothing_came a answer h k = in_place answer (answered (course_answered a [] answer) answer h k ∙ ap Some (none_done a (given_up answer)).outcome)
-
 -- ---- what passed
 
 -- a list in front of a list of one
@@ -155,9 +149,21 @@ one_prefix x (y ∷ z ∷ more) rest h = absurd (cc (ap (λ l. has_two l) h))
     has_two (a ∷ []) = false
     has_two (a ∷ b ∷ more) = true
 
-no_prefix : {A : Type 0} (xs rest : List A) → [] ≡ xs ++ rest → xs ≡ []
-no_prefix [] rest h = refl
-no_prefix (x ∷ xs) rest h = absurd (cc h)
+-- a first part of a list
+pub record IsFrontOf {A : Type 0} (xs all : List A) : Type 0 where
+  pub rest : List A
+  pub joined : all ≡ xs ++ rest
+
+no_front : {A : Type 0} (xs all : List A) → xs ≡ [] → IsFrontOf xs all
+no_front xs all h = record { rest = all; joined = ap (λ l. l ++ all) (sym h) }
+
+front_of_front : {A : Type 0} (xs ys all : List A) → IsFrontOf xs ys → IsFrontOf ys all → IsFrontOf xs all
+front_of_front xs ys all p q = record { rest = p.rest ++ q.rest; joined = q.joined ∙ ap (λ l. l ++ q.rest) p.joined ∙ append_assoc xs p.rest q.rest }
+
+no_rest : {A : Type 0} (xs rest : List A) → xs ≡ xs ++ rest → not (length rest == 0) ≡ true → ⊥
+no_rest xs rest h more =
+    let none : length rest ≡ 0 = omega (arith, ap length h, length-append xs rest) in
+    cc (sym more ∙ ap (λ n. not (n == 0)) none)
 
 drop_front : {A : Type 0} (xs ys : List A) → drop (length xs) (xs ++ ys) ≡ ys
 drop_front [] ys = refl
@@ -181,44 +187,45 @@ hands_on old new taken handed h w = record {
 
 -- ---- what the primary sent
 
-module _ (Sends : List ℕ → Option (List Sending) → Type 0) (a : Asking) (at longest : ℕ) (v : Version) (w : List ℕ) (one : sent_whole a at v ≡ w ∷ []) (grant : IsGranted Sends a at longest v) where
+module _ (Sends : List ℕ → Option (List Sending) → Type 0) (a : Asking) (at longest : ℕ) (v : Version) (grant : IsGranted Sends a at longest v) where
+  abbrev pub all : List (List ℕ)
+  all = sent_whole a at grant.fits.pages
+
   same_items : (x y : List Sending) → Some x ≡ Some y → x ≡ y
   same_items x y h = ap (λ o. unwrap_or o []) h
 
-  sends_one : (items : List Sending) → Sends (asked_octets a) (Some items) → sent_by items ≡ record { messages = w ∷ []; fails = false }
-  sends_one items s =
-      let t = grant.sends (Some items) s in
-      ap sent_by (same_items items t.items t.some) ∙ t.messages ∙ ap (λ (l : List (List ℕ)). one_sent l) one
-    where
-      one_sent : List (List ℕ) → Sent
-      one_sent l = record { messages = l; fails = false }
+  sends_these : (items : List Sending) → Sends (asked_octets a) (Some items) → sent_by items ≡ record { messages = all; fails = false }
+  sends_these items s = let t = grant.sends (Some items) s in ap sent_by (same_items items t.items t.some) ∙ t.messages
 
-  sends_all : (sent : List (List ℕ)) → SendsAll (Sends (asked_octets a)) sent → sent ≡ w ∷ []
-  sends_all sent k = ap (λ s. s.messages) (sym k.all ∙ sends_one k.items k.sends)
+  sends_all : (sent : List (List ℕ)) → SendsAll (Sends (asked_octets a)) sent → sent ≡ all
+  sends_all sent k = ap (λ s. s.messages) (sym k.all ∙ sends_these k.items k.sends)
 
-  has_begun : (sent : List (List ℕ)) → HasBegun (Sends (asked_octets a)) sent → (sent ≡ []) ⊎ (sent ≡ w ∷ [])
-  has_begun sent (inl h) = inl h
-  has_begun sent (inr k) = one_prefix w sent k.rest (ap (λ s. s.messages) (sym (sends_one k.items k.sends)) ∙ k.part)
+  sent_all : (sent : List (List ℕ)) → SendsAll (Sends (asked_octets a)) sent → IsFrontOf sent all
+  sent_all sent k = record { rest = []; joined = sym (append-nil sent ∙ sends_all sent k) }
+
+  has_begun : (sent : List (List ℕ)) → HasBegun (Sends (asked_octets a)) sent → IsFrontOf sent all
+  has_begun sent (inl h) = no_front sent all h
+  has_begun sent (inr k) = record { rest = k.rest; joined = ap (λ s. s.messages) (sym (sends_these k.items k.sends)) ∙ k.part }
 
   never_fails : (sent : List (List ℕ)) → FailsAfter (Sends (asked_octets a)) sent → ⊥
   never_fails sent (inl h) = let t = grant.sends None h.0 in cc t.some
-  never_fails sent (inr k) = cc (ap (λ s. s.fails) (sym (sends_one k.items k.sends) ∙ k.until))
+  never_fails sent (inr k) = cc (ap (λ s. s.fails) (sym (sends_these k.items k.sends) ∙ k.until))
 
-  was_sent : (sent : List (List ℕ)) (answer : Result SyncOk SyncError) → RepliedTo (Sends (asked_octets a)) sent answer → (sent ≡ []) ⊎ (sent ≡ w ∷ [])
-  was_sent sent (Ok x) k = inr (sends_all sent k)
-  was_sent sent (Err why.NoSoa) k = inr (sends_all sent k)
-  was_sent sent (Err (why.Request x)) k = inr (sends_all sent k)
+  was_sent : (sent : List (List ℕ)) (answer : Result SyncOk SyncError) → RepliedTo (Sends (asked_octets a)) sent answer → IsFrontOf sent all
+  was_sent sent (Ok x) k = sent_all sent k
+  was_sent sent (Err why.NoSoa) k = sent_all sent k
+  was_sent sent (Err (why.Request x)) k = sent_all sent k
   was_sent sent (Err why.LinkFault) k = has_begun sent k
-  was_sent sent (Err why.Ended) k = inr (sends_all sent k)
-  was_sent sent (Err (why.Short x)) k = inr (sends_all sent k)
+  was_sent sent (Err why.Ended) k = sent_all sent k
+  was_sent sent (Err (why.Short x)) k = sent_all sent k
   was_sent sent (Err (why.Primary x)) k = absurd (never_fails sent k)
-  was_sent sent (Err why.TooManyMessages) k = inr (sends_all sent k)
-  was_sent sent (Err (why.Tsig x)) k = inr (sends_all sent k)
-  was_sent sent (Err why.OtherAnswer) k = inr (sends_all sent k)
-  was_sent sent (Err (why.Xfr x)) k = inr (sends_all sent k)
-  was_sent sent (Err (why.Iteration x)) k = inr (sends_all sent k)
-  was_sent sent (Err (why.Update x)) k = inr (sends_all sent k)
-  was_sent sent (Err why.VersionsExhausted) k = inr (sends_all sent k)
+  was_sent sent (Err why.TooManyMessages) k = sent_all sent k
+  was_sent sent (Err (why.Tsig x)) k = sent_all sent k
+  was_sent sent (Err why.OtherAnswer) k = sent_all sent k
+  was_sent sent (Err (why.Xfr x)) k = sent_all sent k
+  was_sent sent (Err (why.Iteration x)) k = sent_all sent k
+  was_sent sent (Err (why.Update x)) k = sent_all sent k
+  was_sent sent (Err why.VersionsExhausted) k = sent_all sent k
   was_sent sent (Err why.Memory) k = has_begun sent k
 
   not_asked : (sent replies : List (List ℕ)) (answer : Result SyncOk SyncError) → NotReplied sent replies answer → replies ≡ []
@@ -238,14 +245,11 @@ module _ (Sends : List ℕ → Option (List Sending) → Type 0) (a : Asking) (a
   not_asked sent replies (Err why.VersionsExhausted) k = k.1
   not_asked sent replies (Err why.Memory) k = k.1
 
-  -- the replies that came: none, or the whole text
-  came : (heard sent replies : List (List ℕ)) (answer : Result SyncOk SyncError) → has_header (asked_octets a) ≡ true → (heard ≡ []) ⊎ (heard ≡ asked_octets a ∷ []) → IsServed Sends heard sent replies answer → (rest : List (List ℕ)) → sent ≡ replies ++ rest → (replies ≡ []) ⊎ (replies ≡ w ∷ [])
-  came heard sent replies answer headed (inl h) s rest p = inl (not_asked sent replies answer (subst (λ (l : List (List ℕ)). IsServed Sends l sent replies answer) h s))
-  came heard sent replies answer headed (inr h) s rest p = of_sent (was_sent sent answer (headed_served Sends (asked_octets a) sent replies answer headed (subst (λ (l : List (List ℕ)). IsServed Sends l sent replies answer) h s)))
-    where
-      of_sent : (sent ≡ []) ⊎ (sent ≡ w ∷ []) → (replies ≡ []) ⊎ (replies ≡ w ∷ [])
-      of_sent (inl e) = inl (no_prefix replies rest (sym e ∙ p))
-      of_sent (inr e) = one_prefix w replies rest (sym e ∙ p)
+  -- the replies that came: a first part of what it sends, in order
+  came : (heard sent replies : List (List ℕ)) (answer : Result SyncOk SyncError) → has_header (asked_octets a) ≡ true → (heard ≡ []) ⊎ (heard ≡ asked_octets a ∷ []) → IsServed Sends heard sent replies answer → IsFrontOf replies sent → IsFrontOf replies all
+  came heard sent replies answer headed (inl h) s p = no_front replies all (not_asked sent replies answer (subst (λ (l : List (List ℕ)). IsServed Sends l sent replies answer) h s))
+  came heard sent replies answer headed (inr h) s p =
+      front_of_front replies sent all p (was_sent sent answer (headed_served Sends (asked_octets a) sent replies answer headed (subst (λ (l : List (List ℕ)). IsServed Sends l sent replies answer) h s)))
 
 -- ---- the version that is current then
 
@@ -267,61 +271,62 @@ base_of : (a : Asking) (replies : List (List ℕ)) (gave : Outcome) → (course_
 unfolding course_so_far
 base_of a replies gave = refl
 
-module _ (Sends : List ℕ → Option (List Sending) → Type 0) (a : Asking) (at longest : ℕ) (v : Version) (w : List ℕ) (one : sent_whole a at v ≡ w ∷ []) (grant : IsGranted Sends a at longest v)
-    (headed : has_header (asked_octets a) ≡ true) (course : (gave : Outcome) → Succeeds (course_so_far a (w ∷ []) gave) v) (o n : LinkLists) (before handles : List Commit) (s : Session) where
-  whole : (x : SyncOk) → Transfers a (w ∷ []) before handles s (Ok x) → Same s.current.version v
-  whole x t = leaves a before handles s t.versions (course_so_far a (w ∷ []) Ended) v (base_of a (w ∷ []) Ended) t.spelt t.made (course Ended)
+module _ (Sends : List ℕ → Option (List Sending) → Type 0) (a : Asking) (at longest : ℕ) (v : Version) (grant : IsGranted Sends a at longest v)
+    (headed : has_header (asked_octets a) ≡ true) (o n : LinkLists) (before handles : List Commit) (s : Session) where
+  not_refused : (e : SyncError) (replies : List (List ℕ)) → Succeeds (course_so_far a replies (given_up (Err e))) v → is_memory (Err e) ≡ false → Transfers a replies before handles s (Err e) → ⊥
+  not_refused e replies c m t =
+      let k = course_answered a replies (Err e) in
+      cc (sym (refused_badly e) ∙ ap is_good (answered k (Err e) m t.answers) ∙ good_end (outcome k) c.how)
 
-  not_refused : (e : SyncError) → is_memory (Err e) ≡ false → Transfers a (w ∷ []) before handles s (Err e) → ⊥
-  not_refused e m t =
-      let c = course_answered a (w ∷ []) (Err e) in
-      cc (sym (refused_badly e) ∙ ap is_good (answered c (Err e) m t.answers) ∙ good_end (outcome c) (course (given_up (Err e))).how)
-
-  not_none : (answer : Result SyncOk SyncError) → is_memory answer ≡ false → is_early answer ≡ false → Transfers a [] before handles s answer → ⊥
-  not_none answer m l t = cc (sym l ∙ nothing_came a answer m t.answers)
+  -- where more is to come, the answer is one that comes in its place
+  waits_early : (answer : Result SyncOk SyncError) (replies rest : List (List ℕ)) → Waits a replies rest (given_up answer) → is_memory answer ≡ false → Transfers a replies before handles s answer → is_early answer ≡ true
+  waits_early answer replies rest w m t = in_place answer (answered (course_answered a replies answer) answer m t.answers ∙ ap Some w.given)
 
   abbrev Says : Result SyncOk SyncError → Type 0
   Says answer = SyncSays Sends a longest (Some o) (Some n) before handles s answer
+
+  -- the replies that came are a first part of what was sent, whose course waits for more or has succeeded
+  record Came (replies : List (List ℕ)) (gave : Outcome) : Type 0 where
+    front : IsFrontOf replies (all Sends a at longest v grant)
+    part : IsPart a v replies front.rest gave
 
   module _ (f g : ℕ) (h : IsHonest o n f g) where
     heard_is : (answer : Result SyncOk SyncError) (k : Says answer) → k.asked ≡ asked_octets a ∷ [] → (k.heard ≡ []) ⊎ (k.heard ≡ asked_octets a ∷ [])
     heard_is answer k q = let r = hands_on o.requests n.requests k.asked k.heard h.requests k.link.requests in one_prefix (asked_octets a) k.heard r.rest (sym q ∙ r.part)
 
-    replies_are : (answer : Result SyncOk SyncError) (k : Says answer) → k.asked ≡ asked_octets a ∷ [] → (k.replies ≡ []) ⊎ (k.replies ≡ w ∷ [])
+    replies_are : (answer : Result SyncOk SyncError) (k : Says answer) → k.asked ≡ asked_octets a ∷ [] → Came k.replies (given_up answer)
     replies_are answer k q =
         let r = hands_on o.replies n.replies k.sent k.replies h.replies k.link.replies in
-        came Sends a at longest v w one grant k.heard k.sent k.replies answer headed (heard_is answer k q) k.served r.rest r.part
-
-    transfers_of : (answer : Result SyncOk SyncError) (k : Says answer) (replies : List (List ℕ)) → k.replies ≡ replies → Transfers a replies before handles s answer
-    transfers_of answer k replies e = subst (λ (l : List (List ℕ)). Transfers a l before handles s answer) e k.transfers
+        let p = came Sends a at longest v grant k.heard k.sent k.replies answer headed (heard_is answer k q) k.served (record { rest = r.rest; joined = r.part }) in
+        record { front = p; part = part_of a at grant.compatibility v grant.fits (given_up answer) k.replies p.rest p.joined }
 
     -- Ok
-    ends_well : (x : SyncOk) (k : Says (Ok x)) → k.asked ≡ asked_octets a ∷ [] → (k.replies ≡ []) ⊎ (k.replies ≡ w ∷ []) → Same s.current.version v
-    ends_well x k q (inl e) = absurd (not_none (Ok x) refl refl (transfers_of (Ok x) k [] e))
-    ends_well x k q (inr e) = whole x (transfers_of (Ok x) k (w ∷ []) e)
+    ends_well : (x : SyncOk) (k : Says (Ok x)) (rest : List (List ℕ)) → IsPart a v k.replies rest Ended → Same s.current.version v
+    ends_well x k rest (inl c) = let t = k.transfers in leaves a before handles s t.versions (course_so_far a k.replies Ended) v (base_of a k.replies Ended) t.spelt t.made c
+    ends_well x k rest (inr w) = absurd (cc (waits_early (Ok x) k.replies rest w refl k.transfers))
 
     -- a refusal that only a reply can bring
-    never : (e : SyncError) (k : Says (Err e)) → is_memory (Err e) ≡ false → is_early (Err e) ≡ false → (k.replies ≡ []) ⊎ (k.replies ≡ w ∷ []) → ⊥
-    never e k m l (inl r) = not_none (Err e) m l (transfers_of (Err e) k [] r)
-    never e k m l (inr r) = not_refused e m (transfers_of (Err e) k (w ∷ []) r)
+    never : (e : SyncError) (k : Says (Err e)) (rest : List (List ℕ)) → is_memory (Err e) ≡ false → is_early (Err e) ≡ false → IsPart a v k.replies rest (given_up (Err e)) → ⊥
+    never e k rest m l (inl c) = not_refused e k.replies c m k.transfers
+    never e k rest m l (inr w) = cc (sym l ∙ waits_early (Err e) k.replies rest w m k.transfers)
 
     -- no message is too short
     long : (heard : List (List ℕ)) → (heard ≡ []) ⊎ (heard ≡ asked_octets a ∷ []) → HasShort heard → ⊥
     long heard (inl e) x = cc (ap (λ l. list_all has_header l) (sym e) ∙ x)
     long heard (inr e) x = cc (sym (ap (λ b. b && true) headed) ∙ ap (λ l. list_all has_header l) (sym e) ∙ x)
 
-    not_short : (x : ShortMessage) (k : Says (Err (why.Short x))) → k.asked ≡ asked_octets a ∷ [] → (k.replies ≡ []) ⊎ (k.replies ≡ w ∷ []) → ⊥
-    not_short x k q (inr r) = not_refused (why.Short x) refl (transfers_of (Err (why.Short x)) k (w ∷ []) r)
-    not_short x k q (inl r) = by_short (k.short x refl)
+    not_short : (x : ShortMessage) (k : Says (Err (why.Short x))) (rest : List (List ℕ)) → k.asked ≡ asked_octets a ∷ [] → IsPart a v k.replies rest Short → ⊥
+    not_short x k rest q (inl c) = not_refused (why.Short x) k.replies c refl k.transfers
+    not_short x k rest q (inr w) = by_short (k.short x refl)
       where
         by_short : (HasShort k.heard × (k.sent ≡ [])) ⊎ HasShort k.replies → ⊥
         by_short (inl y) = long k.heard (heard_is (Err (why.Short x)) k q) y.0
-        by_short (inr y) = cc (ap (λ l. list_all has_header l) (sym r) ∙ y)
+        by_short (inr y) = cc (sym w.headed ∙ y)
 
-    -- the link doesn't end before the reply
-    not_ended : (k : Says (Err why.Ended)) → k.asked ≡ asked_octets a ∷ [] → (k.replies ≡ []) ⊎ (k.replies ≡ w ∷ []) → ⊥
-    not_ended k q (inr r) = not_refused why.Ended refl (transfers_of (Err why.Ended) k (w ∷ []) r)
-    not_ended k q (inl r) = by_heard (heard_is (Err why.Ended) k q)
+    -- the link doesn't end before the last reply
+    not_ended : (k : Says (Err why.Ended)) (rest : List (List ℕ)) → k.asked ≡ asked_octets a ∷ [] → all Sends a at longest v grant ≡ k.replies ++ rest → IsPart a v k.replies rest Ended → ⊥
+    not_ended k rest q joined (inl c) = not_refused why.Ended k.replies c refl k.transfers
+    not_ended k rest q joined (inr w) = by_heard (heard_is (Err why.Ended) k q)
       where
         by_heard : (k.heard ≡ []) ⊎ (k.heard ≡ asked_octets a ∷ []) → ⊥
         by_heard (inl e) =
@@ -329,12 +334,13 @@ module _ (Sends : List ℕ → Option (List Sending) → Type 0) (a : Asking) (a
             cc (sym e ∙ (hands_on o.requests n.requests k.asked k.heard h.requests k.link.requests).whole ended ∙ q)
         by_heard (inr e) =
             let ended = subst (λ (l : List (List ℕ)). IsEnded l (Some n)) e (k.ended refl) in
-            let all = headed_served Sends (asked_octets a) k.sent k.replies (Err why.Ended) headed (subst (λ (l : List (List ℕ)). IsServed Sends l k.sent k.replies (Err why.Ended)) e k.served) in
-            cc (sym r ∙ (hands_on o.replies n.replies k.sent k.replies h.replies k.link.replies).whole ended ∙ sends_all Sends a at longest v w one grant k.sent all)
+            let served = headed_served Sends (asked_octets a) k.sent k.replies (Err why.Ended) headed (subst (λ (l : List (List ℕ)). IsServed Sends l k.sent k.replies (Err why.Ended)) e k.served) in
+            let same : k.replies ≡ all Sends a at longest v grant = (hands_on o.replies n.replies k.sent k.replies h.replies k.link.replies).whole ended ∙ sends_all Sends a at longest v grant k.sent served in
+            no_rest k.replies rest (same ∙ joined) w.more
 
     not_primary : (x : ServiceError) (k : Says (Err (why.Primary x))) → (k.heard ≡ []) ⊎ (k.heard ≡ asked_octets a ∷ []) → ⊥
     not_primary x k (inl e) = subst (λ (l : List (List ℕ)). IsServed Sends l k.sent k.replies (Err (why.Primary x))) e k.served
-    not_primary x k (inr e) = never_fails Sends a at longest v w one grant k.sent (headed_served Sends (asked_octets a) k.sent k.replies (Err (why.Primary x)) headed (subst (λ (l : List (List ℕ)). IsServed Sends l k.sent k.replies (Err (why.Primary x))) e k.served))
+    not_primary x k (inr e) = never_fails Sends a at longest v grant k.sent (headed_served Sends (asked_octets a) k.sent k.replies (Err (why.Primary x)) headed (subst (λ (l : List (List ℕ)). IsServed Sends l k.sent k.replies (Err (why.Primary x))) e k.served))
 
     was_asked : (answer : Result SyncOk SyncError) → (ComesBefore answer → ⊥) → (k : Says answer) → k.asked ≡ asked_octets a ∷ []
     was_asked answer later k = either k.request
@@ -344,7 +350,7 @@ module _ (Sends : List ℕ → Option (List Sending) → Type 0) (a : Asking) (a
         either (inr b) = absurd (later b.0)
 
     pub delivers : f < 2 ^ 64 - 1 → (answer : Result SyncOk SyncError) → Says answer → (answer ≡ Err why.LinkFault → Rose f g) → Delivers v s answer
-    delivers few (Ok x) k fault = let q = was_asked (Ok x) (λ b. b) k in ends_well x k q (replies_are (Ok x) k q)
+    delivers few (Ok x) k fault = let q = was_asked (Ok x) (λ b. b) k in let r = replies_are (Ok x) k q in ends_well x k r.front.rest r.part
     delivers few (Err why.Memory) k fault = tt
     delivers few (Err why.LinkFault) k fault = absurd (no_rise (fault refl))
       where
@@ -352,17 +358,17 @@ module _ (Sends : List ℕ → Option (List Sending) → Type 0) (a : Asking) (a
         no_rise (inl r) = let e = h.no_fault in omega (arith, e, r)
         no_rise (inr r) = let e = h.no_fault in omega (arith, e, r, few)
     delivers few (Err (why.Request x)) k fault = let l = (k.too_long x refl).1 in let fits = grant.request_fits in absurd (omega (arith, l, fits))
-    delivers few (Err (why.Short x)) k fault = let q = was_asked (Err (why.Short x)) (λ b. b) k in absurd (not_short x k q (replies_are (Err (why.Short x)) k q))
-    delivers few (Err why.Ended) k fault = let q = was_asked (Err why.Ended) (λ b. b) k in absurd (not_ended k q (replies_are (Err why.Ended) k q))
+    delivers few (Err (why.Short x)) k fault = let q = was_asked (Err (why.Short x)) (λ b. b) k in let r = replies_are (Err (why.Short x)) k q in absurd (not_short x k r.front.rest q r.part)
+    delivers few (Err why.Ended) k fault = let q = was_asked (Err why.Ended) (λ b. b) k in let r = replies_are (Err why.Ended) k q in absurd (not_ended k r.front.rest q r.front.joined r.part)
     delivers few (Err (why.Primary x)) k fault = let q = was_asked (Err (why.Primary x)) (λ b. b) k in absurd (not_primary x k (heard_is (Err (why.Primary x)) k q))
-    delivers few (Err why.NoSoa) k fault = let q = was_asked (Err why.NoSoa) (λ b. b) k in absurd (never why.NoSoa k refl refl (replies_are (Err why.NoSoa) k q))
-    delivers few (Err why.TooManyMessages) k fault = let q = was_asked (Err why.TooManyMessages) (λ b. b) k in absurd (never why.TooManyMessages k refl refl (replies_are (Err why.TooManyMessages) k q))
-    delivers few (Err (why.Tsig x)) k fault = let q = was_asked (Err (why.Tsig x)) (λ b. b) k in absurd (never (why.Tsig x) k refl refl (replies_are (Err (why.Tsig x)) k q))
-    delivers few (Err why.OtherAnswer) k fault = let q = was_asked (Err why.OtherAnswer) (λ b. b) k in absurd (never why.OtherAnswer k refl refl (replies_are (Err why.OtherAnswer) k q))
-    delivers few (Err (why.Xfr x)) k fault = let q = was_asked (Err (why.Xfr x)) (λ b. b) k in absurd (never (why.Xfr x) k refl refl (replies_are (Err (why.Xfr x)) k q))
-    delivers few (Err (why.Iteration x)) k fault = let q = was_asked (Err (why.Iteration x)) (λ b. b) k in absurd (never (why.Iteration x) k refl refl (replies_are (Err (why.Iteration x)) k q))
-    delivers few (Err (why.Update x)) k fault = let q = was_asked (Err (why.Update x)) (λ b. b) k in absurd (never (why.Update x) k refl refl (replies_are (Err (why.Update x)) k q))
-    delivers few (Err why.VersionsExhausted) k fault = let q = was_asked (Err why.VersionsExhausted) (λ b. b) k in absurd (never why.VersionsExhausted k refl refl (replies_are (Err why.VersionsExhausted) k q))
+    delivers few (Err why.NoSoa) k fault = let q = was_asked (Err why.NoSoa) (λ b. b) k in let r = replies_are (Err why.NoSoa) k q in absurd (never why.NoSoa k r.front.rest refl refl r.part)
+    delivers few (Err why.TooManyMessages) k fault = let q = was_asked (Err why.TooManyMessages) (λ b. b) k in let r = replies_are (Err why.TooManyMessages) k q in absurd (never why.TooManyMessages k r.front.rest refl refl r.part)
+    delivers few (Err (why.Tsig x)) k fault = let q = was_asked (Err (why.Tsig x)) (λ b. b) k in let r = replies_are (Err (why.Tsig x)) k q in absurd (never (why.Tsig x) k r.front.rest refl refl r.part)
+    delivers few (Err why.OtherAnswer) k fault = let q = was_asked (Err why.OtherAnswer) (λ b. b) k in let r = replies_are (Err why.OtherAnswer) k q in absurd (never why.OtherAnswer k r.front.rest refl refl r.part)
+    delivers few (Err (why.Xfr x)) k fault = let q = was_asked (Err (why.Xfr x)) (λ b. b) k in let r = replies_are (Err (why.Xfr x)) k q in absurd (never (why.Xfr x) k r.front.rest refl refl r.part)
+    delivers few (Err (why.Iteration x)) k fault = let q = was_asked (Err (why.Iteration x)) (λ b. b) k in let r = replies_are (Err (why.Iteration x)) k q in absurd (never (why.Iteration x) k r.front.rest refl refl r.part)
+    delivers few (Err (why.Update x)) k fault = let q = was_asked (Err (why.Update x)) (λ b. b) k in let r = replies_are (Err (why.Update x)) k q in absurd (never (why.Update x) k r.front.rest refl refl r.part)
+    delivers few (Err why.VersionsExhausted) k fault = let q = was_asked (Err why.VersionsExhausted) (λ b. b) k in let r = replies_are (Err why.VersionsExhausted) k q in absurd (never why.VersionsExhausted k r.front.rest refl refl r.part)
 
 -- ---- where the link tells its lists
 
@@ -371,4 +377,4 @@ pub delivered : (Sends : List ℕ → Option (List Sending) → Type 0) (a : Ask
 delivered Sends a at longest v None new f g before handles s answer grant h k fault = absurd h
 delivered Sends a at longest v (Some o) None f g before handles s answer grant h k fault = absurd h
 delivered Sends a at longest v (Some o) (Some n) f g before handles s answer grant h k fault =
-    delivers Sends a at longest v (reply a at v) (sent_is a at v) grant (request_has_header a) (λ gave. subst (λ (l : List (List ℕ)). Succeeds (course_so_far a l gave) v) (sent_is a at v) (whole_succeeds a at v gave grant.fits)) o n before handles s f g h.0 h.1 answer k fault
+    delivers Sends a at longest v grant (request_has_header a) o n before handles s f g h.0 h.1 answer k fault

@@ -46,7 +46,7 @@ good_status v s (Err (why.Update x)) d = absurd d
 good_status v s (Err why.VersionsExhausted) d = absurd d
 
 module _ (SendsOf : Provider → TsigKey → ℕ → List ℕ → Option (List Sending) → Type 0)
-    (grants : (p : Provider) (key : TsigKey) (a : Asking) (at longest : ℕ) → a.key ≡ key → is_granted p.grants (Some (key_id key)) ≡ true → Fits a at p.kept → length (asked_octets a) ≤ min longest 65535 → IsGranted (SendsOf p key at) a at longest p.kept)
+    (grants : (p : Provider) (key : TsigKey) (a : Asking) (at longest : ℕ) → a.key ≡ key → is_granted p.grants (Some (key_id key)) ≡ true → Fits a at p.compatibility p.kept → length (asked_octets a) ≤ min longest 65535 → IsGranted (SendsOf p key at) a at longest p.kept)
     (text : List ℕ) (t : scripts.Script TsigKey) (key : TsigKey) (link : Crossed) (taken_old taken_new : Option (List ℕ)) (spelt : script_of readers_so_far text ≡ Ok t) (fits : FitsLink t key link.longest) (honest : WasHonest link.lists_old link.lists_new link.faults_old link.faults_new) where
   same_script : (u : scripts.Script TsigKey) → script_of readers_so_far text ≡ Ok u → t ≡ u
   same_script u e = ap (unless t) (sym spelt ∙ e)

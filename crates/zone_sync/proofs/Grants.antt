@@ -1,5 +1,5 @@
 -- What a primary grants to a secondary's request.
-use Rattle.std.proofs.Common.{◌≡◌, ℕ, ◌≤◌, true, ◌&&◌, List, length, refl, sym, ap, ◌∙◌, arith, Option, Some, lit<, eq-eqb}
+use Rattle.std.proofs.Common.{◌≡◌, ℕ, ◌≤◌, Bool, true, ◌&&◌, List, length, refl, sym, ap, ◌∙◌, arith, Option, Some, lit<, eq-eqb}
 use Rattle.std.specs.Prelude.{◌==◌, sum_by, option_map, unwrap_or, Result, Ok, if◌then◌else◌}
 use Rattle.std.specs.Int.{abs_diff}
 use Rattle.std.proofs.lemmas.Bool.{and_parts}
@@ -29,29 +29,29 @@ use Rattle.zone_sync.specs.Fitting.{Fits}
 use Rattle.zone_sync.specs.Grants.{Offers}
 use Rattle.zone_sync.proofs.Requests.{octets_are}
 use Rattle.zone_sync.proofs.HonestRequests as requests
-use Rattle.zone_sync.proofs.HonestReplies.{few_records, apex_is_name, small_class}
+use Rattle.zone_sync.proofs.HonestReplies.{apex_is_name, small_class}
 
-module _ (a : Asking) (at : ℕ) (v : Version) (f : Fits a at v) where
+module _ (a : Asking) (at : ℕ) (c : Bool) (v : Version) (f : Fits a at c v) where
   near : abs_diff a.at at ≤ 300
   near = let n = f.near in omega (arith, n)
 
-  accepted : (keys : Keys) → keys (fold a.key.name) a.key.algorithm ≡ Some a.key → verdict keys at (asked_octets a) ≡ Accepted a.key
+  pub accepted : (keys : Keys) → keys (fold a.key.name) a.key.algorithm ≡ Some a.key → verdict keys at (asked_octets a) ≡ Accepted a.key
   accepted keys known =
       ap (verdict keys at) (sym (octets_are a))
       ∙ request_accepted a.key keys (request_message a) a.at at 300 f.is_key f.asked_early (lit< tt) near
-      (requests.can_sign a f.is_key f.asked_early (apex_is_name a at v f) (small_class a at v f)) known
+      (requests.can_sign a f.is_key f.asked_early (apex_is_name a at c v f) (small_class a at c v f)) known
 
-  one_apex_soa : has_one_apex_soa v ≡ true
+  pub one_apex_soa : has_one_apex_soa v ≡ true
   one_apex_soa = (and_parts (has_one_apex_soa v) (sum_by (λ (e : Key × RecordSet). if e.0.1 == type_soa then length e.1.items else 0) v.sets == 1) f.published.one_soa).0
 
 -- such a primary grants the request
-pub granted : {K : Type 0} (the_key : K → TsigKey) (keys : Keys) (told : List ℕ → Option K → Option ℕ → Result Offer XfrDataProviderError) (a : Asking) (at : ℕ) (offer : Offer)
-    → Offers the_key keys told a offer → Fits a at offer.version → IsGrantedAxfr the_key keys told (request_at (asked_octets a) at) a.key offer
+abbrev pub granted : {K : Type 0} (the_key : K → TsigKey) (keys : Keys) (told : List ℕ → Option K → Option ℕ → Result Offer XfrDataProviderError) (a : Asking) (at : ℕ) (offer : Offer)
+    → Offers the_key keys told a offer → Fits a at offer.compatibility offer.version → IsGrantedAxfr the_key keys told (request_at (asked_octets a) at) a.key offer
 granted the_key keys told a at offer o f =
-    let name = apex_is_name a at offer.version f in
-    let class = small_class a at offer.version f in
+    let name = apex_is_name a at offer.compatibility offer.version f in
+    let class = small_class a at offer.compatibility offer.version f in
     record {
-      accepted = accepted a at offer.version f keys o.known;
+      accepted = accepted a at offer.compatibility offer.version f keys o.known;
       known = o.known;
       macs = f.is_key.signing;
       asks = requests.taken_mode a f.is_key f.asked_early name class f.mode;
@@ -59,9 +59,9 @@ granted the_key keys told a at offer o f =
       fresh = refl;
       granted = o.offered;
       apex = ap (λ (q : Option Question). asks_for_apex q offer.version) (requests.taken_question a f.is_key f.asked_early name class) ∙ f.published.same_apex;
-      one_soa = one_apex_soa a at offer.version f;
-      few = few_records a at offer.version f;
-      room = f.room;
+      one_soa = one_apex_soa a at offer.compatibility offer.version f;
+      pages = f.pages;
+      cut = f.cut;
     }
 
 -- ---- a store of one key, and a provider that keeps one version
@@ -83,7 +83,7 @@ kept_told p message key asked = answer_to p (sole_question_in message) (option_m
 abbrev pub kept_offer : Provider → Asking → Offer
 kept_offer p a = offer_of p.kept p.differences p.compatibility (unwrap_or (asked_serial (taken_message (asked_octets a))) 0)
 
-module _ (a : Asking) (at : ℕ) (p : Provider) (f : Fits a at p.kept) where
+module _ (a : Asking) (at : ℕ) (p : Provider) (f : Fits a at p.compatibility p.kept) where
   same_apex : same_name a.base.version.apex p.kept.apex ≡ true
   same_apex = (same_name-Decides a.base.version.apex p.kept.apex).1 (sym ((same_name-Decides p.kept.apex a.base.version.apex).0 f.published.same_apex))
 
@@ -97,10 +97,10 @@ module _ (a : Asking) (at : ℕ) (p : Provider) (f : Fits a at p.kept) where
       → answer_to p (sole_question_in (taken_message (asked_octets a))) (Some (key_id key)) (asked_serial (taken_message (asked_octets a))) ≡ Ok (kept_offer p a)
   kept_offered key grants =
       let serial = asked_serial (taken_message (asked_octets a)) in
-      ap (λ o. answer_to p o (Some (key_id key)) serial) (requests.taken_question a f.is_key f.asked_early (apex_is_name a at p.kept f) (small_class a at p.kept f))
+      ap (λ o. answer_to p o (Some (key_id key)) serial) (requests.taken_question a f.is_key f.asked_early (apex_is_name a at p.compatibility p.kept f) (small_class a at p.compatibility p.kept f))
       ∙ history_grants p (asked_question a) (key_id key) serial kept_asked grants
 
-pub history_offers : (p : Provider) (key : TsigKey) (a : Asking) (at : ℕ) → a.key ≡ key → is_granted p.grants (Some (key_id key)) ≡ true → Fits a at p.kept
+pub history_offers : (p : Provider) (key : TsigKey) (a : Asking) (at : ℕ) → a.key ≡ key → is_granted p.grants (Some (key_id key)) ≡ true → Fits a at p.compatibility p.kept
     → Offers (λ (k : TsigKey). k) (own_key key) (kept_told p) a (kept_offer p a)
 history_offers p key a at is grants f = record {
   known = ap (λ k. own_key k (fold a.key.name) a.key.algorithm) (sym is) ∙ own_known a.key;

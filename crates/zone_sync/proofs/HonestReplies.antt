@@ -1,37 +1,101 @@
--- The whole text as its primary sends it, taken by the secondary that asked.
-use Rattle.std.proofs.Common.{◌≡◌, ℕ, ◌+◌, ◌^◌, ◌<◌, ◌≤◌, true, List, [], ◌∷◌, ◌++◌, length, length-append, map, take, drop, refl, sym, ap, ◌∙◌, subst, arith, Some, None, lit<, lit≤, le-leb}
-use Rattle.std.specs.Prelude.{flat_map, option_map, unwrap_or, IsTrue, if◌then◌else◌}
+-- The whole text as its primary sends it, message by message, taken by the secondary that asked.
+use Rattle.std.proofs.Common.{◌≡◌, ℕ, suc, ◌+◌, ◌-◌, ◌*◌, ◌^◌, ◌<◌, ◌≤◌, Bool, true, false, not, nat_le, List, [], ◌∷◌, ◌++◌, length, length-append, append_assoc, append-nil, map, take, drop, refl, sym, ap, ◌∙◌, subst, arith, Option, Some, None, lit<, lit≤, le-leb, leb-true}
+use Rattle.std.specs.Prelude.{◌==◌, flat_map, unwrap_or, IsTrue}
 use Rattle.std.specs.List.{AllByRecursion}
+use Rattle.std.proofs.lemmas.List.Concat.{length-flat_map}
+use Rattle.std.proofs.lemmas.List.Sums.{sum_by-cons}
+use Rattle.std.proofs.lemmas.List.{length-map}
 use Rattle.dns_name.specs.Names.{is_name, name_wire}
 use Rattle.dns_name.specs.Octets.{u16_octets, u32_octets}
-use Rattle.dns_rdata.specs.Records.{Record, record_wire, data_wire}
-use Rattle.dns_rdata.specs.Heads.{readable}
-use Rattle.dns_wire.specs.Wire.{Message, header_in, message_wire}
-use Rattle.dns_wire.specs.Parse.{Parsed, parsed, questions_in}
-use Rattle.dns_wire.specs.Written.{IsMessage, IsRecord, head_at, heads_from, parsed_of}
-use Rattle.dns_wire.proofs.ItemWriting.{parsed-message_wire}
-use Rattle.tsig_port.specs.Tsig.{mac_in, tsig_record, answer_tsig, signed_answer, signed_from}
-use Rattle.tsig_port.specs.Checked.{answer_fault, taken_message}
+use Rattle.dns_rdata.specs.Records.{Record, record_wire, data_wire, is_data}
+use Rattle.dns_wire.specs.Wire.{Header, Message, Question, header_in, question_wire, message_wire}
+use Rattle.dns_wire.specs.Parse.{questions_in}
+use Rattle.dns_wire.specs.Written.{IsMessage, IsRecord}
+use Rattle.tsig_port.specs.Tsig.{TsigKey, compose_len, mac_in, tsig_record, answer_tsig, signed_answer, signed_from}
+use Rattle.tsig_port.specs.Checked.{answer_fault, taken_message, prior_mac}
 use Rattle.tsig_port.specs.Signing.{CanSign}
 use Rattle.tsig_port.proofs.SignedAnswers as answers
 use Rattle.zone_model.specs.Version.{Version}
-use Rattle.xfr_model.specs.Messages.{HaveData, ReadMessage, as_read, read_of, message_of}
-use Rattle.zone_model.specs.Offer.{whole_text}
-use Rattle.xfr_model.proofs.ReadingBuilt.{built_is_read}
+use Rattle.zone_model.specs.Offer.{whole_text, room_of, are_single, IsCutInto}
 use Rattle.zone_model.proofs.Valid.{one_soa}
 use Rattle.zone_model.proofs.WholeText.{middle_of, soa_of, whole_is}
-use Rattle.xfr_server.specs.TransferMessage.{transfer_header}
+use Rattle.xfr_batch.specs.XfrBatches.{axfr_header}
+use Rattle.xfr_model.specs.Messages.{HaveData, ReadMessage, read_of, message_of}
+use Rattle.xfr_model.proofs.ReadingBuilt.{built_is_read}
+use Rattle.xfr_replies.specs.TransferPages.{page_answer}
 use Rattle.xfr_server.proofs.Accepted.{transfer_is_message}
 use Rattle.xfr_server.proofs.Answers.{wire_length}
+use Rattle.xfr_server.proofs.Pages.{IsPage, each_page}
+use Rattle.xfr_course.specs.Outcome.{Checked}
 use Rattle.xfr_course.specs.Courses.{has_header}
 use Rattle.xfr_course.specs.Honest.{carrier_of}
 use Rattle.xfr_course.specs.Success.{signed_checked}
-use Rattle.zone_sync.specs.SoFar.{Asking, request_message, asked_octets, checked_so_far, fault_so_far, message_so_far, header_alone}
+use Rattle.zone_sync.specs.SoFar.{Asking, asked_question, request_message, asked_octets, checked_so_far, fault_so_far, message_so_far, header_alone}
 use Rattle.zone_sync.specs.Standing.{Passed}
-use Rattle.zone_sync.specs.Fitting.{whole_message, sent_whole, Fits, SendsOne}
+use Rattle.zone_sync.specs.Fitting.{answer_room, page_answers, sent_whole, Fits, SendsEach}
 use Rattle.zone_sync.proofs.Standings.{none_passed, one_passed}
 use Rattle.zone_sync.proofs.HonestNames.{same_is_name}
 use Rattle.zone_sync.proofs.HonestRequests as requests
+
+-- ---- pages
+
+-- a text that one message has room for is one page
+pub one_cut : (room : ℕ) (text : List Record) → not (length text == 0) ≡ true → room_of text ≤ room → IsCutInto room false text (text ∷ [])
+one_cut room text full fits = let within : nat_le (room_of text) room ≡ true = le-leb _ _ fits in record { joined = append-nil text; filled = rw (full, within) refl }
+
+-- with one record each, there are as many pages as records
+abbrev pub singles_of : List Record → List (List Record)
+singles_of text = map (λ (r : Record). r ∷ []) text
+
+singles_join : (text : List Record) → flat_map (λ page. page) (singles_of text) ≡ text
+singles_join [] = refl
+singles_join (r ∷ more) = ap (λ l. r ∷ l) (singles_join more)
+
+singles_filled : (room : ℕ) (text : List Record) → AllByRecursion (λ r. length (record_wire r) ≤ room) text → are_single room (singles_of text) ≡ true
+singles_filled room [] h = refl
+singles_filled room (r ∷ more) h =
+    let within : nat_le (room_of (r ∷ [])) room ≡ true = le-leb _ _ (omega (arith, sum_by-cons (λ r. length (record_wire r)) r [], h.0)) in
+    rw (within, singles_filled room more h.1) refl
+
+pub singles_cut : (room : ℕ) (text : List Record) → AllByRecursion (λ r. length (record_wire r) ≤ room) text → IsCutInto room true text (singles_of text)
+singles_cut room text h = record { joined = singles_join text; filled = singles_filled room text h }
+
+-- what holds of all records of a text holds of those of each page
+all_front : (P : Record → Type 0) (xs ys : List Record) → AllByRecursion P (xs ++ ys) → AllByRecursion P xs
+all_front P [] ys h = tt
+all_front P (x ∷ xs) ys h = (h.0, all_front P xs ys h.1)
+
+all_back : (P : Record → Type 0) (xs ys : List Record) → AllByRecursion P (xs ++ ys) → AllByRecursion P ys
+all_back P [] ys h = h
+all_back P (x ∷ xs) ys h = all_back P xs ys h.1
+
+by_page : (P : Record → Type 0) (pages : List (List Record)) → AllByRecursion P (flat_map (λ page. page) pages) → AllByRecursion (λ page. AllByRecursion P page) pages
+by_page P [] h = tt
+by_page P (page ∷ more) h =
+    let rest : List Record = flat_map (λ p. p) more in
+    (all_front P page rest h, by_page P more (all_back P page rest h))
+
+in_pages : (P : Record → Type 0) (room : ℕ) (singles : Bool) (text : List Record) (pages : List (List Record)) → IsCutInto room singles text pages → AllByRecursion P text → AllByRecursion (λ page. AllByRecursion P page) pages
+in_pages P room singles text pages cut h = by_page P pages (subst (AllByRecursion P) (sym cut.joined) h)
+
+-- records have octets
+long_records : (rs : List Record) → length rs * 10 ≤ room_of rs
+long_records [] = lit≤ tt
+long_records (r ∷ rs) =
+    let d = data_wire r.fields in
+    let a = name_wire r.owner ++ u16_octets r.rtype in
+    let b = a ++ u16_octets r.class in
+    let front = b ++ u32_octets r.ttl in
+    omega (
+      arith,
+      long_records rs,
+      sum_by-cons (λ r. length (record_wire r)) r rs,
+      length-append (front ++ u16_octets (length d)) d,
+      length-append front (u16_octets (length d)),
+      length-append b (u32_octets r.ttl),
+      length-append a (u16_octets r.class),
+      length-append (name_wire r.owner) (u16_octets r.rtype),
+    )
 
 -- ---- the built message as it is read
 
@@ -41,83 +105,154 @@ read_so_far octets m h = ap (λ o. unwrap_or o (header_alone octets)) h
 
 -- ---- what follows of the premises
 
--- records have octets
-long_records : (rs : List Record) → length rs ≤ length (flat_map record_wire rs)
-long_records [] = lit≤ tt
-long_records (r ∷ rs) =
-    let d = data_wire r.fields in
-    let front = name_wire r.owner ++ u16_octets r.rtype ++ u16_octets r.class ++ u32_octets r.ttl in
-    omega (arith, long_records rs, length-append (record_wire r) (flat_map record_wire rs), length-append (front ++ u16_octets (length d)) d, length-append front (u16_octets (length d)))
-
--- so few fit into a message
-pub few_records : (a : Asking) (at : ℕ) (v : Version) → Fits a at v → length (whole_text v) < 65536
-few_records a at v f =
-    let message = taken_message (asked_octets a) in
-    omega (arith, long_records (whole_text v), wire_length (transfer_header (header_in message)) (questions_in message) (whole_text v), f.room)
-
 -- the SOA record has a wire form, and so has the question
-soa_is_record : (a : Asking) (at : ℕ) (v : Version) → Fits a at v → IsTrue (is_name v.apex) × (v.class < 2 ^ 16)
-soa_is_record a at v f =
+soa_is_record : (a : Asking) (at : ℕ) (c : Bool) (v : Version) → Fits a at c v → IsTrue (is_name v.apex) × (v.class < 2 ^ 16)
+soa_is_record a at c v f =
     let o = one_soa v f.published.valid f.published.one_soa in
     let all : AllByRecursion IsRecord (soa_of v o ∷ middle_of v ++ soa_of v o ∷ []) = subst (AllByRecursion IsRecord) (whole_is v o) f.records in
     (all.0.owner, all.0.class)
 
-pub apex_is_name : (a : Asking) (at : ℕ) (v : Version) → Fits a at v → is_name a.base.version.apex ≡ true
-apex_is_name a at v f = same_is_name v.apex a.base.version.apex f.published.same_apex (soa_is_record a at v f).0
+pub apex_is_name : (a : Asking) (at : ℕ) (c : Bool) (v : Version) → Fits a at c v → is_name a.base.version.apex ≡ true
+apex_is_name a at c v f = same_is_name v.apex a.base.version.apex f.published.same_apex (soa_is_record a at c v f).0
 
-pub small_class : (a : Asking) (at : ℕ) (v : Version) → Fits a at v → a.base.version.class < 2 ^ 16
-small_class a at v f = omega (arith, f.same_class, (soa_is_record a at v f).1)
+pub small_class : (a : Asking) (at : ℕ) (c : Bool) (v : Version) → Fits a at c v → a.base.version.class < 2 ^ 16
+small_class a at c v f = omega (arith, f.same_class, (soa_is_record a at c v f).1)
 
 -- ---- what is sent
 
-abbrev pub reply : Asking → ℕ → Version → List ℕ
-reply a at v = signed_answer a.key (mac_in (asked_octets a)) None (message_wire (whole_message a v)) at 300
-
-pub sent_is : (a : Asking) (at : ℕ) (v : Version) → sent_whole a at v ≡ reply a at v ∷ []
+as_many : (key : TsigKey) (mac : List ℕ) (at fudge : ℕ) (prior : Option (List ℕ)) (ms : List (List ℕ)) → length (signed_from key mac at fudge prior ms) ≡ length ms
 unfolding signed_from
-sent_is a at v = refl
+as_many key mac at fudge prior [] = refl
+as_many key mac at fudge prior (m ∷ ms) = ap suc (as_many key mac at fudge (Some (answer_tsig key mac prior m at fudge).mac) ms)
 
-pub sends_one : SendsOne
-sends_one a at v = (reply a at v, sent_is a at v)
+pub sends_each : SendsEach
+sends_each a at pages =
+    let ms = page_answers a pages in
+    as_many a.key (mac_in (asked_octets a)) at 300 None (map message_wire ms) ∙ length-map ms message_wire ∙ length-map pages (page_answer (taken_message (asked_octets a)))
 
-pub reply_header : (a : Asking) (at : ℕ) (v : Version) → has_header (reply a at v) ≡ true
-reply_header a at v =
-    let s = reply a at v in
+pub signed_header : (key : TsigKey) (mac : List ℕ) (prior : Option (List ℕ)) (m : Message) (at fudge : ℕ) → has_header (signed_answer key mac prior (message_wire m) at fudge) ≡ true
+signed_header key mac prior m at fudge =
+    let s = signed_answer key mac prior (message_wire m) at fudge in
     let whole : length s ≡ 12 + length (drop 12 s) = length-append (take 12 s) (drop 12 s) in
     le-leb 12 (length s) (omega (arith, whole))
 
 -- ---- as it is taken
 
-module _ (a : Asking) (at : ℕ) (v : Version) (f : Fits a at v) where
-  abbrev M : Message
-  M = whole_message a v
+module _ (a : Asking) (at : ℕ) (c : Bool) (v : Version) (f : Fits a at c v) where
+  abbrev name : is_name a.base.version.apex ≡ true
+  name = apex_is_name a at c v f
 
-  abbrev w : List ℕ
-  w = reply a at v
+  abbrev class : a.base.version.class < 2 ^ 16
+  class = small_class a at c v f
 
-  pub is_message : IsMessage M
-  is_message = transfer_is_message (taken_message (asked_octets a)) (request_message a) (whole_text v)
-      (requests.taken_header a f.is_key f.asked_early (apex_is_name a at v f) (small_class a at v f)) (requests.is_message a f.is_key f.asked_early (apex_is_name a at v f) (small_class a at v f))
-      (requests.taken_parses a f.is_key f.asked_early (apex_is_name a at v f) (small_class a at v f)) f.records (few_records a at v f)
+  abbrev pub request : List ℕ
+  request = taken_message (asked_octets a)
 
-  pub can_sign : CanSign a.key M
-  can_sign = record { message = is_message; unsigned = tt; count = lit< tt; room = f.room }
+  abbrev pub q : Question
+  q = asked_question a
 
-  -- it passes, as the first answer
-  pub faultless : fault_so_far a [] w ≡ None
+  abbrev pub h : Header
+  h = axfr_header (header_in request)
+
+  pub asked_alone : questions_in request ≡ q ∷ []
+  asked_alone = requests.taken_questions a f.is_key f.asked_early name class
+
+  -- how long a page's message is
+  asked_length : length (flat_map question_wire (questions_in request)) ≡ length (question_wire q)
+  asked_length = ap (λ qs. length (flat_map question_wire qs)) asked_alone ∙ ap length (append-nil (question_wire q))
+
+  pub page_length : (page : List Record) → length (message_wire (page_answer request page)) ≡ 12 + (length (question_wire q) + room_of page)
+  page_length page = omega (arith, wire_length h (questions_in request) page, asked_length, length-flat_map record_wire page)
+
+  pub room_is : answer_room a ≡ 65535 - 12 - length (question_wire q) - compose_len a.key
+  room_is = omega (arith, page_length [])
+
+  -- so few records fit into one
+  few_records : (page : List Record) → IsPage (answer_room a) page → length page < 2 ^ 16
+  few_records page is = omega (arith, long_records page, leb-true (room_of page) (answer_room a) is.1, room_is)
+
+  page_is_message : (page : List Record) → IsPage (answer_room a) page → AllByRecursion IsRecord page → IsMessage (page_answer request page)
+  page_is_message page is records =
+      transfer_is_message request (request_message a) page (requests.taken_header a f.is_key f.asked_early name class) (requests.is_message a f.is_key f.asked_early name class)
+      (requests.taken_parses a f.is_key f.asked_early name class) records (few_records page is)
+
+  can_sign : (page : List Record) → IsPage (answer_room a) page → AllByRecursion IsRecord page → CanSign a.key (page_answer request page)
+  can_sign page is records = record {
+    message = page_is_message page is records;
+    unsigned = tt;
+    count = lit< tt;
+    room = omega (arith, page_length page, long_records page, is.0, leb-true (room_of page) (answer_room a) is.1, room_is);
+  }
+
+  all_can_sign : (pages : List (List Record)) → AllByRecursion (IsPage (answer_room a)) pages → AllByRecursion (λ page. AllByRecursion IsRecord page) pages → AllByRecursion (CanSign a.key) (page_answers a pages)
+  all_can_sign [] each records = tt
+  all_can_sign (page ∷ more) each records = (can_sign page each.0 records.0, all_can_sign more each.1 records.1)
+
+  all_have : (pages : List (List Record)) → AllByRecursion (λ page. HaveData page) pages → AllByRecursion (λ (m : Message). HaveData m.answers) (page_answers a pages)
+  all_have [] have = tt
+  all_have (page ∷ more) have = (have.0, all_have more have.1)
+
+  pub signable : AllByRecursion (CanSign a.key) (page_answers a f.pages)
+  signable = all_can_sign f.pages (each_page (answer_room a) c f.pages f.cut.filled) (in_pages IsRecord (answer_room a) c (whole_text v) f.pages f.cut f.records)
+
+  pub readable : AllByRecursion (λ (m : Message). HaveData m.answers) (page_answers a f.pages)
+  readable = all_have f.pages (in_pages (λ r. IsTrue (is_data r.rtype r.fields)) (answer_room a) c (whole_text v) f.pages f.cut f.have)
+
+  -- ---- in sequence
+
+  abbrev mac : List ℕ
+  mac = mac_in (asked_octets a)
+
+  abbrev pub signed : Option (List ℕ) → Message → List ℕ
+  signed prior m = signed_answer a.key mac prior (message_wire m) at 300
+
+  abbrev next : Option (List ℕ) → Message → Option (List ℕ)
+  next prior m = Some (answer_tsig a.key mac prior (message_wire m) at 300).mac
+
+  abbrev pub sequence : Option (List ℕ) → List Message → List (List ℕ)
+  sequence prior ms = signed_from a.key mac at 300 prior (map message_wire ms)
+
+  -- each passes after those before it
+  faultless : (taken : List (List ℕ)) (prior : Option (List ℕ)) (m : Message) → CanSign a.key m → prior_mac taken ≡ prior → fault_so_far a taken (signed prior m) ≡ None
   unfolding fault_so_far
-  faultless =
-      ap (λ mac. answer_fault a.key mac a.at [] w) (sym (requests.mac_read_is a f.is_key f.asked_early (apex_is_name a at v f) (small_class a at v f)))
-      ∙ answers.passes a.key (mac_in (asked_octets a)) at a.at 300 f.is_key f.early (lit< tt) f.near [] None M can_sign refl
+  faultless taken prior m can is_prior =
+      ap (λ x. answer_fault a.key x a.at taken (signed prior m)) (sym (requests.mac_read_is a f.is_key f.asked_early name class))
+      ∙ answers.passes a.key mac at a.at 300 f.is_key f.early (lit< tt) f.near taken prior m can is_prior
 
-  pub all_passed : Passed (fault_so_far a) (w ∷ [])
-  all_passed = one_passed (fault_so_far a) [] w (none_passed (fault_so_far a)) faultless (reply_header a at v)
+  -- .. and so do all of a first part
+  part_passed : (taken : List (List ℕ)) (prior : Option (List ℕ)) (ms : List Message) (xs rest : List (List ℕ)) → AllByRecursion (CanSign a.key) ms → prior_mac taken ≡ prior
+      → sequence prior ms ≡ xs ++ rest → Passed (fault_so_far a) taken → Passed (fault_so_far a) (taken ++ xs)
+  unfolding signed_from
+  part_passed taken prior ms [] rest can is_prior e p = subst (Passed (fault_so_far a)) (sym (append-nil taken)) p
+  part_passed taken prior [] (x ∷ xs) rest can is_prior e p = absurd (cc e)
+  part_passed taken prior (m ∷ ms) (x ∷ xs) rest can is_prior e p =
+      let s = signed prior m in
+      let first : s ≡ x = cc in
+      let behind : sequence (next prior m) ms ≡ xs ++ rest = cc in
+      let one : Passed (fault_so_far a) (taken ++ s ∷ []) = one_passed (fault_so_far a) taken s p (faultless taken prior m can.0 is_prior) (signed_header a.key mac prior m at 300) in
+      let all = part_passed (taken ++ s ∷ []) (next prior m) ms xs rest can.1 (answers.prior_then a.key mac at a.at 300 f.is_key f.early (lit< tt) f.near taken prior m can.0) behind one in
+      subst (Passed (fault_so_far a)) (append_assoc taken (s ∷ []) xs ∙ ap (λ y. taken ++ y ∷ xs) first) all
 
-  -- and says what it was built of
-  pub checked_is : checked_so_far w ≡ signed_checked (carrier_of M)
+  pub front_passed : (xs rest : List (List ℕ)) → sent_whole a at f.pages ≡ xs ++ rest → Passed (fault_so_far a) xs
+  front_passed xs rest e = part_passed [] None (page_answers a f.pages) xs rest signable refl e (none_passed (fault_so_far a))
+
+  -- each says what it was built of
+  checked_is : (prior : Option (List ℕ)) (m : Message) → CanSign a.key m → HaveData m.answers → checked_so_far (signed prior m) ≡ signed_checked (carrier_of m)
   unfolding checked_so_far
-  checked_is =
-      let r = record_wire (tsig_record a.key.name (answer_tsig a.key (mac_in (asked_octets a)) None (message_wire M) at 300)) in
-      let taken : taken_message w ≡ message_wire M ++ r = answers.taken_is a.key (mac_in (asked_octets a)) at a.at 300 f.is_key f.early (lit< tt) f.near None M can_sign in
-      let read : message_so_far (taken_message w) ≡ read_of M = ap message_so_far taken ∙ read_so_far (message_wire M ++ r) (read_of M) (built_is_read M r is_message f.have) in
+  checked_is prior m can have =
+      let w = signed prior m in
+      let r = record_wire (tsig_record a.key.name (answer_tsig a.key mac prior (message_wire m) at 300)) in
+      let taken : taken_message w ≡ message_wire m ++ r = answers.taken_is a.key mac at a.at 300 f.is_key f.early (lit< tt) f.near prior m can in
+      let read : message_so_far (taken_message w) ≡ read_of m = ap message_so_far taken ∙ read_so_far (message_wire m ++ r) (read_of m) (built_is_read m r can.message have) in
       ap (λ x. record { message = x }) read
+
+  all_checked : (prior : Option (List ℕ)) (ms : List Message) → AllByRecursion (CanSign a.key) ms → AllByRecursion (λ (m : Message). HaveData m.answers) ms
+      → map checked_so_far (sequence prior ms) ≡ map signed_checked (map carrier_of ms)
+  unfolding signed_from
+  all_checked prior [] can have = refl
+  all_checked prior (m ∷ ms) can have =
+      ap (λ (k : Checked). k ∷ map checked_so_far (sequence (next prior m) ms)) (checked_is prior m can.0 have.0)
+      ∙ ap (λ (ks : List Checked). signed_checked (carrier_of m) ∷ ks) (all_checked (next prior m) ms can.1 have.1)
+
+  pub sent_checked : map checked_so_far (sent_whole a at f.pages) ≡ map signed_checked (map carrier_of (page_answers a f.pages))
+  sent_checked = all_checked None (page_answers a f.pages) signable readable

@@ -59,7 +59,7 @@ meets a taken m o gave p few x =
 
 -- ---- want of memory
 
-so_far : (a : Asking) (taken : List (List ℕ)) (stop : Outcome) → take_course (asked_course a [] stop) (new_client (asked_course a [] stop)) (map checked_so_far taken) ≡ client_so_far a taken
+pub so_far : (a : Asking) (taken : List (List ℕ)) (stop : Outcome) → take_course (asked_course a [] stop) (new_client (asked_course a [] stop)) (map checked_so_far taken) ≡ client_so_far a taken
 unfolding client_so_far
 so_far a taken stop = same_takes a [] [] stop Ended (new_client (asked_course a [] Ended)) (map checked_so_far taken)
 

@@ -114,7 +114,7 @@ pub record Ran (SendsOf : Provider → TsigKey → ℕ → List ℕ → Option (
 -- a script whose zones, key and moments fit each other, and whose request fits the link
 pub record FitsLink (script : Script TsigKey) (key : TsigKey) (longest : ℕ) : Type 0 where
   pub keyed : script.key ≡ Some key
-  pub fits : Fits (asking_in script key) script.at_primary (primary_version script)
+  pub fits : Fits (asking_in script key) script.at_primary false (primary_version script)
   pub request_fits : length (asked_octets (asking_in script key)) ≤ min longest 65535
 
 -- what the source had is no script, and octets name its first bad line

@@ -1,6 +1,7 @@
 use Rattle.std.proofs.Common.{◌∙◌, ◌++◌, ◌∷◌, []}
 use Rattle.xfr_batch.proofs.BatchRooms.{not_nil}
-use Rattle.xfr_replies.proofs.Pulling.{message_is, full_first, limited_first, first_of_text}
+use Rattle.xfr_replies.proofs.PageRooms.{message_is}
+use Rattle.xfr_replies.proofs.Pulling.{full_first, limited_first, first_of_text}
 use Rattle.xfr_replies.proofs.laws.messages_given_back_are_first_pages.Goals as goal
 
 pub returns-clause-full : goal.returns-clause-full

@@ -1,4 +1,4 @@
-use Rattle.xfr_replies.proofs.Pulling.{room_is}
+use Rattle.xfr_replies.proofs.PageRooms.{room_is}
 use Rattle.xfr_replies.proofs.laws.messages_have_room_for_pages.Goals as goal
 
 pub returns : goal.returns

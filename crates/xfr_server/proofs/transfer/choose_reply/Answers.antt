@@ -9,5 +9,5 @@ returns-in-Ok g c =
     let told = g.X.XfrDataProvider.told c.args.provider.now m c.args.request.now.metadata in
     let asked : c.asked_serial-asked.result ≡ asked_serial m = c.asked_serial-asked.ensures ∙ ap asked_serial c.as_message-message.ensures in
     let test = sym c.lacks_serial.ensures ∙ c.if-lacks_serial.false in
-    let is = rw (c.as_message-message.ensures, c.is_udp.ensures, c.into_zone.ensures) at c.reply_with.ensures in
+    let is = rw (c.as_message-message.ensures, c.is_udp-is_udp.ensures) at c.reply_with.ensures in
     is ∙ sym (chosen_offer told c.args.mode (is_udp c.args.request.now.transport) m c.in-Ok.found c.asked_serial-asked.result asked test c.in-Ok.ensures)

@@ -1,6 +1,0 @@
-use Rattle.zone_sync.proofs.HonestRequests.{request_has_header}
-use Rattle.zone_sync.proofs.HonestReplies.{sends_one}
-use Rattle.zone_sync.proofs.laws.whole_transfers_are_two_messages.Goals as goal
-
-pub returns : goal.returns
-returns c = record { asked = request_has_header; sent = sends_one }
