@@ -137,8 +137,7 @@ whole_is_taken message q v room singles page more mode sole one cut =
     let soa = soa_of v (set_at v v.apex type_soa) one in
     let middle = filter (λ r. not (is_apex_soa v r)) (records_of_version v) in
     let text : whole_text v ≡ soa.0 ∷ (middle ++ apex_soa_record v) = ap (λ rs. (rs ++ middle) ++ apex_soa_record v) soa.1.0 in
-    let each = each_page room singles (page ∷ more) cut.filled in
-    (
+    let each = each_page room singles (page ∷ more) cut.filled in (
       first_taken message q page (middle ++ apex_soa_record v) (flat_map (λ p. p) more) soa.0 asked (asks_axfr message q mode sole) soa.1.1 each.0.0 (cut.joined ∙ text),
       all_later message q room more asked each.1,
     )

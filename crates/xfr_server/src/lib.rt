@@ -16,11 +16,11 @@ pub use laws::commits_may_be_pushed;
 pub use providers::{HistoryProvider, XfrData, XfrDataProvider, XfrDataProviderError};
 pub use stored_zones::{StoredZone, current_data};
 pub use transfer::{XfrMiddlewareStream, XfrMiddlewareSvc, XfrMode};
-pub use xfr_replies::TransferReplies;
 pub use xfr_batch::{
     BatchReadyError, CallbackBatcher, Callbacks, PushResult, ReadyMessages, ResourceRecordBatcher,
     XfrRrBatcher, start_batch,
 };
+pub use xfr_replies::TransferReplies;
 pub use xfr_services::{
     CallResult, PostprocessingState, RefuseSvc, Replies, ReplyStream, Request, Service,
     ServiceError, ServiceFeedback, TransportSpecificContext, TsigMiddlewareSvc, TsigStream,

@@ -12,7 +12,7 @@ records-preserved c =
     record {
       zone = ap (λ t. t.zone) c.advance.ensures ∙ c.records.invariant.zone;
       kept = rw (ap (λ t. t.records) c.advance.ensures) (record_more c.in-Some.record c.in-Some.record _ rest c.args.text.now.records c.records.answer c.args.answer.now c.push.new.self _
-      (first_left rest c.in-Some.record c.in-Some.ensures) refl c.records.invariant.kept c.in_ok-push.ensures.adds);
+          (first_left rest c.in-Some.record c.in-Some.ensures) refl c.records.invariant.kept c.in_ok-push.ensures.adds);
     }
 
 pub returns-in_err-push-clause-added : goal.returns-in_err-push-clause-added
