@@ -1,8 +1,8 @@
 -- The entries behind a key: the first of them heads the rest, and stands at its own key.
-use Rattle.std.proofs.Common.{◌≡◌, ℕ, ◌<◌, ◌≤◌, ◌==◌, suc, Bool, true, false, cond, ◌&&◌, not, IsTrue, List, [], ◌∷◌, map, filter, length, refl, sym, ap, ◌∙◌, subst, true≢false, Ordering, Less, Equal, Greater, is_lt, is_gt, is_eq, Option, Some, None, option_map, arith}
-use Rattle.std.specs.List.{find, list_all, AllByRecursion}
+use Rattle.std.proofs.Common.{◌≡◌, ℕ, ◌<◌, suc, Bool, true, false, cond, [], ◌∷◌, length, refl, sym, ap, ◌∙◌, subst, Ordering, Less, Equal, Greater, is_lt, is_eq, Option, Some, None, option_map, arith}
+use Rattle.std.specs.List.{find, AllByRecursion}
 use Rattle.std.specs.Ordering.{ordering_reverse}
-use Rattle.std.specs.Cmp.{tied_itself, first_so, second_so}
+use Rattle.std.specs.Cmp.{tied_itself}
 use Rattle.std.specs.List.Sorted.{IsStrictlySortedBy}
 use Rattle.std.specs.Map.{keys_of}
 use Rattle.std.proofs.lemmas.Map.Keys.{sorted_head, sorted_tail}

@@ -1,11 +1,11 @@
 -- Where a text begins and goes on: the first record that is found of it.
-use Rattle.std.proofs.Common.{◌≡◌, ℕ, ◌<◌, ◌≤◌, ◌+◌, ◌==◌, zero, suc, Bool, true, false, cond, not, ◌&&◌, List, [], ◌∷◌, ◌++◌, map, filter, drop, length, refl, sym, ap, ◌∙◌, subst, true≢false, Option, Some, None, is_some, option_map, eqb-true, ne_eqb, arith}
+use Rattle.std.proofs.Common.{◌≡◌, ℕ, ◌<◌, ◌≤◌, ◌+◌, ◌==◌, zero, suc, Bool, true, false, cond, not, List, [], ◌∷◌, ◌++◌, filter, drop, length, refl, sym, ap, ◌∙◌, subst, true≢false, Option, Some, None, is_some, eqb-true, arith}
 use Rattle.std.specs.Prelude.{flat_map, slice_get}
 use Rattle.std.specs.Option.{option_map_or}
-use Rattle.std.proofs.lemmas.List.{append_assoc, append-nil, length-map, drop-append-le, drop-drop}
+use Rattle.std.proofs.lemmas.List.{append_assoc, append-nil, length-map}
 use Rattle.dns_name.specs.Names.{Name, fold}
 use Rattle.dns_name.specs.Codes.{type_soa}
-use Rattle.dns_name.specs.Records.{Field, Record}
+use Rattle.dns_name.specs.Records.{Record}
 use Rattle.zone_model.specs.Version.{RecordSet, Key, Sets, Version, set_in}
 use Rattle.zone_model.specs.Answer.{records_of, records_of_option, apex_soa_record}
 use Rattle.zone_model.specs.Walk.{Stop, shown_owner}
@@ -13,13 +13,13 @@ use Rattle.zone_model.specs.Difference.{Difference}
 use Rattle.zone_model.specs.Offer.{whole_text, changes_text, is_apex_soa, side_soas, side_records}
 use Rattle.zone_model.specs.TransferText.{is_plain}
 use Rattle.xfr_text.specs.Sides.{behind, shown_records, middle_of, side_text, sides_of, sides_from, first_side}
-use Rattle.xfr_text.specs.Places.{Begins, IsPlace, place_records, sides_text, text_behind, text_from, text_left}
+use Rattle.xfr_text.specs.Places.{Begins, place_records, sides_text, text_behind, text_from}
 use Rattle.xfr_text.specs.Steps.{FindsFrom, Heads, HeadsAt, SkipsSoas, SkipsApexSoa, is_soa_stop, soa_place}
 use Rattle.xfr_text.specs.declared.place.Side.{Side}
 use Rattle.xfr_text.specs.declared.place.Part.{Part}
 use Rattle.xfr_text.specs.declared.place.Part.TheVariants.{BeforeZone, Zone, BeforeChanges, SideSoas, SideSets, Last}
 use Rattle.xfr_text.specs.declared.place.Place.{Place}
-use Rattle.xfr_text.proofs.Texts.{with_data, set_passes, set_fails, whole_by_parts, changes_by_parts}
+use Rattle.xfr_text.proofs.Texts.{set_passes, set_fails, whole_by_parts, changes_by_parts}
 use Rattle.xfr_text.proofs.Stops.{shown_set, shown_behind}
 
 -- ---- lists

@@ -1,5 +1,5 @@
 -- What is read of differences, sets and places.
-use Rattle.std.proofs.Common.{◌≡◌, ℕ, ◌<◌, ◌+◌, ◌==◌, zero, suc, Bool, true, false, not, ◌&&◌, All, List, [], ◌∷◌, ◌++◌, map, drop, length, refl, sym, ap, ◌∙◌, subst, true≢false, Bor, Option, Some, None, is_some, option_map, eqb-true, arith}
+use Rattle.std.proofs.Common.{◌≡◌, ℕ, ◌<◌, ◌+◌, ◌==◌, zero, suc, Bool, true, false, not, All, List, [], ◌∷◌, ◌++◌, map, drop, length, refl, sym, ap, ◌∙◌, subst, true≢false, Bor, Option, Some, None, is_some, option_map, arith}
 use Rattle.std.specs.Prelude.{slice_get, find}
 use Rattle.std.specs.Ordering.{is_lt}
 use Rattle.std.specs.Option.{option_map_or}

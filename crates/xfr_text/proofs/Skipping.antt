@@ -1,5 +1,5 @@
 -- Sets that a loop passes over.
-use Rattle.std.proofs.Common.{◌≡◌, ℕ, ◌<◌, ◌==◌, Bool, true, false, List, [], refl, ap, ◌∙◌, Option, Some, None}
+use Rattle.std.proofs.Common.{◌≡◌, ℕ, ◌<◌, ◌==◌, true, false, refl, ◌∙◌, Option, Some, None}
 use Rattle.dns_name.specs.Names.{fold}
 use Rattle.dns_name.specs.Codes.{type_soa}
 use Rattle.zone_model.specs.Version.{Key, Sets, Version}

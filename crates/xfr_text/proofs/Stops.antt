@@ -1,17 +1,17 @@
 -- The stops of a walk as the first of what is behind a key.
-use Rattle.std.proofs.Common.{◌≡◌, ℕ, ◌<◌, ◌≤◌, Bool, true, false, cond, if◌then◌else◌, List, [], ◌∷◌, map, length, refl, sym, ap, ◌∙◌, subst, Ordering, Less, Equal, Greater, is_lt, is_gt, is_eq, Option, Some, None, option_map, arith}
+use Rattle.std.proofs.Common.{◌≡◌, ℕ, Bool, true, false, cond, if◌then◌else◌, [], ◌∷◌, map, refl, sym, ap, ◌∙◌, subst, Ordering, Less, Equal, Greater, is_lt, is_gt, is_eq, Option, Some, option_map}
 use Rattle.std.specs.List.{find, AllByRecursion}
 use Rattle.std.specs.Ordering.{ordering_reverse, ordering_then, nat_cmp}
 use Rattle.std.specs.Map.{lookup}
 use Rattle.dns_name.specs.Names.{Name, fold, same_name, spelling_cmp}
 use Rattle.zone_model.specs.Version.{RecordSet, Key, Sets, Version, IsValid, key_cmp, set_in}
-use Rattle.zone_model.specs.Walk.{Stop, shown_owner, walk, next_stop}
-use Rattle.zone_model.proofs.Folded.{IsFolded, fold-fold, key_total, same_name-Decides, same_name_alike}
+use Rattle.zone_model.specs.Walk.{Stop, shown_owner, next_stop}
+use Rattle.zone_model.proofs.Folded.{fold-fold, key_total, same_name-Decides}
 use Rattle.zone_model.proofs.Valid.{Kept, kept, all_entries}
 use Rattle.zone_versions.specs.Stops.{stop_of, first_of, first_stop}
 use Rattle.xfr_text.specs.Sides.{behind}
 use Rattle.xfr_text.specs.Steps.{Heads, HeadsAt}
-use Rattle.xfr_text.proofs.Behind.{Sorted, IsRest, HasData, all_rest, behind_rest, each_behind, first_entry, found_first, heads_first}
+use Rattle.xfr_text.proofs.Behind.{IsRest, HasData, all_rest, behind_rest, each_behind, first_entry, heads_first}
 
 -- ---- an owner as it is shown
 

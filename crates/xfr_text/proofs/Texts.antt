@@ -1,14 +1,14 @@
 -- The records of some sets from the first one on.
-use Rattle.std.proofs.Common.{◌≡◌, ℕ, Bool, true, false, cond, not, List, [], ◌∷◌, ◌++◌, map, filter, length, refl, sym, ap, ◌∙◌, Option, Some, None}
+use Rattle.std.proofs.Common.{◌≡◌, ℕ, Bool, true, false, not, List, [], ◌∷◌, ◌++◌, map, filter, refl, sym, ap, ◌∙◌}
 use Rattle.std.specs.Prelude.{flat_map}
 use Rattle.std.proofs.lemmas.List.{append_assoc}
 use Rattle.std.proofs.lemmas.List.Elements.{filter-append}
 use Rattle.std.proofs.lemmas.List.Folds.{flat_map-map}
 use Rattle.dns_name.specs.Names.{Name}
 use Rattle.dns_name.specs.Records.{Field, Record}
-use Rattle.zone_model.specs.Version.{RecordSet, Key, Sets, Version}
+use Rattle.zone_model.specs.Version.{RecordSet, Version}
 use Rattle.zone_model.specs.Answer.{records_of, apex_soa_record}
-use Rattle.zone_model.specs.Walk.{Stop, shown_owner, walk, records_of_version}
+use Rattle.zone_model.specs.Walk.{Stop, records_of_version}
 use Rattle.zone_model.specs.Difference.{Difference}
 use Rattle.zone_model.specs.Offer.{whole_text, changes_text, difference_text, is_apex_soa, side_soas, side_records}
 use Rattle.xfr_text.specs.Sides.{shown_records, middle_of, side_text, sides_of}

@@ -6,9 +6,8 @@ use Rattle.zone_model.specs.Version.{RecordSet, Sets, Version, set_in, set_at}
 use Rattle.zone_model.specs.Answer.{first_only, records_of_option, apex_soa_record}
 use Rattle.zone_model.specs.Commits.{Commit}
 use Rattle.zone_model.specs.Difference.{Difference}
-use Rattle.zone_model.specs.Offer.{difference_text, side_records}
+use Rattle.zone_model.specs.Offer.{side_records}
 use Rattle.xfr_text.specs.Sides.{behind, middle_of, side_text, sides_of, sides_from, first_side}
-use Rattle.xfr_text.specs.declared.place.Side.{Side}
 use Rattle.xfr_text.specs.declared.place.Part.{Part}
 use Rattle.xfr_text.specs.declared.place.Part.TheVariants.{BeforeZone, Zone, BeforeChanges, SideSoas, SideSets, Last}
 use Rattle.xfr_text.specs.declared.place.Place.{Place}

@@ -1,5 +1,5 @@
 -- What the steps from place to place find.
-use Rattle.std.specs.Prelude.{◌≡◌, ℕ, ◌++◌, ◌<◌, Bool, false, ◌&&◌, ◌==◌, if◌then◌else◌, List, [], ◌∷◌, length, Option, Some, None}
+use Rattle.std.specs.Prelude.{◌≡◌, ◌++◌, ◌<◌, Bool, false, ◌&&◌, ◌==◌, if◌then◌else◌, List, [], ◌∷◌, length, Option, Some, None}
 use Rattle.dns_name.specs.Names.{fold, same_name}
 use Rattle.dns_name.specs.Codes.{type_soa}
 use Rattle.dns_name.specs.Records.{Record}

@@ -3,7 +3,6 @@ ghost use Rattle.std.specs.Prelude.{◌≡◌, ◌++◌};
 ghost use Rattle.dns_name.specs.Names.{fold};
 ghost use Rattle.zone_model.specs.Version.{Sets};
 ghost use Rattle.zone_model.specs.Answer.{apex_soa_record};
-ghost use Rattle.zone_model.specs.Difference.{Difference};
 ghost use Rattle.xfr_text.specs.Places.{Begins};
 ghost use Rattle.xfr_text.specs.Sides.{behind, middle_of};
 ghost use Rattle.xfr_text.specs.Steps.{HeadsAt, SkipsApexSoa, is_soa_stop, soa_place};

@@ -1,8 +1,6 @@
 // From place to place of a text.
-ghost use Rattle.std.specs.Prelude.{◌≡◌, ◌++◌, ◌<◌, ◌+◌, ◌^◌, drop, length, map, Some};
+ghost use Rattle.std.specs.Prelude.{◌≡◌, ◌++◌, ◌<◌, ◌+◌, drop, length, map, Some};
 ghost use Rattle.std.specs.Arc.{arc_value};
-ghost use Rattle.zone_model.specs.Answer.{apex_soa_record};
-ghost use Rattle.zone_model.specs.Difference.{Difference};
 ghost use Rattle.zone_model.specs.Offer.{changes_text, side_records, whole_text};
 ghost use Rattle.xfr_text.specs.Places.{Begins, IsPlace, place_records, sides_text, text_behind, text_from};
 ghost use Rattle.xfr_text.specs.Sides.{behind, first_side, sides_from};

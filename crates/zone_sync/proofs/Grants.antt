@@ -35,17 +35,17 @@ module _ (a : Asking) (at : ℕ) (c : Bool) (v : Version) (f : Fits a at c v) wh
   near : abs_diff a.at at ≤ 300
   near = let n = f.near in omega (arith, n)
 
-  accepted : (keys : Keys) → keys (fold a.key.name) a.key.algorithm ≡ Some a.key → verdict keys at (asked_octets a) ≡ Accepted a.key
+  pub accepted : (keys : Keys) → keys (fold a.key.name) a.key.algorithm ≡ Some a.key → verdict keys at (asked_octets a) ≡ Accepted a.key
   accepted keys known =
       ap (verdict keys at) (sym (octets_are a))
       ∙ request_accepted a.key keys (request_message a) a.at at 300 f.is_key f.asked_early (lit< tt) near
       (requests.can_sign a f.is_key f.asked_early (apex_is_name a at c v f) (small_class a at c v f)) known
 
-  one_apex_soa : has_one_apex_soa v ≡ true
+  pub one_apex_soa : has_one_apex_soa v ≡ true
   one_apex_soa = (and_parts (has_one_apex_soa v) (sum_by (λ (e : Key × RecordSet). if e.0.1 == type_soa then length e.1.items else 0) v.sets == 1) f.published.one_soa).0
 
 -- such a primary grants the request
-pub granted : {K : Type 0} (the_key : K → TsigKey) (keys : Keys) (told : List ℕ → Option K → Option ℕ → Result Offer XfrDataProviderError) (a : Asking) (at : ℕ) (offer : Offer)
+abbrev pub granted : {K : Type 0} (the_key : K → TsigKey) (keys : Keys) (told : List ℕ → Option K → Option ℕ → Result Offer XfrDataProviderError) (a : Asking) (at : ℕ) (offer : Offer)
     → Offers the_key keys told a offer → Fits a at offer.compatibility offer.version → IsGrantedAxfr the_key keys told (request_at (asked_octets a) at) a.key offer
 granted the_key keys told a at offer o f =
     let name = apex_is_name a at offer.compatibility offer.version f in

@@ -16,7 +16,7 @@ use Rattle.tsig_port.specs.Checked.{answer_fault, taken_message, prior_mac}
 use Rattle.tsig_port.specs.Signing.{CanSign}
 use Rattle.tsig_port.proofs.SignedAnswers as answers
 use Rattle.zone_model.specs.Version.{Version}
-use Rattle.zone_model.specs.Offer.{whole_text, room_of, IsCutInto}
+use Rattle.zone_model.specs.Offer.{whole_text, room_of, are_single, IsCutInto}
 use Rattle.zone_model.proofs.Valid.{one_soa}
 use Rattle.zone_model.proofs.WholeText.{middle_of, soa_of, whole_is}
 use Rattle.xfr_batch.specs.XfrBatches.{axfr_header}
@@ -42,6 +42,23 @@ use Rattle.zone_sync.proofs.HonestRequests as requests
 -- a text that one message has room for is one page
 pub one_cut : (room : ℕ) (text : List Record) → not (length text == 0) ≡ true → room_of text ≤ room → IsCutInto room false text (text ∷ [])
 one_cut room text full fits = let within : nat_le (room_of text) room ≡ true = le-leb _ _ fits in record { joined = append-nil text; filled = rw (full, within) refl }
+
+-- with one record each, there are as many pages as records
+abbrev pub singles_of : List Record → List (List Record)
+singles_of text = map (λ (r : Record). r ∷ []) text
+
+singles_join : (text : List Record) → flat_map (λ page. page) (singles_of text) ≡ text
+singles_join [] = refl
+singles_join (r ∷ more) = ap (λ l. r ∷ l) (singles_join more)
+
+singles_filled : (room : ℕ) (text : List Record) → AllByRecursion (λ r. length (record_wire r) ≤ room) text → are_single room (singles_of text) ≡ true
+singles_filled room [] h = refl
+singles_filled room (r ∷ more) h =
+    let within : nat_le (room_of (r ∷ [])) room ≡ true = le-leb _ _ (omega (arith, sum_by-cons (λ r. length (record_wire r)) r [], h.0)) in
+    rw (within, singles_filled room more h.1) refl
+
+pub singles_cut : (room : ℕ) (text : List Record) → AllByRecursion (λ r. length (record_wire r) ≤ room) text → IsCutInto room true text (singles_of text)
+singles_cut room text h = record { joined = singles_join text; filled = singles_filled room text h }
 
 -- what holds of all records of a text holds of those of each page
 all_front : (P : Record → Type 0) (xs ys : List Record) → AllByRecursion P (xs ++ ys) → AllByRecursion P xs

@@ -1,7 +1,6 @@
 use Rattle.std.proofs.Common.{ℕ, not, ◌==◌, length, sym, ap, ◌∙◌}
 use Rattle.dns_name.specs.Names.{Name, fold}
 use Rattle.dns_name.specs.Codes.{type_soa}
-use Rattle.zone_model.specs.Version.{Key}
 use Rattle.zone_values.specs.TypedSets.{TypedSet}
 use Rattle.xfr_text.proofs.Reading.{soa_count, no_soas}
 use Rattle.xfr_text.proofs.of_difference.has_soas.Goals as goal

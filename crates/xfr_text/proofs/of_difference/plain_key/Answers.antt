@@ -1,7 +1,7 @@
 use Rattle.std.proofs.Common.{Bor, Option, subst, sym, ◌∙◌}
 use Rattle.std.specs.Prelude.{option_copied}
-use Rattle.zone_model.specs.Version.{Key, Sets}
-use Rattle.xfr_text.specs.Steps.{Heads, SkipsSoas}
+use Rattle.zone_model.specs.Version.{Key}
+use Rattle.xfr_text.specs.Steps.{SkipsSoas}
 use Rattle.xfr_text.proofs.Skipping.{Passed, passed_none, passed_more, passed_soas, passed_all}
 use Rattle.xfr_text.proofs.of_difference.plain_key.Goals as goal
 

@@ -1,4 +1,4 @@
-use Rattle.std.proofs.Common.{◌≡◌, ◌++◌, Some, sym, ap, ◌∙◌, subst}
+use Rattle.std.proofs.Common.{◌≡◌, ◌++◌, Some, sym, ◌∙◌, subst}
 use Rattle.dns_name.specs.Codes.{type_soa}
 use Rattle.xfr_text.specs.Sides.{side_text}
 use Rattle.xfr_text.specs.Places.{Begins, sides_text}

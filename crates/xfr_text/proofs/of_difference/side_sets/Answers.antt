@@ -1,7 +1,6 @@
-use Rattle.std.proofs.Common.{sym, ap, ◌∙◌}
+use Rattle.std.proofs.Common.{ap, ◌∙◌}
 use Rattle.std.specs.Arc.{arc_value}
 use Rattle.zone_model.specs.Difference.{Difference}
-use Rattle.zone_model.specs.Version.{Sets}
 use Rattle.xfr_text.proofs.Reading.{got, side_added, side_removed}
 use Rattle.xfr_text.proofs.of_difference.side_sets.Goals as goal
 

@@ -1,6 +1,6 @@
-use Rattle.std.proofs.Common.{◌≡◌, ◌<◌, Option, Some, None, sym, ap, ◌∙◌, subst}
+use Rattle.std.proofs.Common.{◌<◌, Option, sym, ◌∙◌, subst}
 use Rattle.zone_model.specs.Walk.{Stop}
-use Rattle.xfr_text.proofs.Skipping.{PassedAt, left_after, fewer_after, passed_at_none, passed_at_more, passed_apex_soa, passed_at_all}
+use Rattle.xfr_text.proofs.Skipping.{PassedAt, left_after, fewer_after, passed_at_more, passed_apex_soa, passed_at_all}
 use Rattle.xfr_text.proofs.Reading.{heads_next}
 use Rattle.xfr_text.proofs.of_zone.other_stop.Goals as goal
 

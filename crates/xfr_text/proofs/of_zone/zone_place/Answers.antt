@@ -1,4 +1,4 @@
-use Rattle.std.proofs.Common.{◌≡◌, ◌++◌, Some, sym, ap, ◌∙◌, subst}
+use Rattle.std.proofs.Common.{◌≡◌, ◌++◌, Some, sym, ◌∙◌, subst}
 use Rattle.zone_model.specs.Answer.{apex_soa_record}
 use Rattle.xfr_text.specs.Sides.{middle_of}
 use Rattle.xfr_text.specs.Places.{Begins}

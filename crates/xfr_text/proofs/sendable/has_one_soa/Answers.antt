@@ -4,7 +4,6 @@ use Rattle.dns_name.specs.Names.{Name, fold}
 use Rattle.dns_name.specs.Codes.{type_soa}
 use Rattle.dns_name.specs.Records.{Field}
 use Rattle.dns_rdata.specs.ZoneData.{data_fields}
-use Rattle.zone_model.specs.Version.{Key}
 use Rattle.zone_values.specs.TypedSets.{TypedSet}
 use Rattle.xfr_text.proofs.Reading.{soa_count, no_soas}
 use Rattle.xfr_text.proofs.sendable.has_one_soa.Goals as goal

@@ -1,6 +1,6 @@
-use Rattle.std.proofs.Common.{◌≡◌, ℕ, ◌<◌, ◌≤◌, ◌+◌, Some, length, map, drop, sym, ap, ◌∙◌, subst, arith}
+use Rattle.std.proofs.Common.{Some, map, drop, sym, subst, arith}
 use Rattle.std.specs.Arc.{arc_value}
-use Rattle.xfr_text.specs.Places.{Begins, place_records, text_from}
+use Rattle.xfr_text.specs.Places.{Begins, text_from}
 use Rattle.xfr_text.specs.declared.place.Place.{Place}
 use Rattle.xfr_text.proofs.Placing.{next_in_set, next_behind_set}
 use Rattle.xfr_text.proofs.steps.next_place.Goals as goal

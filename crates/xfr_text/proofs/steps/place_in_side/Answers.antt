@@ -2,7 +2,7 @@ use Rattle.std.proofs.Common.{List, map, drop, Some, refl}
 use Rattle.std.specs.Arc.{arc_value}
 use Rattle.zone_model.specs.Version.{Sets}
 use Rattle.zone_model.specs.Offer.{side_records}
-use Rattle.xfr_text.specs.Sides.{behind, sides_from}
+use Rattle.xfr_text.specs.Sides.{sides_from}
 use Rattle.xfr_text.proofs.Placing.{first_of_sides, no_sides, rest_at_place, rest_empty, rest_missing}
 use Rattle.xfr_text.proofs.steps.place_in_side.Goals as goal
 

@@ -1,4 +1,3 @@
-use Rattle.std.proofs.Common.{[]}
 use Rattle.xfr_text.proofs.text.TransferText.whole.Goals as goal
 
 pub invariant_of-result : goal.invariant_of-result
