@@ -20,7 +20,7 @@ use Rattle.xfr_replies.proofs.Cutting.{all_behind, sendable_behind}
 use Rattle.xfr_replies.proofs.Pulling.{one_sent}
 use Rattle.xfr_server.specs.Items.{Sending, sent_by, feedback_item}
 use Rattle.xfr_server.specs.Items.Sending.{Given}
-use Rattle.xfr_server.specs.Transfers.{Choice, chosen, is_udp, reply_limit, SendsAnswer, SendsChoice, asked_serial, asks_for_apex}
+use Rattle.xfr_server.specs.Transfers.{Choice, chosen, reply_limit, SendsAnswer, SendsChoice, asked_serial, asks_for_apex}
 use Rattle.xfr_server.specs.Transfers.Choice.{Text}
 use Rattle.xfr_server.specs.Signing.{Signer, can_be_signed, reply_tsig, signed_reply, signed_items}
 use Rattle.xfr_server.specs.Serving.{SendsIn, SendsTransfer}

@@ -10,7 +10,7 @@ use Rattle.dns_wire.specs.Wire.{Building}
 use Rattle.dns_wire.specs.Builds.{Adds}
 use Rattle.dns_wire.specs.declared.builder.PushError.{PushError}
 use Rattle.zone_model.specs.Version.{RecordSet, Version, set_at}
-use Rattle.zone_model.specs.Answer.{apex_soa_record, records_of}
+use Rattle.zone_model.specs.Answer.{apex_soa_record}
 use Rattle.zone_values.specs.TypedSets.{TypedSet}
 use Rattle.zone_sets.specs.TypedEntries.{typed}
 use Rattle.xfr_server.specs.TransferMessage.{AddsAnswers}

@@ -1,5 +1,5 @@
 -- What the transfer service sends in answer to a request.
-use Rattle.std.specs.Prelude.{◌≡◌, ℕ, List, Option, Some, None, Result}
+use Rattle.std.specs.Prelude.{ℕ, List, Option, Some, None, Result}
 use Rattle.zone_model.specs.Offer.{Offer}
 use Rattle.xfr_server.specs.Items.{Sending}
 use Rattle.xfr_server.specs.Requests.{with_metadata}
