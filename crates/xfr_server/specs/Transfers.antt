@@ -93,10 +93,11 @@ rcode_of Memory = servfail
 abbrev pub has_changes : Offer → Bool
 has_changes offer = not (length offer.differences == 0) && list_all (is_sendable offer.version) offer.differences
 
--- the differences, or else the whole text, which alone heeds the mode of one record a message (RFC 1995, 4; RFC 5936, 7)
-abbrev pub text_of_offer : Bool → Offer → Choice
-text_of_offer true offer = Text offer.version false (changes_text offer.version offer.differences)
-text_of_offer false offer = Text offer.version offer.compatibility (whole_text offer.version)
+-- the differences, or else the whole text, in messages of one record each where the provider wants that (RFC 5936, 7): but not to one who asked for
+-- differences, who takes an SOA alone for a request to ask again (RFC 1995, 2 and 4)
+abbrev pub text_of_offer : Bool → Bool → Offer → Choice
+text_of_offer ixfr true offer = Text offer.version false (changes_text offer.version offer.differences)
+text_of_offer ixfr false offer = Text offer.version (if ixfr then false else offer.compatibility) (whole_text offer.version)
 
 -- what is sent of what the provider offers: SERVFAIL for a name that isn't the apex, NOTIMP for AXFR by UDP, SERVFAIL
 -- without exactly one apex SOA, the SOA to one who has caught up, else a text
@@ -106,7 +107,7 @@ choice_of mode udp question asked offer =
     else if not (is_ixfr mode) && udp then Refuse notimp
     else if not (has_one_apex_soa offer.version) then Refuse servfail
     else if is_ixfr mode && is_caught_up offer.version asked then SoaAlone offer.version
-    else text_of_offer (is_ixfr mode && has_changes offer) offer
+    else text_of_offer (is_ixfr mode) (is_ixfr mode && has_changes offer) offer
 
 abbrev pub choice_by : XfrMode → Bool → Option Question → Option ℕ → Result Offer XfrDataProviderError → Choice
 choice_by mode udp question asked (Err e) = Refuse (rcode_of e)

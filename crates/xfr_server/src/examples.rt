@@ -32,11 +32,11 @@ pub fn choice_row()
     ensures whole { transfers.choice_of Axfr false (Some (replies.asked type_axfr)) (Some 1) (offer_alone rows.history_1) ≡ Text rows.history_1 false (whole_text rows.history_1) }
 {}
 
-/// Which text is sent of an offer with differences: these to one who asks for them where each has its two SOA records, never one record a
-/// message; else the whole text, with one record a message where the provider wants it.
+/// Which text is sent of an offer with differences: these to one who asks for them where each has its two SOA records; else the whole text,
+/// with one record a message where the provider wants it and the whole zone was asked for.
 pub fn text_row()
     ensures changes { transfers.choice_of Ixfr false (Some (replies.asked type_ixfr)) (Some 1) (offer_of rows.history_3 rows.history_differences true 1) ≡ Text rows.history_3 false rows.history_text }
-    ensures none { transfers.choice_of Ixfr false (Some (replies.asked type_ixfr)) (Some 0) (offer_of rows.history_3 rows.history_differences true 0) ≡ Text rows.history_3 true (whole_text rows.history_3) }
+    ensures none { transfers.choice_of Ixfr false (Some (replies.asked type_ixfr)) (Some 0) (offer_of rows.history_3 rows.history_differences true 0) ≡ Text rows.history_3 false (whole_text rows.history_3) }
     ensures full { transfers.choice_of Axfr false (Some (replies.asked type_axfr)) (Some 1) (offer_of rows.history_3 rows.history_differences true 1) ≡ Text rows.history_3 true (whole_text rows.history_3) }
     ensures unsendable { transfers.choice_of Ixfr false (Some (replies.asked type_ixfr)) (Some 0) (offer_of rows.history_3 (difference rows.empty_zone rows.history_3 ∷ []) false 0) ≡ Text rows.history_3 false (whole_text rows.history_3) }
 {}

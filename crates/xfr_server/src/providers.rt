@@ -45,7 +45,7 @@ impl Model for XfrData {
 impl XfrData {
     /// This version, the differences that lead to it, oldest first (RFC 1995, 4), and whether each message is to hold one record (RFC 5936, 7).
     /// The transfer service sends the differences in answer to an incremental request where each has its two SOA records, and else the whole
-    /// version, which alone heeds that mode.
+    /// version; it heeds that mode where the whole zone was asked for.
     pub fn new(
         zone: ReadZone,
         diffs: Vec<Arc<InMemoryZoneDiff>>,
@@ -277,7 +277,7 @@ impl HistoryProvider {
         Ok(())
     }
 
-    /// Whether each message is to hold one record (RFC 5936, 7). The transfer service heeds it where it sends the whole version.
+    /// Whether each message is to hold one record (RFC 5936, 7). The transfer service heeds it where the whole zone was asked for.
     pub fn set_compatibility(&mut self, compatibility_mode: bool)
         ensures { self.new ≡ record self.old { compatibility = compatibility_mode } }
     {

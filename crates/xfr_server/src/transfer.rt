@@ -320,7 +320,7 @@ fn reply_with(
         return Reply::Short(Short::SoaAlone(found.into_zone()));
     }
     let with_changes = mode.is_ixfr() && has_changes(&found);
-    text_reply(alloc, with_changes, found)
+    text_reply(alloc, mode.is_ixfr(), with_changes, found)
 }
 
 /// Whether the differences can be sent: there are some, and each has its two SOA records (RFC 1995, 4).
@@ -330,16 +330,17 @@ fn has_changes(found: &XfrData) -> bool
     !found.diffs().is_empty() && are_sendable(found.zone(), found.diffs())
 }
 
-/// The differences, or else the whole zone, of which alone each message may have to hold one record.
-fn text_reply(alloc: Global, with_changes: bool, found: XfrData) -> Reply
-    ensures { choice_shown result ≡ transfers.text_of_offer with_changes found }
+/// The differences, or else the whole zone, of which each message may have to hold one record where the whole zone was asked for.
+fn text_reply(alloc: Global, is_ixfr: bool, with_changes: bool, found: XfrData) -> Reply
+    ensures { choice_shown result ≡ transfers.text_of_offer is_ixfr with_changes found }
 {
     let (zone, diffs, compatibility_mode) = found.into_parts();
     if with_changes {
         return Reply::Text(TransferText::changes(zone, diffs), false);
     }
     drop(diffs);
-    Reply::Text(TransferText::whole(alloc, zone), compatibility_mode)
+    let singles = if is_ixfr { false } else { compatibility_mode };
+    Reply::Text(TransferText::whole(alloc, zone), singles)
 }
 
 /// The rcode that tells why a provider gives nothing (RFC 5936, 2.2.1).
