@@ -1,6 +1,6 @@
 -- What the service that signs sends, item by item.
 use Rattle.std.proofs.Common.{◌≡◌, ℕ, List, [], ◌∷◌, Option, Some, None, refl, sym, ap, ◌∙◌}
-use Rattle.std.specs.Prelude.{◌≢◌, Result, Ok, Err, option_map}
+use Rattle.std.specs.Prelude.{◌≢◌, Ok, Err, option_map}
 use Rattle.dns_name.specs.Names.{fold}
 use Rattle.tsig_port.specs.Tsig.{TsigKey, mac_in}
 use Rattle.tsig_port.specs.ServerCheck.{Keys}

@@ -4,3 +4,4 @@ pub mod Replying
 pub mod Signing
 pub mod SignedStreams
 pub mod SignedServing
+pub mod Failing

@@ -1,7 +1,9 @@
 -- What the service that checks and signs sends in answer to a request.
-use Rattle.std.specs.Prelude.{◌≡◌, ℕ, ◌+◌, min, List, Option, None, option_map}
-use Rattle.dns_name.specs.Names.{fold}
+use Rattle.std.specs.Prelude.{◌≡◌, ℕ, ◌+◌, min, List, Option, Some, None, option_map}
+use Rattle.dns_name.specs.Names.{Name, fold}
 use Rattle.tsig_port.specs.Tsig.{TsigKey, mac_in, compose_len}
+use Rattle.tsig_keys.specs.Keys.{HasNameAnd}
+use Rattle.tsig_keys.specs.declared.algorithms.Algorithm.{Algorithm}
 use Rattle.tsig_port.specs.Checked.{taken_message}
 use Rattle.tsig_port.specs.ServerCheck.{Keys, Verdict, verdict, reply_to}
 use Rattle.tsig_port.specs.ServerCheck.Verdict.{NoTsig, Accepted, Refused, BadTime}
@@ -52,3 +54,12 @@ SendsBy the_key keys Next r sent (BadTime key) = sent ≡ refusal_sends r (BadTi
 -- unsigned requests are handed on, accepted ones too and their replies signed, and a refused one is answered with its error
 abbrev pub SendsChecked : {M K : Type 0} → (K → TsigKey) → Keys → (Request (Option K) → Option (List Sending) → Type 0) → Request M → Option (List Sending) → Type 0
 SendsChecked the_key keys Next r sent = SendsBy the_key keys Next r sent (verdict keys r.at r.message)
+
+-- each key of a store has the name and the algorithm that it is found by, as every `KeyStore` says of those that it hands out
+abbrev pub AreNamed : Keys → Type 0
+AreNamed keys = (name : Name) (algorithm : Algorithm) (key : TsigKey) → keys name algorithm ≡ Some key → HasNameAnd key name algorithm
+
+-- an accepted request is handed on with the key that accepted it
+abbrev pub KeysGoOn : {K : Type 0} → (K → TsigKey) → Keys → Type 0
+KeysGoOn the_key keys = AreNamed keys → (now : ℕ) (message : List ℕ) (key : TsigKey) (known : Option _) → verdict keys now message ≡ Accepted key
+    → option_map the_key known ≡ keys (fold key.name) key.algorithm → option_map the_key known ≡ Some key

@@ -1,5 +1,5 @@
 // Worked rows of which replies are signed, proved by computation.
-ghost use Rattle.std.specs.Prelude.{map, ◌≡◌, [], ◌∷◌, true, false, Some, None};
+ghost use Rattle.std.specs.Prelude.{map, ◌≡◌, [], ◌∷◌, ℕ, List, true, false, Some, None};
 ghost use Rattle.xfr_services.specs.Signing as signed;
 ghost use Rattle.xfr_services.specs.declared.services.ServiceFeedback.TheVariants.{BeginTransaction, EndTransaction};
 ghost use Rattle.xfr_services.specs.declared.signing.Signing.TheVariants.{First, All, Done};
@@ -11,4 +11,12 @@ pub fn signing_row()
     ensures ended { signed.begun All (Some EndTransaction) ≡ All }
     ensures behind { map signed.behind (First ∷ All ∷ Done ∷ []) ≡ Done ∷ All ∷ Done ∷ [] }
     ensures due { map signed.is_due (First ∷ All ∷ Done ∷ []) ≡ true ∷ true ∷ false ∷ [] }
+{}
+
+/// What a reply is signed behind: a first one behind the request alone, a later one behind the MAC of the one before it, also where one had no
+/// room and none came in its place (RFC 8945, 5.3.1).
+pub fn sequence_row()
+    ensures second { (s : signed.Signer) (m : List ℕ) → (signed.signed_step s All None None (Some m)).prior ≡ Some (signed.reply_tsig s None m).mac }
+    ensures third { (s : signed.Signer) (prior m : List ℕ) → (signed.signed_step s All (Some prior) None (Some m)).prior ≡ Some (signed.reply_tsig s (Some prior) m).mac }
+    ensures passed_over { (s : signed.Signer) (prior : List ℕ) → (signed.signed_step s All (Some prior) None None).prior ≡ Some prior }
 {}

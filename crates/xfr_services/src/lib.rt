@@ -6,6 +6,7 @@
 #![tactic(auto)]
 
 mod examples;
+mod laws;
 pub mod replies;
 pub mod requests;
 pub mod services;

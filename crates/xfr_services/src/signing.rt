@@ -1,5 +1,5 @@
 // The service that checks the signatures of requests and signs the replies (RFC 8945, 5.2 and 5.3).
-ghost use Rattle.std.specs.Prelude.{◌≡◌, ℕ, List, [], Option, Some};
+ghost use Rattle.std.specs.Prelude.{◌≡◌, ℕ, List, [], ◌+◌, min, ◌++◌, take, drop, Option, Some};
 ghost use Rattle.tsig_port.specs.Tsig.{mac_in};
 ghost use Rattle.tsig_port.specs.Checked.{taken_message};
 ghost use Rattle.tsig_port.specs.States.{ServerStands};
@@ -252,6 +252,7 @@ where
 
     ghost Sends = { λ s. SendsChecked KS.Key.the_key (KS.key_of s.1) (S.Sends s.0) };
 
+    #[tactic(auto, using(crate::proofs::Received::came))]
     fn call<R>(
         &self,
         rt: &R,
@@ -260,16 +261,19 @@ where
     ) -> Result<TsigStream<S::Stream, KS::Key>, ServiceError>
         ensures { Calls (SendsChecked KS.Key.the_key (KS.key_of self.now.1) (S.Sends self.now.0) request) (SignedLeft S.Stream.LeftOf KS.Key.the_key) result }
     {
-        let received = copy_of(alloc, &request.message)?;
         let mut request = request;
+        let header = header_octets(&request.message);
         match ServerSequence::request(&self.keys, &mut request.message, request.at) {
             Ok(None) => {
                 let request = request.with_new_metadata(None);
                 Ok(TsigStream::Unsigned(self.next.call(rt, alloc, request)?))
             }
-            Ok(Some(sequence)) => self.call_signed(rt, alloc, request, received, sequence),
+            Ok(Some(sequence)) => {
+                let received = as_it_came(alloc, &header, &request.message)?;
+                self.call_signed(rt, alloc, request, received, sequence)
+            }
             Err(refusal) => {
-                let reply = replies::refusal_reply(alloc, refusal, &received)?;
+                let reply = replies::refusal_reply(alloc, refusal, &request.message)?;
                 Ok(TsigStream::Refused(Some(reply)))
             }
         }
@@ -298,8 +302,7 @@ where
         let key = sequence.key();
         let known = self.keys.get_key(key.name(), key.algorithm());
         let reserved = key.compose_len();
-        let mut request = request.with_new_metadata(known);
-        request.reserve_bytes(reserved);
+        let request = handed_on(request, known, reserved);
         let state = PostprocessingState {
             alloc,
             sequence,
@@ -311,13 +314,41 @@ where
     }
 }
 
-/// A message of the same octets.
-fn copy_of(alloc: Global, message: &MessageBuf) -> Result<MessageBuf, ServiceError>
-    ensures { Makes (Some message.now) result }
+/// A request with other metadata, and with so many octets more reserved.
+fn handed_on<T>(request: Request<()>, metadata: T, reserved: u16) -> Request<T>
+    ensures message { result.message ≡ request.message }
+    ensures transport { result.transport ≡ request.transport }
+    ensures now { result.at ≡ request.at }
+    ensures metadata { result.metadata ≡ metadata }
+    ensures reserved { result.reserved ≡ min (request.reserved + reserved) 65535 }
 {
-    let octets = Vec::from_slice(alloc, message.as_slice())?;
+    let mut request = request.with_new_metadata(metadata);
+    request.reserve_bytes(reserved);
+    request
+}
+
+/// A message's id, flags and counts (RFC 1035, 4.1.1).
+fn header_octets(message: &MessageBuf) -> [u8; 12]
+    ensures { result ≡ take 12 message.now }
+{
+    let mut octets = [0; 12];
+    octets.copy_from_slice(&message.as_slice()[..12]);
+    octets
+}
+
+/// An accepted request as it was received, by its header then: all behind that is as it was (RFC 8945, 4.3.2).
+fn as_it_came(
+    alloc: Global,
+    header: &[u8; 12],
+    taken: &MessageBuf,
+) -> Result<MessageBuf, ServiceError>
+    ensures { Makes (Some (header.now ++ drop 12 taken.now)) result }
+{
+    let mut octets = Vec::with_capacity(alloc, taken.as_slice().len())?;
+    octets.extend_from_slice(header)?;
+    octets.extend_from_slice(&taken.as_slice()[12..])?;
     match MessageBuf::from_octets(octets) {
-        Ok(copy) => Ok(copy),
+        Ok(received) => Ok(received),
         Err(_) => Err(ServiceError::InternalError),
     }
 }

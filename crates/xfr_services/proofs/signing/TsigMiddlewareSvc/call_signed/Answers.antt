@@ -15,12 +15,10 @@ returns g c =
     let keys = g.KS.KeyStore.key_of c.self.inside.keys in
     let r = as_received c.args.request c.args.received in
     let known = c.get_key-known.result in
-    let room : c.reserve_bytes.new.self.reserved ≡ min (r.reserved + compose_len key) 65535 =
-    c.reserve_bytes.ensures.reserved ∙ rw (c.with_new_metadata-request.ensures.reserved, c.compose_len-reserved.ensures, c.key-key.ensures) refl in
-    let asked : c.reserve_bytes.new.self ≡ accepted_request r key known =
-    request_is c.reserve_bytes.new.self _ _ _ _ _ (c.reserve_bytes.ensures.message ∙ c.with_new_metadata-request.ensures.message ∙ c.requires.taken)
-    (c.reserve_bytes.ensures.transport ∙ c.with_new_metadata-request.ensures.transport) (c.reserve_bytes.ensures.now ∙ c.with_new_metadata-request.ensures.now)
-    (c.reserve_bytes.ensures.metadata ∙ c.with_new_metadata-request.ensures.metadata) room in
+    let on = c.handed_on-request in
+    let room : on.result.reserved ≡ min (r.reserved + compose_len key) 65535 = on.ensures.reserved ∙ rw (c.compose_len-reserved.ensures, c.key-key.ensures) refl in
+    let asked : on.result ≡ accepted_request r key known =
+    request_is on.result _ _ _ _ _ (on.ensures.message ∙ c.requires.taken) on.ensures.transport on.ensures.now on.ensures.metadata room in
     let found : option_map the_key known ≡ keys (fold key.name) key.algorithm =
     c.get_key-known.ensures.key ∙ rw (c.name.ensures, c.algorithm.ensures, c.key-key.ensures) refl in
     let P : Request _ → Type 0 = λ q. Gives (g.S.Service.Sends c.self.inside.next q) g.S.Stream.ReplyStream.LeftOf c.in_ok-call.field-0 in
