@@ -12,6 +12,8 @@ mod reply_vector_tests;
 #[cfg(test)]
 mod service_tests;
 #[cfg(test)]
+mod signed_vector_tests;
+#[cfg(test)]
 mod transfer_replies_tests;
 #[cfg(test)]
 mod transfer_vectors;

@@ -167,7 +167,7 @@ fn push_item<R: Abort>(rt: &R, alloc: Global, text: &mut String, item: &CallResu
 }
 
 /// All items of a stream.
-fn pulled<R: Abort, S: ReplyStream>(rt: &R, alloc: Global, stream: &mut S) -> String {
+pub(crate) fn pulled<R: Abort, S: ReplyStream>(rt: &R, alloc: Global, stream: &mut S) -> String {
     let mut text = String::new(alloc);
     for _ in 0..16_u8 {
         let Some(item) = stream.next_item() else {

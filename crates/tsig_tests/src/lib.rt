@@ -12,6 +12,8 @@ mod tsig_port_error_reply_tests;
 #[cfg(test)]
 mod tsig_port_room_tests;
 #[cfg(test)]
+mod tsig_port_stream_vector_tests;
+#[cfg(test)]
 mod tsig_port_tests;
 #[cfg(test)]
 mod tsig_port_text_tests;

@@ -44,12 +44,12 @@ const COMPRESSED: &str =
     "03e800000001000000000001076578616d706c650000fc0001075866722d4b6579c00c00fa00ff00000000003d0b686d61632d73686132353600000102030405012c0020122292284e54257707e122126b544575f3143a48e98605048a9055e4d0ed293e03e800000000 03e884000001000100000001076578616d706c650000fc0001c00c0006000100000e100026026e73c00c0a686f73746d6173746572c00c0000000100001c2000000e10001275000000012c075866722d4b6579c00c00fa00ff00000000003d0b686d61632d73686132353600000102030406012c0020473d9fd1f805516ef12010401a227eeb937661d55a5ee3d419d28de3f7f1540a03e800000000";
 
 /// When the requests are signed, in seconds.
-const TIME: u64 = 0x01_0203_0405;
+pub(crate) const TIME: u64 = 0x01_0203_0405;
 
 const SECRET: &str = "0102030405060708090a0b0c0d0e0f101112131415161718191a1b1c1d1e1f20";
 
 /// The word before the first space of a row, and what stands after that.
-fn word<'a, R: Abort>(rt: &R, row: &'a str) -> (&'a str, &'a str) {
+pub(crate) fn word<'a, R: Abort>(rt: &R, row: &'a str) -> (&'a str, &'a str) {
     row.split_once(' ').expect(rt, "a word")
 }
 
@@ -60,7 +60,7 @@ fn unsigned<R: Abort>(rt: &R, alloc: Global, place: usize) -> Vec<u8> {
 }
 
 /// The octets with the lowest bit of one of them flipped.
-fn flipped<R: Abort>(rt: &R, alloc: Global, octets: &[u8], place: usize) -> Vec<u8> {
+pub(crate) fn flipped<R: Abort>(rt: &R, alloc: Global, octets: &[u8], place: usize) -> Vec<u8> {
     let mut out = octets.to_vec(alloc).expect(rt, "memory");
     let octet = out.get_mut(place).expect(rt, "an octet");
     *octet = *octet ^ 1;
@@ -68,7 +68,7 @@ fn flipped<R: Abort>(rt: &R, alloc: Global, octets: &[u8], place: usize) -> Vec<
 }
 
 /// The key of that algorithm and name, whose MACs have so many octets.
-fn key_of_len<R: Abort>(
+pub(crate) fn key_of_len<R: Abort>(
     rt: &R,
     alloc: Global,
     algorithm: Algorithm,
