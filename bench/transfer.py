@@ -9,9 +9,10 @@ written, signed, checked, read, put into the secondary's zone and reported.
 
 It prints, for each shape of zone:
 
-- time, resident memory and heap at their peaks, for 1, 100, 1,000 and the most records that fit one message, each less those of a zone of
-  the SOA alone, and per record, beside the least per record;
+- time, resident memory and heap at their peaks, for 1, 100, 1,000 and the most records that fit one message, and one record more, each less
+  those of a zone of the SOA alone, and per record, beside the least per record;
 - how time, heap and instructions grow where the number of records doubles: about 2.0 says in proportion to it, 4.0 by its square;
+- how time and resident memory grow up to a script of 16 MiB, the longest that is read;
 - the share of each step in the instructions, and the functions that take most.
 
 Time is the processor's, the least of the runs. Heap and instructions come from valgrind, and are left out where there is none. What is
@@ -44,9 +45,15 @@ def record(owner, rtype, data):
     return owner + rtype.to_bytes(2, "big") + b"\0\1\0\0\x0e\x10" + len(data).to_bytes(2, "big") + data
 
 
+def label(number):
+    """A label of four digits or more."""
+    digits = b"%04x" % number
+    return bytes([len(digits)]) + digits
+
+
 def owners(number):
     """One address for each owner."""
-    return record(b"\x04" + b"%04x" % number + APEX, A, b"\xc0\0\2\1")
+    return record(label(number) + APEX, A, b"\xc0\0\2\1")
 
 
 def addresses(number):
@@ -56,12 +63,12 @@ def addresses(number):
 
 def servers(number):
     """All servers of the apex: one set, whose data are names."""
-    return record(APEX, NS, b"\x04" + b"%04x" % number + APEX)
+    return record(APEX, NS, label(number) + APEX)
 
 
 def cuts(number):
     """One delegation for each owner, to one server."""
-    return record(b"\x04" + b"%04x" % number + APEX, NS, b"\x02ns\x05other\0")
+    return record(label(number) + APEX, NS, b"\x02ns\x05other\0")
 
 
 SHAPES = {"owners": owners, "cuts": cuts, "addresses": addresses, "servers": servers}
@@ -86,6 +93,12 @@ def most_records(shape):
     # Algorithm, time, fudge, MAC behind its length, original id, error, and no other octets behind their length.
     tsig = len(record(KEY_NAME, TSIG, ALGORITHM + bytes(6 + 2 + 2 + 32 + 2 + 2 + 2)))
     return (65535 - 12 - question - soas - tsig) // len(shape(0))
+
+
+def longest(shape):
+    """How many records a script of 16 MiB has."""
+    head = len(script(shape, 0))
+    return (16 * 2**20 - head) // len(f"p {shape(16**5 - 1).hex()}\n")
 
 
 def run(program, given):
@@ -120,18 +133,17 @@ class Bench:
                 it.write(script(SHAPES[name], count))
         return path
 
-    def checked(self, name, count, fits=True):
+    def checked(self, name, count):
         """Peak memory in KB of a run, whose answer is looked at."""
         out, status, peak = run(self.program, self.given(name, count))
         lines = out.splitlines()
-        wanted = (0, b"updated 1", count + 2) if fits else (1, b"refused not-valid", 1)
-        if (status, lines[:1], len(lines)) != (wanted[0], [wanted[1]], wanted[2]):
+        if (status, lines[:1], len(lines)) != (0, [b"updated 1"], count + 2):
             sys.exit(f"{name}, {count} records: status {status}, {len(lines)} lines, first {lines[:1]}")
         return peak
 
-    def time(self, name, count):
+    def time(self, name, count, most_runs=None):
         path = self.given(name, count)
-        return min(processor_time(self.program, path) for _ in range(self.runs))
+        return min(processor_time(self.program, path) for _ in range(min(self.runs, most_runs or self.runs)))
 
     def heap(self, name, count):
         """The octets of heap at the moment when they are most, by valgrind; 0 without it."""
@@ -190,10 +202,10 @@ STEPS = [
     ("giving memory back", r"::destroy\b|\bdrop\b"),
     ("insertion, primary", r"\bzone_script::opening"),
     ("insertion, secondary", r"(\bzone_sessions::|\bstd_collections::|::ends_with\b|::flatten\b).*\bzone_sync::client"),
-    ("walk, to write", r"\bzone_sessions::.*\bxfr_server::"),
+    ("walk, to write", r"\bzone_sessions::.*\bxfr_(server|text)::"),
     ("walk, to report", r"\bzone_sessions::walk.*\bzone_sync::program"),
     ("reading the script", r"\bzone_script::"),
-    ("writing the message", r"\bxfr_(server|services)::"),
+    ("writing the message", r"\bxfr_(server|services|replies|text|batch)::"),
     ("reading the message", r"\bzone_sync::client|\bzone_sync::sync::take_replies|\btsig_port::"),
     ("report and link", r"\bzone_sync::program"),
     ("reading the script", r"\bzonesync::main"),
@@ -215,12 +227,11 @@ def sizes(bench, name):
     most = most_records(SHAPES[name])
     least_peak, least_time, least_heap = bench.checked(name, 0), bench.time(name, 0), bench.heap(name, 0)
     rows = []
-    for count in [1, 100, 1000, most]:
+    for count in [1, 100, 1000, most, most + 1]:
         peak = bench.checked(name, count) - least_peak
         rows.append((count, bench.time(name, count) - least_time, peak, bench.heap(name, count) - least_heap))
-    bench.checked(name, most + 1, fits=False)
     print(f"the SOA alone: {least_time * 1e3:.2f} ms, {least_peak} KB, of it {least_heap} octets of heap")
-    print(f"{most} records fit one message, {most + 1} don't")
+    print(f"{most} records fit one message")
     print(f"{'records':>8} {'ms':>9} {'us/record':>10} {'ratio':>6} {'KB':>8} {'heap, octets':>13} {'heap/record':>12} {'ratio':>6}")
     # The time of one record is less than a run's noise: ratios are to the least of the others.
     least = min(it[1] / it[0] for it in rows[1:])
@@ -241,6 +252,19 @@ def doublings(bench, name, counts):
         now = [a - b for a, b in zip(bench.measured(name, count), base)]
         grown = [f"{a / b:7.2f}" if b > 0 else "      -" for a, b in zip(now, before)] if before else [" " * 7] * 3
         print(f"{count:>8} {now[0] * 1e3:>9.2f} {grown[0]} {now[1]:>13} {grown[1]} {now[2]:>13} {grown[2]}", flush=True)
+        before = now
+
+
+def up_to_longest(bench, name):
+    """Time and resident memory up to the longest script, less those of a zone of the SOA alone."""
+    print(f"{'records':>8} {'ms':>9} {'growth':>7} {'KB':>8} {'growth':>7}")
+    least_peak, least_time = bench.checked(name, 0), bench.time(name, 0)
+    most = longest(SHAPES[name])
+    before = None
+    for count in [most // 16, most // 8, most // 4, most // 2, most]:
+        now = bench.time(name, count, 3) - least_time, bench.checked(name, count) - least_peak
+        grown = [f"{a / b:7.2f}" if b > 0 else "      -" for a, b in zip(now, before)] if before else [" " * 7] * 2
+        print(f"{count:>8} {now[0] * 1e3:>9.2f} {grown[0]} {now[1]:>8} {grown[1]}", flush=True)
         before = now
 
 
@@ -279,6 +303,8 @@ def main():
             sizes(bench, name)
             print()
             doublings(bench, name, [120, 240, 480, 960, 1920])
+            print()
+            up_to_longest(bench, name)
             print()
             shares(bench, name, 1000)
 
