@@ -2,7 +2,7 @@
 use Rattle.std.specs.Prelude.{◌≡◌, ℕ, ◌+◌, min, List, Option, Some, None, option_map}
 use Rattle.dns_name.specs.Names.{Name, fold}
 use Rattle.tsig_port.specs.Tsig.{TsigKey, mac_in, compose_len}
-use Rattle.tsig_keys.specs.Keys.{HasNameAnd}
+use Rattle.tsig_keys.specs.Keys.{HasNameAnd, own_key, map_key}
 use Rattle.tsig_keys.specs.declared.algorithms.Algorithm.{Algorithm}
 use Rattle.tsig_port.specs.Checked.{taken_message}
 use Rattle.tsig_port.specs.ServerCheck.{Keys, Verdict, verdict, reply_to}
@@ -63,3 +63,7 @@ AreNamed keys = (name : Name) (algorithm : Algorithm) (key : TsigKey) → keys n
 abbrev pub KeysGoOn : {K : Type 0} → (K → TsigKey) → Keys → Type 0
 KeysGoOn the_key keys = AreNamed keys → (now : ℕ) (message : List ℕ) (key : TsigKey) (known : Option _) → verdict keys now message ≡ Accepted key
     → option_map the_key known ≡ keys (fold key.name) key.algorithm → option_map the_key known ≡ Some key
+
+-- the stores of one key and of many are so
+abbrev pub StoresAreNamed : Type 0
+StoresAreNamed = ((key : TsigKey) → AreNamed (own_key key)) × ((entries : List ((Name × Algorithm) × TsigKey)) → AreNamed (map_key entries))

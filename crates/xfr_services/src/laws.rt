@@ -3,7 +3,7 @@ ghost use Rattle.std.specs.Prelude.{◌≡◌, true, List, Option};
 ghost use Rattle.tsig_port.specs.ServerCheck.{verdict};
 ghost use Rattle.xfr_services.specs.Failing.{fails, FailsWhereLong, IsTooLong, RepliesFailWhereLong};
 ghost use Rattle.xfr_services.specs.Items.{Sending};
-ghost use Rattle.xfr_services.specs.SignedServing.{KeysGoOn};
+ghost use Rattle.xfr_services.specs.SignedServing.{KeysGoOn, StoresAreNamed};
 ghost use Rattle.xfr_services.specs.declared.requests.Request.{Request as RequestOf};
 
 use crate::services::{RefuseSvc, Service};
@@ -26,4 +26,9 @@ pub fn signed_replies_fail_where_long<N: Service<Option<KS::Key>> + Drop, KS: Ke
 /// A request that a key accepted is handed on with that key, where each key of the store has the name and algorithm that it is found by.
 pub fn accepted_requests_have_their_key<KS: KeyStore>()
     ensures { (keys : KS) → KeysGoOn KS.Key.the_key (KS.key_of keys) }
+{}
+
+/// The stores of one key and of many find each key by its own name and algorithm.
+pub fn stores_are_named()
+    ensures { StoresAreNamed }
 {}
