@@ -9,4 +9,5 @@ pub mod Choice
 pub mod Room
 pub mod Pages
 pub mod FullTransfer
+pub mod LongRequests
 pub mod Accepted

@@ -1,13 +1,15 @@
 // Laws of what a primary sends, each the contract of a function with an empty body.
-ghost use Rattle.std.specs.Prelude.{List, Option};
+ghost use Rattle.std.specs.Prelude.{◌≡◌, true, List, Option};
 ghost use Rattle.tsig_port.specs.Tsig.{TsigKey};
 ghost use Rattle.zone_model.specs.Offer.{Offer};
 ghost use Rattle.xfr_server.specs.Items.{Sending};
 ghost use Rattle.xfr_server.specs.Offers.{CommitsMayBePushed, HistoryGrants, HistoryIsOffered};
 ghost use Rattle.xfr_server.specs.FullTransfer.{SendsWhole, WholeIsTaken, TransferIsMessage};
+ghost use Rattle.xfr_services.specs.Failing.{fails, FailsWhereLong, IsTooLong};
 ghost use Rattle.xfr_services.specs.declared.requests.Request.{Request as RequestOf};
+ghost use Rattle.tsig_port.specs.ServerCheck.{verdict};
 
-use crate::{PrimaryStack, Service, XfrDataProvider};
+use crate::{PrimaryStack, Service, XfrDataProvider, XfrMiddlewareSvc};
 use tsig_port::KeyStore;
 
 /// A signed request for a full transfer that a primary accepts and its provider grants is answered with the whole text, a message for each
@@ -25,6 +27,25 @@ pub fn full_transfers_are_sent<
 pub fn full_transfers_are_taken()
     ensures taken { WholeIsTaken }
     ensures wire { TransferIsMessage }
+{}
+
+/// Above a service that fails only for questions past 65,535 octets, the transfer service fails only for such questions.
+pub fn transfers_fail_where_long<
+    M: Default + Drop,
+    N: Service<M> + Drop,
+    X: XfrDataProvider<M> + Drop,
+>()
+    ensures { (next : N) (provider : X) → FailsWhereLong (N.Sends next) → FailsWhereLong (⟦<XfrMiddlewareSvc<N, X> as Service<M>>⟧.Sends (next, provider)) }
+{}
+
+/// So does a primary, but that a signature counts with the questions of a request that it accepts.
+pub fn primaries_fail_where_long<
+    KS: KeyStore + Drop,
+    N: Service<Option<KS::Key>> + Drop,
+    X: XfrDataProvider<Option<KS::Key>> + Drop,
+>()
+    ensures { (next : N) (provider : X) (keys : KS) → FailsWhereLong (N.Sends next) → (r : RequestOf (Unit {0})) (sent : Option (List Sending))
+        → ⟦<PrimaryStack<N, X, KS> as Service<()>>⟧.Sends ((next, provider), keys) r sent → fails sent ≡ true → IsTooLong r (verdict (KS.key_of keys) r.at r.message) }
 {}
 
 /// A provider with a history offers what it keeps to one who signed with a key that it grants.

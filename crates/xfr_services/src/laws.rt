@@ -16,8 +16,8 @@ pub fn refusals_fail_where_long()
     ensures service { (s : RefuseSvc) → FailsWhereLong (⟦<RefuseSvc as Service<()>>⟧.Sends s) }
 {}
 
-/// The service that checks and signs fails only where a reply of the request's questions and one TSIG passes 65,535 octets, or those
-/// questions do as they are handed on, if the next service fails only where its request's questions do.
+/// Above a service that fails only for questions past 65,535 octets, the one that checks and signs fails only where the questions, with the
+/// key's TSIG where the request was accepted, pass that as they came, or as they are handed on.
 pub fn signed_replies_fail_where_long<N: Service<Option<KS::Key>> + Drop, KS: KeyStore + Drop>()
     ensures { (next : N) (keys : KS) → FailsWhereLong (N.Sends next) → (r : RequestOf (Unit {0})) (sent : Option (List Sending))
         → ⟦<TsigMiddlewareSvc<N, KS> as Service<()>>⟧.Sends (next, keys) r sent → fails sent ≡ true → IsTooLong r (verdict (KS.key_of keys) r.at r.message) }
