@@ -16,7 +16,7 @@ ghost use Rattle.zone_sync.specs.Replies.{AnswersReply, AnswersRequest, IsAnswer
 ghost use Rattle.zone_sync.specs.Steps.{Ahead, KeepsWish, StaysStill, TakesOne, TakesAll};
 
 use crate::outcome::{SyncError, SyncOk};
-use dns_name::{KeyName, Labelled, ParsedName, Rtype, ToName};
+use dns_name::{KeyName, Labelled, ParsedName, ToName};
 use dns_rdata::ReadRecord;
 use dns_wire::{AdditionalBuilder, Header, MessageBuf, MessageBuilder, PushError, Question};
 use std::alloc::Global;
@@ -25,25 +25,8 @@ use tsig_port::{ClientSequence, Key, Time48};
 use xfr_client::{
     XfrResponseInterpreter, XfrZoneUpdateIterator, ZoneUpdate, ZoneUpdater, protocol, update,
 };
+use xfr_services::XfrMode;
 use zone_sessions::{ReadZone, WriteZone};
-
-/// What is asked for.
-#[derive(Clone, Copy, Debug, PartialEq, Eq)]
-pub enum XfrMode {
-    /// The whole zone (RFC 5936).
-    Axfr,
-}
-
-impl XfrMode {
-    /// The type of the question that asks for it.
-    fn qtype(self) -> Rtype
-        ensures { result ≡ type_of (mode_of self) }
-    {
-        match self {
-            XfrMode::Axfr => Rtype::AXFR,
-        }
-    }
-}
 
 /// A request that was made, and how far its replies have led.
 #[derive(Drop)]
@@ -141,7 +124,7 @@ impl XfrClient {
     {
         Question::new(
             zone.apex_name().to_key_name(),
-            self.mode.qtype(),
+            self.mode.rtype(),
             zone.class(),
         )
     }
