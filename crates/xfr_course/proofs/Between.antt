@@ -1,19 +1,19 @@
 -- Where a client that has met nothing stands between messages; no update of a next one comes out of turn.
-use Rattle.std.proofs.Common.{◌≡◌, ℕ, Bool, true, false, not, ◌&&◌, ◌==◌, if◌then◌else◌, List, [], ◌∷◌, ◌++◌, map, length, refl, sym, ap, ◌∙◌, subst, Option, Some, None, is_some, IsTrue}
+use Rattle.std.proofs.Common.{◌≡◌, ℕ, Bool, true, false, not, ◌&&◌, ◌==◌, if◌then◌else◌, List, [], ◌∷◌, ◌++◌, map, length, refl, sym, ap, ◌∙◌, subst, Option, Some, None}
 use Rattle.std.proofs.lemmas.Bool.{and_left}
 use Rattle.std.proofs.Math.Bool.{and-false}
 use Rattle.dns_rdata.specs.Records.{Record}
 use Rattle.dns_rdata.specs.Soa.{serial_of}
 use Rattle.dns_wire.specs.Wire.{Question}
 use Rattle.zone_model.specs.TransferText.{Mode, Axfr, Ixfr, is_soa, is_same_soa}
-use Rattle.zone_model.specs.Updates.{Update, DeleteAllRecords, DeleteRecord, AddRecord, BeginBatchDelete, BeginBatchAdd, Finished, UpdateFault}
+use Rattle.zone_model.specs.Updates.{DeleteAllRecords, DeleteRecord, AddRecord, BeginBatchDelete, BeginBatchAdd, Finished}
 use Rattle.xfr_model.specs.Messages.{ReadMessage}
 use Rattle.xfr_model.specs.Read.{Fault, NotValid, Malformed, OtherAnswer, Item, Good, Bad, record_item, items_unless, items_of, first_fault, is_other, is_transfer_head, asks_transfer, first_record_fault, message_fault, request_fault}
 use Rattle.xfr_model.specs.Machine.{Place, AtStart, AtSecond, InWhole, InDeletes, InAdds, AtEnd, is_at_end, Run, went, step, end_or_batch, run_items, signal_of}
-use Rattle.xfr_model.specs.Applying.{Halt, Denied, Held, apply_within, DeniedEdit}
+use Rattle.xfr_model.specs.Applying.{Halt, Held, apply_within}
 use Rattle.xfr_model.proofs.Readers.{run_reads, run-append, fault_is, ends}
 use Rattle.xfr_course.specs.Outcome.{Outcome, Checked, Course, room}
-use Rattle.xfr_course.specs.Client.{Client, new_client, met_after, client_after, run_message, take_checked, take_course, IsBetween, StandsBetween, BetweenMessages, UpdatesInTurn}
+use Rattle.xfr_course.specs.Client.{Client, new_client, met_after, run_message, take_checked, take_course, IsBetween, StandsBetween, BetweenMessages, UpdatesInTurn}
 use Rattle.xfr_course.proofs.Clients.{ask, held, client_with, held_denies, held_outcome, held_more, met_stays, next_client}
 
 -- ---- places
