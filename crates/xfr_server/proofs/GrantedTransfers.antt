@@ -1,21 +1,20 @@
 -- What a primary sends in a transfer that is granted.
-use Rattle.std.proofs.Common.{◌≡◌, ℕ, ◌+◌, ◌-◌, ◌≤◌, Bool, true, false, ◌&&◌, not, List, [], ◌∷◌, ◌++◌, length, map, Option, Some, None, min, refl, sym, ap, ◌∙◌, arith, subst}
-use Rattle.std.specs.Prelude.{IsTrue, flat_map, nat_le, option_map, is_some, Result, Ok}
+use Rattle.std.proofs.Common.{◌≡◌, ℕ, ◌+◌, ◌-◌, ◌≤◌, Bool, true, false, ◌&&◌, not, List, [], ◌∷◌, ◌++◌, map, Option, Some, None, min, refl, sym, ap, ◌∙◌, arith, subst}
+use Rattle.std.specs.Prelude.{IsTrue, flat_map, option_map, is_some, Result, Ok}
+use Rattle.std.specs.Option.{option_map_or}
 use Rattle.std.specs.List.{AllByRecursion, list_all}
-use Rattle.std.proofs.lemmas.Bool.Decides.{nat_tests}
-use Rattle.std.proofs.lemmas.List.Concat.{length-flat_map}
+use Rattle.std.proofs.lemmas.List.{append-nil}
 use Rattle.dns_name.specs.Codes.{type_soa}
-use Rattle.dns_wire.specs.Wire.{message_wire, arcount_in, header_in, fits}
-use Rattle.dns_rdata.specs.Records.{Field, Record, record_wire}
-use Rattle.dns_wire.specs.Parse.{sole_question_in, questions_in}
+use Rattle.dns_wire.specs.Wire.{message_wire, fits}
+use Rattle.dns_rdata.specs.Records.{Field, Record}
+use Rattle.dns_wire.specs.Parse.{sole_question_in}
 use Rattle.tsig_port.specs.Tsig.{TsigKey, mac_in, is_mac_len, compose_len, signed_from, signed_answers}
 use Rattle.tsig_port.specs.Checked.{taken_message}
 use Rattle.tsig_port.specs.ServerCheck.{Keys, Verdict}
 use Rattle.zone_model.specs.Version.{RecordSet, Version, set_at}
 use Rattle.zone_model.specs.Answer.{apex_soa_record, first_only, records_of, records_of_option}
 use Rattle.zone_model.specs.TransferText.{OnIxfr}
-use Rattle.zone_model.specs.Offer.{Offer, IsCutInto, room_of, text_of}
-use Rattle.xfr_batch.specs.XfrBatches.{axfr_header}
+use Rattle.zone_model.specs.Offer.{Offer, IsCutInto, text_of}
 use Rattle.xfr_replies.specs.TransferPages.{page_answer, page_room, has_page, sendable}
 use Rattle.xfr_replies.specs.PagedReplies.{page_sent, end_sent, SendsRest, TransferSends}
 use Rattle.xfr_replies.specs.PulledStreams.{SendsText}
@@ -25,7 +24,7 @@ use Rattle.xfr_server.specs.Items.{Sending, sent_by, feedback_item}
 use Rattle.xfr_server.specs.Items.Sending.{Given}
 use Rattle.xfr_server.specs.Transfers.{Choice, chosen, choice_of, is_ixfr, reply_limit, soa_reply, sent_once, SendsAnswer, SendsChoice, asked_serial}
 use Rattle.xfr_server.specs.Transfers.Choice.{Refuse, SoaAlone, Text}
-use Rattle.xfr_server.specs.Signing.{Signer, can_be_signed, reply_tsig, signed_reply, signed_items}
+use Rattle.xfr_server.specs.Signing.{Signer, signed_items}
 use Rattle.xfr_server.specs.Serving.{SendsIn, SendsTransfer}
 use Rattle.xfr_server.specs.SignedServing.{SendsBy, SendsSigned, accepted_request, signer_for, SendsChecked}
 use Rattle.xfr_server.specs.SentTexts.{mode_of, sent_records, in_singles}
@@ -35,18 +34,16 @@ use Rattle.xfr_services.specs.declared.requests.Request.{Request}
 use Rattle.xfr_services.specs.declared.requests.TransportSpecificContext.{TransportSpecificContext}
 use Rattle.xfr_services.specs.declared.requests.TransportSpecificContext.TheVariants.{NonUdp}
 use Rattle.xfr_services.specs.declared.services.ServiceFeedback.TheVariants.{BeginTransaction, EndTransaction}
-use Rattle.xfr_services.specs.declared.signing.Signing.TheVariants.{First, All}
+use Rattle.xfr_services.specs.declared.signing.Signing.TheVariants.{First}
 use Rattle.xfr_services.specs.declared.modes.XfrMode.{XfrMode}
 use Rattle.xfr_services.specs.declared.modes.XfrMode.TheVariants.{Axfr, Ixfr}
-use Rattle.xfr_server.proofs.Answers.{wire_length, records_long}
 use Rattle.xfr_server.proofs.Choice.{chosen_offer}
 use Rattle.xfr_server.proofs.Pages.{IsPage, each_page}
 use Rattle.xfr_server.proofs.SentTexts.{text_is_chosen, texts_begin}
-use Rattle.xfr_services.proofs.Puts.{has_both}
-use Rattle.xfr_server.proofs.Room.{signed_length}
+use Rattle.xfr_server.proofs.SignedPages.{can_sign_page, page_fits, first_signed, EndsWith, pages_signed}
 
 -- the key that was found is the one that is known
-found_key : {K : Type 0} (the_key : K → TsigKey) (known : Option K) (key : TsigKey) → option_map the_key known ≡ Some key → (k : K) × ((known ≡ Some k) × (the_key k ≡ key))
+pub found_key : {K : Type 0} (the_key : K → TsigKey) (known : Option K) (key : TsigKey) → option_map the_key known ≡ Some key → (k : K) × ((known ≡ Some k) × (the_key k ≡ key))
 found_key the_key None key e = cc
 found_key the_key (Some k) key e = (k, (refl, cc))
 
@@ -91,84 +88,19 @@ pages_are_sent request limit singles text pages cut =
     } in
     (paged request limit pages, refl, rest)
 
--- ---- each message has room for its signature
-
-header_there : (request : List ℕ) (page : List Record) → 12 ≤ length (message_wire (page_answer request page))
-header_there request page = omega (arith, wire_length (axfr_header (header_in request)) (questions_in request) page)
-
-none_additional : (request : List ℕ) (page : List Record) → arcount_in (message_wire (page_answer request page)) ≡ 0
-none_additional request page = refl
-
-within : (a n base base_len room : ℕ) → nat_le a room ≡ true → room ≡ min (65535 - n) 65535 - base → 1 ≤ a → base_len ≡ base + a → base_len + n ≤ 65535
-within a n base base_len room fit is some long = grind (arith, nat_tests)
-
-room_signed : (request : List ℕ) (n : ℕ) (page : List Record) → IsPage (page_room request (65535 - n)) page → length (message_wire (page_answer request page)) + n ≤ 65535
-room_signed request n page p =
-    let h = axfr_header (header_in request) in
-    let qs = questions_in request in
-    let some : 1 ≤ room_of page = omega (arith, records_long page, length-flat_map record_wire page, p.0) in
-    let long : length (message_wire (page_answer request page)) ≡ length (message_wire (page_answer request [])) + room_of page =
-    omega (arith, wire_length h qs page, wire_length h qs [], length-flat_map record_wire page) in
-    within (room_of page) n (length (message_wire (page_answer request []))) (length (message_wire (page_answer request page))) (page_room request (65535 - n)) p.1 refl some long
-
-within_limit : (a n base base_len room : ℕ) → nat_le a room ≡ true → room ≡ min (65535 - n) 65535 - base → 1 ≤ a → base_len ≡ base + a → nat_le base_len (min (65535 - n) 65535) ≡ true
-within_limit a n base base_len room fit is some long = grind (arith, nat_tests)
-
-page_fits : (request : List ℕ) (n : ℕ) (page : List Record) → IsPage (page_room request (65535 - n)) page → fits (65535 - n) (message_wire (page_answer request page)) ≡ true
-page_fits request n page p =
-    let h = axfr_header (header_in request) in
-    let qs = questions_in request in
-    let some : 1 ≤ room_of page = omega (arith, records_long page, length-flat_map record_wire page, p.0) in
-    let long : length (message_wire (page_answer request page)) ≡ length (message_wire (page_answer request [])) + room_of page =
-    omega (arith, wire_length h qs page, wire_length h qs [], length-flat_map record_wire page) in
-    within_limit (room_of page) n (length (message_wire (page_answer request []))) (length (message_wire (page_answer request page))) (page_room request (65535 - n)) p.1 refl some long
-
-fits_whole : (octets : List ℕ) → length octets ≤ 65535 → fits 65535 octets ≡ true
-fits_whole octets few = grind (arith, nat_tests)
-
-can_sign : (s : Signer) (prior : Option (List ℕ)) (request : List ℕ) (page : List Record) → IsTrue (is_mac_len s.key.algorithm s.key.signing_len)
-    → IsPage (page_room request (65535 - compose_len s.key)) page → can_be_signed s prior (message_wire (page_answer request page)) ≡ true
-can_sign s prior request page macs p =
-    let m = message_wire (page_answer request page) in
-    let long = signed_length s.key s.request_mac prior m s.at 300 macs (header_there request page) in
-    let none : arcount_in m ≡ 0 = none_additional request page in
-    has_both (fits 65535 (signed_reply s prior m)) (arcount_in m) (fits_whole (signed_reply s prior m) (omega (arith, long, room_signed request (compose_len s.key) page p))) (λ e. absurd (omega (arith, none, e)))
-
 -- ---- the messages, signed
 
--- the first of these, signed, and then the others
-page_signed : (s : Signer) (prior : Option (List ℕ)) (request : List ℕ) (limit : ℕ) (page : List Record) (more : List Sending) → can_be_signed s prior (message_wire (page_answer request page)) ≡ true
-    → sent_by (signed_items s All prior (page_sent request limit page ∷ more))
-    ≡ record {
-      messages = signed_reply s prior (message_wire (page_answer request page)) ∷ (sent_by (signed_items s All (Some (reply_tsig s prior (message_wire (page_answer request page))).mac) more)).messages;
-      fails = (sent_by (signed_items s All (Some (reply_tsig s prior (message_wire (page_answer request page))).mac) more)).fails;
-    }
-page_signed s prior request limit page more can = rw can refl
-
-pages_signed : (s : Signer) (prior : Option (List ℕ)) (request : List ℕ) (limit : ℕ) (pages : List (List Record)) → IsTrue (is_mac_len s.key.algorithm s.key.signing_len)
-    → AllByRecursion (IsPage (page_room request (65535 - compose_len s.key))) pages
-    → sent_by (signed_items s All prior (paged request limit pages)) ≡ record { messages = signed_from s.key s.request_mac s.at 300 prior (map message_wire (map (page_answer request) pages)); fails = false }
+transaction_ends : (s : Signer) → EndsWith s (Given (feedback_item EndTransaction)) []
 unfolding signed_from
-pages_signed s prior request limit [] macs each = refl
-pages_signed s prior request limit (page ∷ more) macs each =
-    let m = message_wire (page_answer request page) in
-    let next = Some (reply_tsig s prior m).mac in
-    page_signed s prior request limit page (paged request limit more) (can_sign s prior request page macs each.0)
-    ∙ ap (λ sent. record { messages = signed_reply s prior m ∷ sent.messages; fails = sent.fails }) (pages_signed s next request limit more macs each.1)
+transaction_ends s prior = refl
 
--- the transaction of these, signed
-transaction_signed : (s : Signer) (request : List ℕ) (limit : ℕ) (pages : List (List Record)) → IsTrue (is_mac_len s.key.algorithm s.key.signing_len)
-    → AllByRecursion (IsPage (page_room request (65535 - compose_len s.key))) pages
+transaction_signed : (s : Signer) (request : List ℕ) (limit : ℕ) (pages : List (List Record)) → IsTrue (is_mac_len s.key.algorithm s.key.signing_len) → limit ≤ 65535 - compose_len s.key
+    → AllByRecursion (IsPage (page_room request limit)) pages
     → sent_by (signed_items s First None (Given (feedback_item BeginTransaction) ∷ paged request limit pages))
     ≡ record { messages = signed_from s.key s.request_mac s.at 300 None (map message_wire (map (page_answer request) pages)); fails = false }
-transaction_signed s request limit pages macs each = pages_signed s None request limit pages macs each
-
--- one message, signed
-alone_signed : (s : Signer) (request : List ℕ) (limit : ℕ) (page : List Record) → can_be_signed s None (message_wire (page_answer request page)) ≡ true
-    → sent_by (signed_items s First None (page_sent request limit page ∷ []))
-    ≡ record { messages = signed_from s.key s.request_mac s.at 300 None (map message_wire (map (page_answer request) (page ∷ []))); fails = false }
-unfolding signed_from
-alone_signed s request limit page can = rw can refl
+transaction_signed s request limit pages macs small each =
+    pages_signed s request limit (Given (feedback_item EndTransaction)) [] macs small (transaction_ends s) pages None each
+    ∙ ap (λ ms. record { messages = signed_from s.key s.request_mac s.at 300 None (map message_wire ms); fails = false }) (append-nil (map (page_answer request) pages))
 
 -- ---- the SOA alone
 
@@ -212,8 +144,9 @@ choice_given told mode message known k transport reserved n given choice own is 
     let own_l = subst (λ l. SendsChoice message l false (chosen (told (Some k)) mode false message) given) (limit_left n) own_r in
     subst (λ c. SendsChoice message (65535 - n) false c given) chooses own_l
 
-some_text : {X Y : Type 0} (x a : X) (y b : Y) → Some (x, y) ≡ Some (a, b) → (x ≡ a) × (y ≡ b)
-some_text x a y b e = (cc, cc)
+some_text : (x a : List Record) (y b : Bool) → ◌≡◌ {A = Option (List Record × Bool)} (Some (x, y)) (Some (a, b)) → (x ≡ a) × (y ≡ b)
+some_text x a y b e =
+    (ap (λ (o : Option (List Record × Bool)). option_map_or (λ p. p.0) o x) e, ap (λ (o : Option (List Record × Bool)). option_map_or (λ p. p.1) o y) e)
 
 module _ {M : Type 0} (r : Request M) (key : TsigKey) (sent given : Option (List Sending)) (signed : sent ≡ option_map (signed_items (signer_for r key) First None) given) (macs : IsTrue (is_mac_len key.algorithm key.signing_len)) where
   abbrev message : List ℕ
@@ -222,6 +155,9 @@ module _ {M : Type 0} (r : Request M) (key : TsigKey) (sent given : Option (List
   abbrev limit : ℕ
   limit = 65535 - compose_len key
 
+  whole : limit ≤ 65535 - compose_len key
+  whole = omega arith
+
   text_sent : (singles : Bool) (text : List Record) (pages : List (List Record)) → IsCutInto (page_room message limit) singles text pages → SendsText message limit singles text given → IsSentWhole r key pages sent
   text_sent singles text pages cut sends =
       let mine : List Sending = Given (feedback_item BeginTransaction) ∷ paged message limit pages in
@@ -229,7 +165,7 @@ module _ {M : Type 0} (r : Request M) (key : TsigKey) (sent given : Option (List
       record {
         items = signed_items (signer_for r key) First None mine;
         some = signed ∙ ap (option_map (signed_items (signer_for r key) First None)) (sends.1 ∙ ap Some same);
-        messages = transaction_signed (signer_for r key) message limit pages macs (each_page (page_room message limit) singles pages cut.filled);
+        messages = transaction_signed (signer_for r key) message limit pages macs whole (each_page (page_room message limit) singles pages cut.filled);
       }
 
   soa_sent : (v : Version) (pages : List (List Record)) → begins_with_soa (apex_soa_record v) ≡ true → IsCutInto (page_room message limit) false (apex_soa_record v) pages
@@ -239,11 +175,12 @@ module _ {M : Type 0} (r : Request M) (key : TsigKey) (sent given : Option (List
       let each = each_page (page_room message limit) false pages cut.filled in
       let alone : pages ≡ apex_soa_record v ∷ [] = one_page (page_room message limit) pages soa.0 each (cut.joined ∙ soa.1) ∙ ap (λ page. page ∷ []) (sym soa.1) in
       let page : IsPage (page_room message limit) (apex_soa_record v) = (subst (λ ps. AllByRecursion (IsPage (page_room message limit)) ps) alone each).0 in
-      let can = can_sign (signer_for r key) None message (apex_soa_record v) macs page in
+      let fit = page_fits message limit (apex_soa_record v) page in
+      let can = can_sign_page (signer_for r key) None message limit (apex_soa_record v) macs whole fit in
       record {
         items = signed_items (signer_for r key) First None (page_sent message limit (apex_soa_record v) ∷ []);
-        some = signed ∙ ap (option_map (signed_items (signer_for r key) First None)) (is ∙ soa_given message limit v (page_fits message (compose_len key) (apex_soa_record v) page));
-        messages = alone_signed (signer_for r key) message limit (apex_soa_record v) can
+        some = signed ∙ ap (option_map (signed_items (signer_for r key) First None)) (is ∙ soa_given message limit v fit);
+        messages = first_signed (signer_for r key) (page_answer message (apex_soa_record v)) limit can
             ∙ ap (λ ps. record { messages = signed_answers key (mac_in r.message) r.at 300 (map message_wire (map (page_answer message) ps)); fails = false }) (sym alone);
       }
 

@@ -25,7 +25,7 @@ use Rattle.xfr_server.specs.Transfers.Choice.{Refuse, SoaAlone, Text}
 use Rattle.xfr_server.specs.Signing.{can_be_signed, signed_reply, signed_items, reply_tsig}
 use Rattle.xfr_server.specs.Serving.{SendsIn, SendsTransfer}
 use Rattle.xfr_server.specs.SignedServing.{SendsBy, SendsSigned, accepted_request, signer_for, SendsChecked}
-use Rattle.xfr_server.specs.GrantedTransfers.{AreSent}
+use Rattle.xfr_server.specs.GrantedTransfers.{IsSentInTurn}
 use Rattle.xfr_server.specs.SignedAnswers.{soa_answer, udp_answer, ArePages, Tell, IsAccepted, TransferIsAnswered, OtherIsHandedOn}
 use Rattle.xfr_services.specs.Failing.{bare_len}
 use Rattle.xfr_server.specs.declared.providers.XfrDataProviderError.{XfrDataProviderError}
@@ -34,15 +34,13 @@ use Rattle.xfr_services.specs.declared.services.ServiceFeedback.TheVariants.{Beg
 use Rattle.xfr_services.specs.declared.signing.Signing.TheVariants.{First, All}
 use Rattle.xfr_services.specs.declared.modes.XfrMode.{XfrMode}
 use Rattle.xfr_server.proofs.Pages.{IsPage, each_page}
-use Rattle.xfr_server.proofs.GrantedTransfers.{found_key, can_sign, can_sign_within, page_fits, page_signed}
+use Rattle.xfr_server.proofs.GrantedTransfers.{found_key}
+use Rattle.xfr_server.proofs.SignedPages.{fits_whole, can_sign, can_sign_page, first_signed, last_signed, EndsWith, pages_signed}
 
 -- ---- each message has room for its signature
 
 limit_small : (most reserved n : ℕ) → most ≤ 65535 → most - min (reserved + n) 65535 ≤ 65535 - n
 limit_small most reserved n few = omega (arith, few)
-
-fits_most : (octets : List ℕ) (n : ℕ) → length octets + n ≤ 65535 → fits 65535 octets ≡ true
-fits_most octets n few = grind (arith, nat_tests)
 
 bare_length : (request : List ℕ) (rcode : ℕ) → length (message_wire (empty_answer request rcode)) ≡ bare_len request
 bare_length request rcode = refl
@@ -50,7 +48,6 @@ bare_length request rcode = refl
 bare_header : (request : List ℕ) (rcode : ℕ) → 12 ≤ length (message_wire (empty_answer request rcode))
 bare_header request rcode = omega arith
 
--- the messages by a module: one request, and what the transfer service gives for it
 module _ {M : Type 0} (r : Request M) (key : TsigKey) (sent given : Option (List Sending)) (signed : sent ≡ option_map (signed_items (signer_for r key) First None) given)
     (macs : IsTrue (is_mac_len key.algorithm key.signing_len)) (room : bare_len (taken_message r.message) + compose_len key ≤ 65535) (limit : ℕ) (small : limit ≤ 65535 - compose_len key) where
   abbrev message : List ℕ
@@ -64,7 +61,7 @@ module _ {M : Type 0} (r : Request M) (key : TsigKey) (sent given : Option (List
 
   paged_signed : (page : List Record) (prior : Option (List ℕ)) → fits limit (message_wire (page_answer message page)) ≡ true
       → can_be_signed (signer_for r key) prior (message_wire (page_answer message page)) ≡ true
-  paged_signed page prior fit = can_sign_within (signer_for r key) prior message page limit macs small fit
+  paged_signed page prior fit = can_sign_page (signer_for r key) prior message limit page macs small fit
 
   -- ---- one message
 
@@ -75,7 +72,7 @@ module _ {M : Type 0} (r : Request M) (key : TsigKey) (sent given : Option (List
   error_stands : (rcode : ℕ) → Stands (empty_answer message rcode) (error_reply message rcode)
   error_stands rcode =
       let m = message_wire (empty_answer message rcode) in
-      let fit : fits 65535 m ≡ true = fits_most m (compose_len key) (omega (arith, bare_length message rcode, room)) in
+      let fit : fits 65535 m ≡ true = fits_whole m (omega (arith, bare_length message rcode, room)) in
       (65535, (rw fit refl, bare_signed rcode None))
 
   either_stands : (page : List Record) (answer : Message) (other : Option Building) (fit : Bool) → fits limit (message_wire (page_answer message page)) ≡ fit → Stands answer other
@@ -90,52 +87,24 @@ module _ {M : Type 0} (r : Request M) (key : TsigKey) (sent given : Option (List
   udp_stands : (v : Version) (text : List Record) → Stands (udp_answer message limit v text) (udp_reply message limit v text)
   udp_stands v text = either_stands text (soa_answer message limit v) (soa_reply message limit v) (fits limit (message_wire (page_answer message text))) refl (soa_stands v)
 
-  one_signed : (answer : Message) (most : ℕ) → can_be_signed (signer_for r key) None (message_wire answer) ≡ true
-      → sent_by (signed_items (signer_for r key) First None (Given (reply_item (record { octets = message_wire answer; limit = most })) ∷ []))
-      ≡ record { messages = signed_from key (signer_for r key).request_mac r.at 300 None (map message_wire (answer ∷ [])); fails = false }
-  unfolding signed_from
-  one_signed answer most can = rw can refl
-
-  one_answer : (answer : Message) (reply : Option Building) → Stands answer reply → given ≡ sent_once reply → AreSent r key (answer ∷ []) sent
+  one_answer : (answer : Message) (reply : Option Building) → Stands answer reply → given ≡ sent_once reply → IsSentInTurn r key (answer ∷ []) sent
   one_answer answer reply stands is = record {
     items = signed_items (signer_for r key) First None (Given (reply_item (record { octets = message_wire answer; limit = stands.0 })) ∷ []);
     some = signed ∙ ap (option_map (signed_items (signer_for r key) First None)) (is ∙ ap sent_once stands.1.0);
-    messages = one_signed answer stands.0 stands.1.1;
+    messages = first_signed (signer_for r key) answer stands.0 stands.1.1;
   }
 
   -- ---- a text by a stream
 
-  last_signed : (answer : Message) (most : ℕ) (prior : Option (List ℕ)) → can_be_signed (signer_for r key) prior (message_wire answer) ≡ true
-      → sent_by (signed_items (signer_for r key) All prior (Given (reply_item (record { octets = message_wire answer; limit = most })) ∷ []))
-      ≡ record { messages = signed_from key (signer_for r key).request_mac r.at 300 prior (map message_wire (answer ∷ [])); fails = false }
-  unfolding signed_from
-  last_signed answer most prior can = rw can refl
-
-  abbrev EndsWith : Sending → List Message → Type 0
-  EndsWith last tail = (prior : Option (List ℕ)) → sent_by (signed_items (signer_for r key) All prior (last ∷ []))
-      ≡ record { messages = signed_from key (signer_for r key).request_mac r.at 300 prior (map message_wire tail); fails = false }
-
-  end_by : (fit : Bool) → EndsWith (if fit then Given (feedback_item EndTransaction) else servfail_sent message) (if fit then [] else empty_answer message servfail ∷ [])
+  end_by : (fit : Bool) → EndsWith (signer_for r key) (if fit then Given (feedback_item EndTransaction) else servfail_sent message) (if fit then [] else empty_answer message servfail ∷ [])
   unfolding signed_from
   end_by true prior = refl
   end_by false prior =
       ap (λ o. sent_by (signed_items (signer_for r key) All prior (option_map_or (λ reply. Given (reply_item reply)) o Failed ∷ []))) (error_stands servfail).1.0
-      ∙ last_signed (empty_answer message servfail) (error_stands servfail).0 prior (bare_signed servfail prior)
-
-  all_signed : (last : Sending) (tail : List Message) → EndsWith last tail → (pages : List (List Record)) (prior : Option (List ℕ)) → AllByRecursion (IsPage (page_room message limit)) pages
-      → sent_by (signed_items (signer_for r key) All prior (map (page_sent message limit) pages ++ last ∷ []))
-      ≡ record { messages = signed_from key (signer_for r key).request_mac r.at 300 prior (map message_wire (map (page_answer message) pages ++ tail)); fails = false }
-  unfolding signed_from
-  all_signed last tail ends [] prior each = ends prior
-  all_signed last tail ends (page ∷ more) prior each =
-      let s = signer_for r key in
-      let m = message_wire (page_answer message page) in
-      let next = Some (reply_tsig s prior m).mac in
-      page_signed s prior message limit page (map (page_sent message limit) more ++ last ∷ []) (paged_signed page prior (page_fits message limit page each.0))
-      ∙ ap (λ x. record { messages = signed_reply s prior m ∷ x.messages; fails = x.fails }) (all_signed last tail ends more next each.1)
+      ∙ last_signed (signer_for r key) (empty_answer message servfail) (error_stands servfail).0 prior (bare_signed servfail prior)
 
   text_sent : (singles : Bool) (text : List Record) (sends : SendsText message limit singles text given)
-      → AreSent r key (map (page_answer message) sends.2.2.pages ++ (if list_all (has_page (page_room message limit)) text then [] else empty_answer message servfail ∷ [])) sent
+      → IsSentInTurn r key (map (page_answer message) sends.2.2.pages ++ (if list_all (has_page (page_room message limit)) text then [] else empty_answer message servfail ∷ [])) sent
   text_sent singles text sends =
       let rest = sends.2.2 in
       let fit = list_all (has_page (page_room message limit)) text in
@@ -145,7 +114,7 @@ module _ {M : Type 0} (r : Request M) (key : TsigKey) (sent given : Option (List
         items = signed_items (signer_for r key) First None items;
         some = signed ∙ ap (option_map (signed_items (signer_for r key) First None))
             (sends.1 ∙ ap Some (sends.2.1 ∙ ap (λ xs. Given (feedback_item BeginTransaction) ∷ xs) rest.sent));
-        messages = all_signed (end_sent message limit text) (if fit then [] else empty_answer message servfail ∷ []) (end_by fit) rest.pages None each;
+        messages = pages_signed (signer_for r key) message limit (end_sent message limit text) (if fit then [] else empty_answer message servfail ∷ []) macs small (end_by fit) rest.pages None each;
       }
 
 -- ---- each choice
@@ -157,7 +126,7 @@ module _ {M : Type 0} (r : Request M) (key : TsigKey) (sent given : Option (List
 
   -- the messages that tell it, which are sent where there is room for a signature
   abbrev Told : Bool → Choice → Type 0
-  Told udp choice = (answers : List Message) × (Tell request limit udp choice answers × (bare_len request + compose_len key ≤ 65535 → AreSent r key answers sent))
+  Told udp choice = (answers : List Message) × (Tell request limit udp choice answers × (bare_len request + compose_len key ≤ 65535 → IsSentInTurn r key answers sent))
 
   choice_told : (udp : Bool) (choice : Choice) → SendsChoice request limit udp choice given → Told udp choice
   choice_told udp (Refuse rcode) sends =
@@ -196,13 +165,15 @@ module _ {M K : Type 0} (IsDefault : Option K → Type 0) (the_key : K → TsigK
       let P : Option XfrMode → Type 0 = λ o. SendsIn IsDefault Next told (accepted_request r key by_key.known) by_key.given o in
       let own : SendsAnswer (told request by_key.known) mode r.transport reserved request by_key.given = subst P asks by_key.next in
       let Q : Option K → Type 0 = λ o. SendsAnswer (told request o) mode r.transport reserved request by_key.given in
+      let answer = subst Q found.1.0 own in
       let made = choice_told r key sent by_key.given by_key.signed a.macs (reply_limit r.transport reserved) (limit_small (most_octets r.transport) r.reserved (compose_len key) a.octets)
-          (is_udp r.transport) (chosen (told request (Some found.0)) mode (is_udp r.transport) request) (subst Q found.1.0 own) in
-      record { found = found.0; is_found = found.1.1; answers = made.0; tell = made.1.0; signed = made.1.1 }
+          (is_udp r.transport) (chosen (told request (Some found.0)) mode (is_udp r.transport) request) answer in
+      record { found = found.0; is_found = found.1.1; given = by_key.given; answer = answer; signed = by_key.signed; answers = made.0; tell = made.1.0; in_turn = made.1.1 }
 
-  pub other_handed : (sent : Option (List Sending)) → OtherIsHandedOn (SendsChecked the_key keys (SendsTransfer IsDefault Next told)) keys IsDefault Next r key sent
-  other_handed sent a asks sends =
+  pub other_handed : ((m : Option K) → IsDefault m → m ≡ None) → (sent : Option (List Sending)) → OtherIsHandedOn (SendsChecked the_key keys (SendsTransfer IsDefault Next told)) keys Next r key sent
+  other_handed none sent a asks sends =
       let by_key = handed sent a sends in
       let P : Option XfrMode → Type 0 = λ o. SendsIn IsDefault Next told (accepted_request r key by_key.known) by_key.given o in
       let own = subst P asks by_key.next in
-      record { metadata = own.metadata; default = own.default; given = by_key.given; next = own.next; signed = by_key.signed }
+      let Q : Option K → Type 0 = λ o. Next (accepted_request r key o) by_key.given in
+      record { given = by_key.given; next = subst Q (none own.metadata own.default) own.next; signed = by_key.signed }

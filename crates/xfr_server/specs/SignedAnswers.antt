@@ -18,9 +18,9 @@ use Rattle.xfr_server.specs.Items.{Sending}
 use Rattle.xfr_server.specs.Requests.{is_udp}
 use Rattle.xfr_server.specs.Signing.{signed_items}
 use Rattle.xfr_server.specs.SignedServing.{accepted_request, signer_for}
-use Rattle.xfr_server.specs.Transfers.{Choice, chosen, transfer_mode, most_octets, reply_limit}
+use Rattle.xfr_server.specs.Transfers.{Choice, chosen, transfer_mode, most_octets, reply_limit, SendsAnswer}
 use Rattle.xfr_server.specs.Transfers.Choice.{Refuse, SoaAlone, Text}
-use Rattle.xfr_server.specs.GrantedTransfers.{AreSent}
+use Rattle.xfr_server.specs.GrantedTransfers.{IsSentInTurn}
 use Rattle.xfr_services.specs.Failing.{bare_len}
 use Rattle.xfr_server.specs.declared.providers.XfrDataProviderError.{XfrDataProviderError}
 use Rattle.xfr_services.specs.declared.requests.Request.{Request}
@@ -59,23 +59,24 @@ pub record IsAccepted {M : Type 0} (keys : Keys) (r : Request M) (key : TsigKey)
   pub macs : IsTrue (is_mac_len key.algorithm key.signing_len)
   pub octets : most_octets r.transport ≤ 65535
 
--- a transfer request is answered with what is chosen of the provider's offer to this key, in messages that leave room for the key's TSIG, signed one
--- after another; only questions that leave no room for a TSIG are left out
+-- a transfer request is answered as what is chosen of the provider's offer to this key, in messages that leave room for the key's TSIG: each item of
+-- that is signed in its turn; and where the questions alone leave room for a TSIG, what is sent is the messages that tell the choice
 pub record IsAnswered {M K : Type 0} (the_key : K → TsigKey) (told : List ℕ → Option K → Option ℕ → Result Offer XfrDataProviderError) (r : Request M) (key : TsigKey) (mode : XfrMode) (sent : Option (List Sending)) : Type 0 where
   pub found : K
   pub is_found : the_key found ≡ key
+  pub given : Option (List Sending)
+  pub answer : SendsAnswer (told (taken_message r.message) (Some found)) mode r.transport (min (r.reserved + compose_len key) 65535) (taken_message r.message) given
+  pub signed : sent ≡ option_map (signed_items (signer_for r key) First None) given
   pub answers : List Message
   pub tell : Tell (taken_message r.message) (reply_limit r.transport (min (r.reserved + compose_len key) 65535)) (is_udp r.transport)
       (chosen (told (taken_message r.message) (Some found)) mode (is_udp r.transport) (taken_message r.message)) answers
-  pub signed : bare_len (taken_message r.message) + compose_len key ≤ 65535 → AreSent r key answers sent
+  pub in_turn : bare_len (taken_message r.message) + compose_len key ≤ 65535 → IsSentInTurn r key answers sent
 
--- any other request is answered by the next service, with default metadata; its first reply is signed, and those of a transaction one after another;
--- one without room for the TSIG is replaced by its start, with TC (RFC 8945, 5.3)
-pub record IsHandedOn {M K : Type 0} (IsDefault : Option K → Type 0) (Next : Request (Option K) → Option (List Sending) → Type 0) (r : Request M) (key : TsigKey) (sent : Option (List Sending)) : Type 0 where
-  pub metadata : Option K
-  pub default : IsDefault metadata
+-- any other request is answered by the next service, which isn't told the key; its first reply is signed, and those of a transaction one after
+-- another; one without room for the TSIG is replaced by its start, with TC (RFC 8945, 5.3)
+pub record IsHandedOn {M K : Type 0} (Next : Request (Option K) → Option (List Sending) → Type 0) (r : Request M) (key : TsigKey) (sent : Option (List Sending)) : Type 0 where
   pub given : Option (List Sending)
-  pub next : Next (accepted_request r key metadata) given
+  pub next : Next (accepted_request r key None) given
   pub signed : sent ≡ option_map (signed_items (signer_for r key) First None) given
 
 -- the laws of signed requests: a primary of these services answers them so
@@ -84,7 +85,7 @@ abbrev pub TransferIsAnswered : {M K : Type 0} → (Request M → Option (List S
 TransferIsAnswered Sends the_key keys told r key mode sent =
     IsAccepted keys r key → transfer_mode (taken_message r.message) ≡ Some mode → Sends r sent → IsAnswered the_key told r key mode sent
 
-abbrev pub OtherIsHandedOn : {M K : Type 0} → (Request M → Option (List Sending) → Type 0) → Keys → (Option K → Type 0) → (Request (Option K) → Option (List Sending) → Type 0)
+abbrev pub OtherIsHandedOn : {M K : Type 0} → (Request M → Option (List Sending) → Type 0) → Keys → (Request (Option K) → Option (List Sending) → Type 0)
     → Request M → TsigKey → Option (List Sending) → Type 0
-OtherIsHandedOn Sends keys IsDefault Next r key sent =
-    IsAccepted keys r key → transfer_mode (taken_message r.message) ≡ None → Sends r sent → IsHandedOn IsDefault Next r key sent
+OtherIsHandedOn Sends keys Next r key sent =
+    IsAccepted keys r key → transfer_mode (taken_message r.message) ≡ None → Sends r sent → IsHandedOn Next r key sent
