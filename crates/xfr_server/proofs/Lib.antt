@@ -10,6 +10,7 @@ pub mod SentTexts
 pub mod Room
 pub mod Pages
 pub mod SignedPages
+pub mod OutOfRoom
 pub mod GrantedTransfers
 pub mod SignedAnswers
 pub mod LongRequests
