@@ -13,5 +13,6 @@ pub mod SignedPages
 pub mod OutOfRoom
 pub mod GrantedTransfers
 pub mod SignedAnswers
+pub mod JoinedAnswers
 pub mod LongRequests
 pub mod Accepted
