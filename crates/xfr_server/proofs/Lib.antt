@@ -6,8 +6,13 @@ pub mod Answers
 pub mod Adding
 pub mod Loops
 pub mod Choice
+pub mod SentTexts
 pub mod Room
 pub mod Pages
-pub mod FullTransfer
+pub mod SignedPages
+pub mod OutOfRoom
+pub mod GrantedTransfers
+pub mod SignedAnswers
+pub mod JoinedAnswers
 pub mod LongRequests
 pub mod Accepted

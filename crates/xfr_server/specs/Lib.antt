@@ -9,4 +9,8 @@ pub mod Transfers
 pub mod Choosing
 pub mod Streams
 pub mod Serving
-pub mod FullTransfer
+pub mod SentTexts
+pub mod GrantedTransfers
+pub mod SignedAnswers
+pub mod JoinedAnswers
+pub mod AnswerRows
