@@ -23,11 +23,11 @@ use Rattle.zone_script.proofs.LaterLines as edits
 use Rattle.zone_script.proofs.LaterLines.{GivesAlike, EditsStand, rest_alike}
 
 -- a zone as it is kept stands for a zone file, of which a line was the last
-record ZoneStands (z : OpeningZone) (f : ZoneFile) (last : ℕ) : Type 0 where
-  file : z.file ≡ kept f
-  line : is_whole z.file ≡ false → z.last_line ≡ last
+pub record ZoneStands (z : OpeningZone) (f : ZoneFile) (last : ℕ) : Type 0 where
+  pub file : z.file ≡ kept f
+  pub line : is_whole z.file ≡ false → z.last_line ≡ last
 
-abbrev ZonesStand : Option Zones → scripts.Script TsigKey → Type 0
+abbrev pub ZonesStand : Option Zones → scripts.Script TsigKey → Type 0
 ZonesStand None s = (s.stage ≡ 0) × (s.key ≡ None)
 ZonesStand (Some z) s = ZoneStands z.primary s.primary s.last_primary × ZoneStands z.secondary s.secondary s.last_secondary
 

@@ -236,7 +236,7 @@ module _ (o : Opened) (e : Edited) (s : scripts.Script TsigKey) (n : ℕ) (h : E
   change_stands c =
       subst (LaterAlike o (if not e.editing.asks && is_of_class e.editing.class (ChangeLine c) then make_change e n c else Err n))
       (sym (
-          (λ i. if (may_come_is o e s 6 h ∙ may_by e.editing.asks) i && sym (class_is c) i then take_from n (ChangeLine c) (opened_once o e s 6 h i) else Err n)))
+      (λ i. if (may_come_is o e s 6 h ∙ may_by e.editing.asks) i && sym (class_is c) i then take_from n (ChangeLine c) (opened_once o e s 6 h i) else Err n)))
       (by e.editing.asks (is_of_class e.editing.class (ChangeLine c)) refl)
     where
       may_by : (asks : Bool) → (nat_le (stage_in asks) 6 && not (scripts.is_once 6 && (stage_in asks == 6)) && ((6 == 1) || nat_le 1 (stage_in asks)) && (nat_le 6 2 || true)) ≡ not asks
