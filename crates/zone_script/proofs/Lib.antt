@@ -7,3 +7,4 @@ mod EditCauses
 mod LaterLines
 mod Agreement
 mod Parsing
+mod WordForms

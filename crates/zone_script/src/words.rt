@@ -7,6 +7,7 @@ use crate::numbers::number_below;
 use xfr_services::XfrMode;
 
 /// The kind of transfer that the words ask for, where no reader threads are asked for: `axfr` or `ixfr`, alone or with `0` after it.
+#[tactic(auto, using(crate::proofs::WordForms::alone, crate::proofs::WordForms::alone_other, crate::proofs::WordForms::with_none, crate::proofs::WordForms::with_none_other, crate::proofs::WordForms::with_some, crate::proofs::WordForms::too_many))]
 pub fn transfer_of(words: &[String]) -> Option<XfrMode>
     ensures asked { IfSome result (λ m. form_of (map string_bytes words.now) ≡ Some (Transfer (mode_of m) 0)) }
     ensures other { IfNone result ((m : Mode) → form_of (map string_bytes words.now) ≢ Some (Transfer m 0)) }
@@ -25,6 +26,7 @@ pub fn transfer_of(words: &[String]) -> Option<XfrMode>
 }
 
 /// The kind of transfer that the first word asks for.
+#[tactic(auto, using(crate::proofs::WordForms::is_axfr, crate::proofs::WordForms::is_ixfr, crate::proofs::WordForms::is_other))]
 fn mode_of_word(word: &String) -> Option<XfrMode>
     ensures asked { IfSome result (λ m. (more : List (List ℕ)) → form_of (string_bytes word.now ∷ more) ≡ with_readers (mode_of m) more) }
     ensures other { IfNone result ((more : List (List ℕ)) (m : Mode) (readers : ℕ) → form_of (string_bytes word.now ∷ more) ≢ Some (Transfer m readers)) }
