@@ -52,11 +52,4 @@ impl Commits {
     {
         self.entries
     }
-
-    /// The commits, lent in order.
-    pub fn as_slice(&self) -> &[(ReadZone, Option<InMemoryZoneDiff>)]
-        ensures { result.now ≡ self.now }
-    {
-        self.entries.as_slice()
-    }
 }
