@@ -1,0 +1,95 @@
+-- Which words ask for a transfer without reader threads.
+use Rattle.std.proofs.Common.{◌≡◌, ◌≢◌, ℕ, ◌^◌, Bool, true, false, if◌then◌else◌, List, [], ◌∷◌, refl, sym, ap, ◌∙◌, Option, Some, None, IfSome, codes, bytes_eq}
+use Rattle.std.specs.Prelude.{option_map, option_and_then, IfNone}
+use Rattle.zone_model.specs.TransferText.{Mode, Axfr, Ixfr}
+use Rattle.xfr_services.specs.declared.modes.XfrMode.{XfrMode}
+use Rattle.zone_script.specs.Script.{number_of, number_below}
+use Rattle.zone_script.specs.Words.{Form, Transfer, Generate, form_of, mode_of, with_readers, with_sizes, between}
+
+some_inverse : {A : Type 0} (x y : A) → Some x ≡ Some y → x ≡ y
+some_inverse x y h = cc
+
+not_none : {A : Type 0} (x : A) → None ≢ Some x
+not_none x h = cc
+
+not_generated : (n s : ℕ) (m : Mode) (k : ℕ) → Some (Generate n s) ≢ Some (Transfer m k)
+not_generated n s m k h = cc
+
+sizes_other : (more : List (List ℕ)) (m : Mode) (k : ℕ) → with_sizes more ≢ Some (Transfer m k)
+sizes_other [] m k = not_none (Transfer m k)
+sizes_other (n ∷ []) m k = not_none (Transfer m k)
+sizes_other (n ∷ seed ∷ []) m k = by (option_and_then (between 1 100000) (number_of n)) (number_below (2 ^ 64) seed)
+  where
+    by : (a b : Option ℕ) → option_and_then (λ x. option_map (Generate x) b) a ≢ Some (Transfer m k)
+    by None b = not_none (Transfer m k)
+    by (Some x) None = not_none (Transfer m k)
+    by (Some x) (Some y) = not_generated x y m k
+sizes_other (n ∷ seed ∷ x ∷ more) m k = not_none (Transfer m k)
+
+-- the first word
+pub is_axfr : (w : List ℕ) → bytes_eq w (codes "axfr") ≡ true → (more : List (List ℕ)) → form_of (w ∷ more) ≡ with_readers Axfr more
+is_axfr w h more = ap (λ b. if b then with_readers Axfr more else if bytes_eq w (codes "ixfr") then with_readers Ixfr more else if bytes_eq w (codes "gen") then with_sizes more else None) h
+
+pub is_ixfr : (w : List ℕ) → bytes_eq w (codes "axfr") ≡ false → bytes_eq w (codes "ixfr") ≡ true → (more : List (List ℕ)) → form_of (w ∷ more) ≡ with_readers Ixfr more
+is_ixfr w g h more =
+    ap (λ b. if b then with_readers Axfr more else if bytes_eq w (codes "ixfr") then with_readers Ixfr more else if bytes_eq w (codes "gen") then with_sizes more else None) g
+    ∙ ap (λ b. if b then with_readers Ixfr more else if bytes_eq w (codes "gen") then with_sizes more else None) h
+
+pub is_other : (w : List ℕ) → bytes_eq w (codes "axfr") ≡ false → bytes_eq w (codes "ixfr") ≡ false → (more : List (List ℕ)) (m : Mode) (k : ℕ) → form_of (w ∷ more) ≢ Some (Transfer m k)
+is_other w g h more m k e = by (bytes_eq w (codes "gen")) (sym reduced ∙ e)
+  where
+    reduced : form_of (w ∷ more) ≡ (if bytes_eq w (codes "gen") then with_sizes more else None)
+    reduced =
+        ap (λ b. if b then with_readers Axfr more else if bytes_eq w (codes "ixfr") then with_readers Ixfr more else if bytes_eq w (codes "gen") then with_sizes more else None) g
+        ∙ ap (λ b. if b then with_readers Ixfr more else if bytes_eq w (codes "gen") then with_sizes more else None) h
+
+    by : (b : Bool) → (if b then with_sizes more else None) ≡ Some (Transfer m k) → ⊥
+    by true f = sizes_other more m k f
+    by false f = not_none (Transfer m k) f
+
+abbrev IsMode : Option XfrMode → List ℕ → Type 0
+IsMode r w = IfSome r (λ m. (more : List (List ℕ)) → form_of (w ∷ more) ≡ with_readers (mode_of m) more)
+
+abbrev IsNoMode : Option XfrMode → List ℕ → Type 0
+IsNoMode r w = IfNone r ((more : List (List ℕ)) (m : Mode) (readers : ℕ) → form_of (w ∷ more) ≢ Some (Transfer m readers))
+
+-- it alone
+pub alone : (r : Option XfrMode) (w : List ℕ) → IsMode r w → IfSome r (λ m. form_of (w ∷ []) ≡ Some (Transfer (mode_of m) 0))
+alone None w h = tt
+alone (Some m) w h = h []
+
+pub alone_other : (r : Option XfrMode) (w : List ℕ) → IsNoMode r w → IfNone r ((m : Mode) → form_of (w ∷ []) ≢ Some (Transfer m 0))
+alone_other None w h = λ m. h [] m 0
+alone_other (Some m) w h = tt
+
+-- with no reader threads
+pub with_none : (r : Option XfrMode) (w k : List ℕ) → number_below 17 k ≡ Some 0 → IsMode r w → IfSome r (λ m. form_of (w ∷ k ∷ []) ≡ Some (Transfer (mode_of m) 0))
+with_none None w k e h = tt
+with_none (Some m) w k e h = h (k ∷ []) ∙ ap (option_map (Transfer (mode_of m))) e
+
+pub with_none_other : (r : Option XfrMode) (w k : List ℕ) → IsNoMode r w → IfNone r ((m : Mode) → form_of (w ∷ k ∷ []) ≢ Some (Transfer m 0))
+with_none_other None w k h = λ m. h (k ∷ []) m 0
+with_none_other (Some m) w k h = tt
+
+-- with others, or with more words
+readers_of : (m n : Mode) (o : Option ℕ) → option_map (Transfer m) o ≡ Some (Transfer n 0) → o ≡ Some 0
+readers_of m n None h = absurd (not_none (Transfer n 0) h)
+readers_of m n (Some k) h = cc
+
+pub with_some : (w k : List ℕ) (m : Mode) → number_below 17 k ≢ Some 0 → form_of (w ∷ k ∷ []) ≢ Some (Transfer m 0)
+with_some w k m ne e = by (bytes_eq w (codes "axfr")) (bytes_eq w (codes "ixfr")) (bytes_eq w (codes "gen")) e
+  where
+    by : (a b c : Bool) → (if a then with_readers Axfr (k ∷ []) else if b then with_readers Ixfr (k ∷ []) else if c then with_sizes (k ∷ []) else None) ≡ Some (Transfer m 0) → ⊥
+    by true b c f = ne (readers_of Axfr m (number_below 17 k) f)
+    by false true c f = ne (readers_of Ixfr m (number_below 17 k) f)
+    by false false true f = not_none (Transfer m 0) f
+    by false false false f = not_none (Transfer m 0) f
+
+pub too_many : (w k l : List ℕ) (more : List (List ℕ)) (m : Mode) → form_of (w ∷ k ∷ l ∷ more) ≢ Some (Transfer m 0)
+too_many w k l more m e = by (bytes_eq w (codes "axfr")) (bytes_eq w (codes "ixfr")) (bytes_eq w (codes "gen")) e
+  where
+    by : (a b c : Bool) → (if a then None else if b then None else if c then with_sizes (k ∷ l ∷ more) else None) ≡ Some (Transfer m 0) → ⊥
+    by true b c f = not_none (Transfer m 0) f
+    by false true c f = not_none (Transfer m 0) f
+    by false false true f = sizes_other (k ∷ l ∷ more) m 0 f
+    by false false false f = not_none (Transfer m 0) f
