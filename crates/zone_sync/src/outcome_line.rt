@@ -7,6 +7,7 @@ use crate::outcome::{SyncError, SyncOk};
 use std::alloc::{AllocError, Global};
 use tsig_port::ValidationError;
 use xfr_client::{protocol, update};
+use zone_report::append_number;
 
 /// The outcome line at the end of `out`; it has the number of versions made where the transfer brought one. Want of memory isn't
 /// reported.
@@ -130,12 +131,4 @@ fn append_update(out: &mut Vec<u8>, why: update::Error) -> Result<(), AllocError
         }
         update::Error::Memory => Err(AllocError),
     }
-}
-
-/// A number in decimal digits at the end of `out`.
-pub(crate) fn append_number(alloc: Global, out: &mut Vec<u8>, number: u64) -> Result<(), AllocError>
-    ensures { OnOk result (out.new.items ≡ out.old.items ++ decimal number) }
-{
-    let text = format!(in alloc; "{number}")?;
-    out.extend_from_slice(text.as_bytes())
 }

@@ -1,9 +1,9 @@
 //! The answers to a script's questions.
 ghost use Rattle.std.specs.Prelude.{◌≡◌, ◌++◌, ◌∷◌, [], OnOk, flat_map, codes, decimal};
 ghost use Rattle.dns_rdata.specs.Records.{record_wire};
-ghost use Rattle.zone_sync.specs.Report.{line, flag_word, record_line, answer_lines, query_lines};
+ghost use Rattle.zone_report.specs.Lines.{line, flag_word, record_line, answer_lines, query_lines};
 
-use crate::outcome_line::append_number;
+use crate::numbers::append_number;
 use dns_name::{Rcode, StoredName};
 use dns_rdata::ComposeRecord;
 use std::alloc::{AllocError, Global};
@@ -13,7 +13,7 @@ use zone_sessions::ReadZone;
 
 /// What a version answers to questions, in order: for each `answer RCODE AA`, AA 1 where the zone has authority, with a line `an HEX`,
 /// `au HEX` or `ad HEX` for each record of the three sections; or `answer out-of-zone`.
-pub(crate) fn append_answers(
+pub fn append_answers(
     alloc: Global,
     out: &mut Vec<u8>,
     zone: &ReadZone,

@@ -1,8 +1,8 @@
 use Rattle.std.proofs.Common.{◌≡◌, All, ◌++◌, length, map}
 use Rattle.std.specs.Prelude.{flat_map}
 use Rattle.dns_rdata.specs.ZoneData.{rtype_of, data_fields}
-use Rattle.zone_sync.specs.Lines.{item_line}
-use Rattle.zone_sync.proofs.report.append_items.Given as goal
+use Rattle.zone_report.specs.Lines.{item_line}
+use Rattle.zone_report.proofs.walk_lines.append_items.Given as goal
 
 abbrev pub invariant-lines : goal.invariant-lines
 invariant-lines l = record {

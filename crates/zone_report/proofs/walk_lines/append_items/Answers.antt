@@ -1,7 +1,7 @@
 use Rattle.dns_rdata.specs.ZoneData.{rtype_of, data_fields}
-use Rattle.zone_sync.specs.Lines.{item_line}
-use Rattle.zone_sync.proofs.ReportSteps.{typed_rest, one_line}
-use Rattle.zone_sync.proofs.report.append_items.Goals as goal
+use Rattle.zone_report.specs.Lines.{item_line}
+use Rattle.zone_report.proofs.WalkLines.{typed_rest, one_line}
+use Rattle.zone_report.proofs.walk_lines.append_items.Goals as goal
 
 pub append_item-requires : goal.append_item-requires
 append_item-requires c =

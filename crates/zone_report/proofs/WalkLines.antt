@@ -6,8 +6,8 @@ use Rattle.std.proofs.lemmas.List.Elements.{All-head, All-tail}
 use Rattle.dns_rdata.specs.Records.{Field, record_wire}
 use Rattle.zone_model.specs.Version.{Version}
 use Rattle.zone_model.specs.Walk.{Stop}
-use Rattle.zone_sync.specs.Report.{stop_lines, record_line, flag_word}
-use Rattle.zone_sync.specs.Lines.{item_line, set_record}
+use Rattle.zone_report.specs.Lines.{stop_lines, record_line, flag_word}
+use Rattle.zone_report.specs.Lines.{item_line, set_record}
 
 lines_of_items : (class : ℕ) (s : Stop) (ds : List (List Field))
     → flat_map (record_line record_wire (codes "rr" ∷ flag_word record_wire s.below_cut ∷ [])) (map (set_record class s) ds) ≡ flat_map (item_line class s) ds
