@@ -1,8 +1,7 @@
 //! The report of a transfer.
-ghost use Rattle.std.specs.Prelude.{◌≡◌, [], IfOk, IsSomeAnd};
+ghost use Rattle.std.specs.Prelude.{◌≡◌, [], IfOk};
 ghost use Rattle.dns_rdata.specs.Records.{record_wire};
 ghost use Rattle.zone_sync.specs.Report.{report};
-ghost use Rattle.zone_sync.specs.Ending.{outcome_of};
 
 use crate::outcome::{SyncError, SyncOk};
 use crate::outcome_line::append_outcome;
@@ -11,7 +10,7 @@ use zone_report::{append_answers, append_walk};
 use zone_script::queries::Query;
 use zone_sessions::ReadZone;
 
-/// The report of a transfer: the outcome line, with the number of versions made where it ended well, and a line `rr F HEX` for
+/// The report of a transfer: the answer's line, with the number of versions made where it ended well, and a line `rr F HEX` for
 /// each record of a version, owners in canonical order, types ascending; F is 1 at or below a zone cut. Then what the version answers to the
 /// questions.
 pub fn report_octets(
@@ -21,7 +20,7 @@ pub fn report_octets(
     zone: &ReadZone,
     queries: &[Query],
 ) -> Result<Vec<u8>, AllocError>
-    ensures { IfOk result (λ v. IsSomeAnd (outcome_of outcome.now) (λ how. v.items ≡ report record_wire how made zone.now.version queries.now [])) }
+    ensures { IfOk result (λ v. v.items ≡ report record_wire outcome.now made zone.now.version queries.now []) }
 {
     let mut out = Vec::new(alloc);
     append_outcome(alloc, &mut out, outcome, made)?;
