@@ -17,3 +17,4 @@ pub mod Transfers
 pub mod Fitting
 pub mod Delivery
 pub mod Grants
+pub mod LongQuestions
