@@ -5,7 +5,10 @@ use Rattle.tsig_port.specs.Tsig.{TsigKey, request_tsig, signed_request}
 use Rattle.tsig_port.specs.Checked.{answer_fault, taken_message, passing, first_fault}
 use Rattle.tsig_port.specs.declared.errors.ValidationError.{ValidationError}
 use Rattle.zone_model.specs.Commits.{Commit}
-use Rattle.zone_model.specs.TransferText.{Mode}
+use Rattle.dns_rdata.specs.Records.{Record}
+use Rattle.zone_model.specs.Version.{Version}
+use Rattle.zone_model.specs.Answer.{apex_soa_record}
+use Rattle.zone_model.specs.TransferText.{Mode, Axfr, Ixfr}
 use Rattle.xfr_model.specs.Messages.{ReadMessage, type_of, message_of}
 use Rattle.dns_wire.specs.declared.builder.PushError.TheVariants.{ShortBuf}
 use Rattle.zone_sync.specs.declared.outcome.SyncError.{SyncError}
@@ -16,9 +19,9 @@ use Rattle.xfr_course.specs.Client.{Client, new_client, take_course}
 
 -- ---- the request
 
--- a message that only asks: all flags 0, and one question (RFC 5936, 2.1)
-abbrev pub asking : ℕ → Question → Message
-asking id q = record { header = header_of id 0; questions = q ∷ []; answers = []; authority = []; additional = [] }
+-- a message that only asks: all flags 0, one question, and authority records (RFC 5936, 2.1; RFC 1995, 3)
+abbrev pub asking : ℕ → Question → List Record → Message
+asking id q authority = record { header = header_of id 0; questions = q ∷ []; answers = []; authority = authority; additional = [] }
 
 -- what a secondary asks with: key, mode, moment, and the commit that is current as it asks
 pub record Asking : Type 0 where
@@ -33,13 +36,21 @@ asks_with key mode at base = record { key = key; mode = mode; at = at; base = ba
 abbrev pub asked_question : Asking → Question
 asked_question a = record { qname = a.base.version.apex; qtype = type_of a.mode; qclass = a.base.version.class }
 
+-- for what is newer, the first apex SOA record of the base (RFC 1995, 3)
+abbrev pub authority_of : Mode → Version → List Record
+authority_of Axfr base = []
+authority_of Ixfr base = apex_soa_record base
+
+abbrev pub asked_authority : Asking → List Record
+asked_authority a = authority_of a.mode a.base.version
+
 -- the id is the low 16 bits of the moment
 abbrev pub asked_id : Asking → ℕ
 asked_id a = a.at % 2 ^ 16
 
 -- the request before it is signed
 abbrev pub request_message : Asking → Message
-request_message a = asking (asked_id a) (asked_question a)
+request_message a = asking (asked_id a) (asked_question a) (asked_authority a)
 
 -- the request, signed with the fudge of 300 seconds, and its MAC
 unfoldable pub asked_octets : Asking → List ℕ
