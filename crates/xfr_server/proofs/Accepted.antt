@@ -71,7 +71,7 @@ soa_of_items : (v : Version) (ttl : ℕ) (items : List (List Field)) → (length
 soa_of_items v ttl [] e = cc
 soa_of_items v ttl (d ∷ more) e = (record { owner = v.apex; rtype = type_soa; class = v.class; ttl = ttl; fields = d }, (refl, refl))
 
-soa_of : (v : Version) (o : Option RecordSet) → (length (option_map_or (λ (s : RecordSet). s.items) o []) == 1) ≡ true
+pub soa_of : (v : Version) (o : Option RecordSet) → (length (option_map_or (λ (s : RecordSet). s.items) o []) == 1) ≡ true
     → (r : Record) × ((records_of_option v.apex type_soa v.class (option_map first_only o) ≡ r ∷ []) × (is_soa r ≡ true))
 soa_of v None e = cc
 soa_of v (Some s) e = soa_of_items v s.ttl s.items e

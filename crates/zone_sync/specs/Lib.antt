@@ -16,3 +16,4 @@ pub mod Transfers
 pub mod Fitting
 pub mod Delivery
 pub mod Grants
+pub mod LongQuestions

@@ -1,2 +1,2 @@
 -- The modes of the calls, as those of the definitions.
-pub use Rattle.zone_script.specs.Words.{mode_of}
+pub use Rattle.xfr_server.specs.SentTexts.{mode_of}

@@ -13,7 +13,8 @@ ghost use Rattle.zone_script.specs.Script as scripts;
 ghost use Rattle.zone_script.specs.Script.{script_of};
 ghost use Rattle.tsig_port.specs.Tsig.{TsigKey};
 ghost use Rattle.zone_script.specs.ScriptReaders.{wire_readers};
-ghost use Rattle.zone_script.specs.Words.{form_of, mode_of, Transfer};
+ghost use Rattle.zone_script.specs.Words.{form_of, Transfer};
+ghost use Rattle.zone_sync.specs.Modes.{mode_of};
 
 use crate::laws::history_primaries_grant;
 use crate::outcome::{SyncError, SyncOk};

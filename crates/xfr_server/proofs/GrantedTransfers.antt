@@ -25,7 +25,7 @@ use Rattle.xfr_server.specs.Transfers.Choice.{Text}
 use Rattle.xfr_server.specs.Signing.{Signer, can_be_signed, reply_tsig, signed_reply, signed_items}
 use Rattle.xfr_server.specs.Serving.{SendsIn, SendsTransfer}
 use Rattle.xfr_server.specs.SignedServing.{SendsBy, SendsSigned, accepted_request, signer_for, SendsChecked}
-use Rattle.xfr_server.specs.FullTransfer.{SendsWhole}
+use Rattle.xfr_server.specs.GrantedTransfers.{SendsWhole}
 use Rattle.xfr_server.specs.declared.providers.XfrDataProviderError.{XfrDataProviderError}
 use Rattle.xfr_services.specs.declared.requests.Request.{Request}
 use Rattle.xfr_services.specs.declared.requests.TransportSpecificContext.{TransportSpecificContext}

@@ -2,7 +2,7 @@ use Rattle.xfr_server.proofs.FullTransfer.{whole_sent}
 use Rattle.zone_sync.specs.SoFar.{asked_octets}
 use Rattle.zone_sync.specs.Serving.{request_at}
 use Rattle.zone_sync.proofs.Grants.{granted}
-use Rattle.zone_sync.proofs.laws.granting_primaries_send_the_whole.Goals as goal
+use Rattle.zone_sync.proofs.laws.granting_primaries_send_the_offered_text.Goals as goal
 
 pub returns : goal.returns
 returns g c = λ next provider keys a at offer sent o f.
