@@ -12,10 +12,11 @@ ghost use Rattle.xfr_model.specs.Machine.{Place};
 ghost use Rattle.zone_model.specs.Updates.{Progress};
 ghost use Rattle.xfr_client.specs.Causes.{update_of};
 ghost use Rattle.xfr_client.specs.Places.{first_serial};
+ghost use Rattle.xfr_course.specs.Client.{IsBetween};
 ghost use Rattle.zone_sync.specs.Modes.{mode_of};
 ghost use Rattle.zone_sync.specs.SoFar.{Asking, asked_octets, asked_mac, asked_id, asked_question, authority_of, message_so_far, asking, asks_other, AsksWith, CanAsk, CantAsk, IsTooLong, PushesFirst};
 ghost use Rattle.zone_sync.specs.Ending.{same_serial, settled};
-ghost use Rattle.zone_sync.specs.Standing.{asking_of, Stands, TakesReply, ExchangeStands, IsUnderWay, ReadsWhole};
+ghost use Rattle.zone_sync.specs.Standing.{asking_of, Stands, TakesReply, ExchangeStands, ReadsWhole};
 ghost use Rattle.zone_sync.specs.Replies.{AnswersReply, AnswersRequest, IsAnswerTo, TestsReply, TakesMessage};
 ghost use Rattle.zone_sync.specs.Steps.{Ahead, KeepsWish, StaysStill, TakesOne, TakesAll};
 
@@ -252,7 +253,7 @@ impl Exchange {
     /// What a checked reply says, where it answers the request and is one of a transfer.
     fn read<'m>(&mut self, message: &'m MessageBuf) -> Result<XfrZoneUpdateIterator<'m>, SyncError>
         ensures tests { (a : Asking) (begun : Bool) (place : Place) → self.old.id ≡ asked_id a → self.old.question ≡ asked_question a
-            → self.old.interpreter ≡ record { begun = begun; place = place; signalled = false } → IsUnderWay a.mode begun place
+            → self.old.interpreter ≡ record { begun = begun; place = place; signalled = false } → IsBetween begun place a.mode
             → TestsReply a begun place (message_so_far message.now) self.new.interpreter result }
         ensures others { self.new ≡ record self.old { interpreter = self.new.interpreter } }
     {
