@@ -2,7 +2,7 @@ mod NumberSteps
 mod CutSteps
 mod FileLaws
 mod Refused
-mod ReadLines
 mod KeyFields
+mod LaterLines
 mod Agreement
 mod Parsing
