@@ -18,3 +18,4 @@ pub mod Fitting
 pub mod Delivery
 pub mod Grants
 pub mod LongQuestions
+pub mod GrantRows
