@@ -69,7 +69,7 @@ two_together room text (x ∷ []) ((r ∷ rest) ∷ more) cut both =
     let here : (nat_le (length (x ∷ r ∷ tail)) 1 || nat_le (room_of (x ∷ r ∷ [])) room) ≡ true = ap (λ l. nat_le (length l) 1 || nat_le (room_of (take 2 l)) room) cut.joined ∙ both in
     let fits : nat_le (room_of (x ∷ r ∷ [])) room ≡ true = sym (ap (λ b. b || nat_le (room_of (x ∷ r ∷ [])) room) many) ∙ here in
     let sum : room_of (x ∷ r ∷ []) ≡ room_of (x ∷ []) + length (record_wire r) =
-        omega (arith, sum_by-cons (λ r. length (record_wire r)) x (r ∷ []), sum_by-cons (λ r. length (record_wire r)) r [], sum_by-cons (λ r. length (record_wire r)) x []) in
+    omega (arith, sum_by-cons (λ r. length (record_wire r)) x (r ∷ []), sum_by-cons (λ r. length (record_wire r)) r [], sum_by-cons (λ r. length (record_wire r)) x []) in
     absurd (true≢false (sym apart ∙ ap (λ n. not (nat_le n room)) (sym sum) ∙ ap not fits))
 two_together room text (x ∷ y ∷ page) more cut both =
     let two : nat_le 2 (length (x ∷ y ∷ page)) ≡ true = le-leb 2 (length (x ∷ y ∷ page)) (omega arith) in

@@ -325,14 +325,14 @@ module _ (a : Asking) (ok : IsKey a.key) (early : a.at < 2 ^ 48) (name : is_name
       let ok_soa : AllByRecursion IsRecord (s ∷ []) = subst (AllByRecursion IsRecord) only soa in
       let ok_data : HaveData (s ∷ []) = subst HaveData only pieces in
       let octets : M ++ r ≡ (front ++ w) ++ (record_wire s ++ r) =
-          ap (λ x. front ++ (x ++ r)) (append-nil (w ++ [] ++ flat_map record_wire (asked_authority a)) ∙ ap (λ x. x ++ flat_map record_wire (asked_authority a)) (append-nil w) ∙ ap (λ l. w ++ flat_map record_wire l) only ∙ ap (λ x. w ++ x) (append-nil (record_wire s)))
-          ∙ ap (λ x. front ++ x) (append_assoc w (record_wire s) r) ∙ sym (append_assoc front w (record_wire s ++ r)) in
+      ap (λ x. front ++ (x ++ r)) (append-nil (w ++ [] ++ flat_map record_wire (asked_authority a)) ∙ ap (λ x. x ++ flat_map record_wire (asked_authority a)) (append-nil w) ∙ ap (λ l. w ++ flat_map record_wire l) only ∙ ap (λ x. w ++ x) (append-nil (record_wire s)))
+      ∙ ap (λ x. front ++ x) (append_assoc w (record_wire s) r) ∙ sym (append_assoc front w (record_wire s ++ r)) in
       let place : length (front ++ w) ≡ p = length-append front w ∙ sym (add-zero (12 + length w)) in
       let head = head_at p s in
       let readings : authority_readings (taken_message (asked_octets a)) ≡ Some head ∷ [] = taken_authority ∙ ap (λ rs. map (λ r. Some r) (heads_from p rs)) only in
       let typed_so : (s.rtype == type_soa) ≡ true = eq-eqb s.rtype type_soa typed in
       let there : readable (taken_message (asked_octets a)) head ≡ Some s =
-          ap (λ x. readable x head) (taken_is ∙ octets) ∙ ap (λ k. readable ((front ++ w) ++ (record_wire s ++ r)) (head_at k s)) (sym place) ∙ readable_again (front ++ w) s r ok_soa.0 ok_data.0 in
+      ap (λ x. readable x head) (taken_is ∙ octets) ∙ ap (λ k. readable ((front ++ w) ++ (record_wire s ++ r)) (head_at k s)) (sym place) ∙ readable_again (front ++ w) s r ok_soa.0 ok_data.0 in
       ap (first_serial (taken_message (asked_octets a))) readings
       ∙ ap (λ b. if b then option_map (λ (x : Record). serial_of x.fields) (readable (taken_message (asked_octets a)) head) else None) typed_so
       ∙ ap (option_map (λ (x : Record). serial_of x.fields)) there

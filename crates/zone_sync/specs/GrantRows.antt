@@ -1,5 +1,5 @@
 -- Worked transfers that have to succeed: a primary that keeps a history of three versions, and secondaries that have the first or the last of them.
-use Rattle.std.specs.Prelude.{ℕ, List, [], ◌∷◌, codes}
+use Rattle.std.specs.Prelude.{ℕ, false, List, [], ◌∷◌, codes}
 use Rattle.dns_rdata.specs.Records.{Record}
 use Rattle.tsig_port.specs.Tsig.{TsigKey}
 use Rattle.tsig_keys.specs.Hmac.{block_key}
