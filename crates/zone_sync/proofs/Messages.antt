@@ -67,7 +67,7 @@ ends_there base before u s handles g all old f b e l is early cause =
     inr (
       subst (λ (x : Held). HasMade base before s handles x.progress.committed) (sym held) l.ahead.made,
       subst (λ (x : Held). IsCause x.halt all.run.fault all.retry e) (sym held)
-      (subst (λ x. IsCause None x all.retry e) (sym fault) (subst (λ x. IsCause None f x e) (sym retry) (early, cause))),
+          (subst (λ x. IsCause None x all.retry e) (sym fault) (subst (λ x. IsCause None f x e) (sym retry) (early, cause))),
     )
 
 -- the iterator's error

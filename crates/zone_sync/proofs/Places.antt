@@ -118,12 +118,12 @@ past_none r h = record {
 first_signals : (mode : Mode) (s : Record) (others : List (Option Record)) → is_soa s ≡ true → Signals mode false (run_items mode AtStart (map record_item (Some s ∷ others)))
 first_signals Axfr s others h = inl (past_none (run_items Axfr AtStart (map record_item (Some s ∷ others))) (items_past Axfr (InWhole s) (map record_item others) refl))
 first_signals Ixfr s [] h = inr (record {
-      told = refl;
-      serial = serial_of s.fields;
-      signal = ap (λ b. if b then Some (serial_of s.fields) else None) h;
-      found = refl;
-      asked = refl;
-    })
+  told = refl;
+  serial = serial_of s.fields;
+  signal = ap (λ b. if b then Some (serial_of s.fields) else None) h;
+  found = refl;
+  asked = refl;
+})
 first_signals Ixfr s (None ∷ more) h = inl (record { told = refl; none = refl })
 first_signals Ixfr s (Some r ∷ more) h =
     inl (past_none (run_items Ixfr AtStart (map record_item (Some s ∷ Some r ∷ more))) (items_past Ixfr (step Ixfr (AtSecond s) r).place (map record_item more) (second_past Ixfr s r)))
