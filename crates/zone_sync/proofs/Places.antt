@@ -1,13 +1,12 @@
 -- Where a transfer stands between messages, and what a reply to it says.
 use Rattle.std.proofs.Common.{◌≡◌, ℕ, Bool, true, false, not, ◌&&◌, ◌==◌, if◌then◌else◌, List, [], ◌∷◌, map, length, refl, sym, ap, ◌∙◌, subst, ◌⊎◌, inl, inr, Option, Some, None, is_some}
-use Rattle.std.proofs.lemmas.Bool.{and_left}
 use Rattle.std.proofs.Math.Bool.{and-false}
 use Rattle.dns_rdata.specs.Records.{Record}
 use Rattle.dns_rdata.specs.Soa.{serial_of}
 use Rattle.dns_wire.specs.Wire.{Question}
-use Rattle.zone_model.specs.TransferText.{Mode, Axfr, Ixfr, is_soa}
+use Rattle.zone_model.specs.TransferText.{Mode, Axfr, Ixfr}
 use Rattle.xfr_model.specs.Messages.{ReadMessage, type_of}
-use Rattle.xfr_model.specs.Read.{Fault, NotValid, Malformed, OtherAnswer, record_item, is_other, is_transfer_head, asks_transfer, first_record_fault, message_fault, request_fault}
+use Rattle.xfr_model.specs.Read.{record_item, request_fault}
 use Rattle.xfr_model.specs.Interpreter.{mode_asked}
 use Rattle.xfr_model.specs.Machine.{Place, AtStart, AtSecond, InWhole, InDeletes, InAdds, AtEnd, is_at_end, Run, step, run_items, signal_of}
 use Rattle.xfr_model.proofs.FinerSteps.{names_mode}
@@ -16,6 +15,7 @@ use Rattle.xfr_client.specs.Places.{is_at_second, first_serial}
 use Rattle.xfr_client.specs.Rest.{asks_again}
 use Rattle.xfr_client.proofs.Places.{is_begun, any_mode}
 use Rattle.xfr_course.specs.Client.{IsBetween}
+use Rattle.xfr_course.proofs.Between.{BeginsSoa, first_begins}
 
 -- between messages the end wasn't read, and after a first one the first record was
 pub way_open : (begun : Bool) (p : Place) (mode : Mode) → IsBetween begun p mode → is_at_end p ≡ false
@@ -47,41 +47,6 @@ mode_run mode id q true p m t w h =
     let b = way_begun p mode w in
     any_mode (mode_asked m.questions) (map record_item m.answers) p b ∙ sym (any_mode mode (map record_item m.answers) p b)
 mode_run mode id q false p m t w h = ap (λ x. run_items x p (map record_item m.answers)) (names_mode mode id q m [] t h)
-
--- a first message without a fault begins with an SOA record
-pub record BeginsWith (answers : List (Option Record)) : Type 0 where
-  pub first : Record
-  pub others : List (Option Record)
-  pub are : answers ≡ Some first ∷ others
-  pub soa : is_soa first ≡ true
-
--- what stands in a message that isn't refused by itself
-judged : (b : Bool) (f : Option Fault) (e : Fault) → (if b then Some e else f) ≡ None → (b ≡ false) × (f ≡ None)
-judged true f e h = absurd (cc h)
-judged false f e h = (refl, h)
-
-soa_first : (s : Record) (b : Bool) → is_soa s ≡ b → (if b then None else Some NotValid) ≡ None → is_soa s ≡ true
-soa_first s true e h = e
-soa_first s false e h = absurd (cc h)
-
-begins : (m : ReadMessage) (answers : List (Option Record)) → m.answers ≡ answers → message_fault true m ≡ None → BeginsWith m.answers
-begins m (Some r ∷ more) e h =
-    let a = judged (not (is_transfer_head true m)) (if not true then None else if not (asks_transfer m.questions) then Some Malformed else first_record_fault m.answers) NotValid h in
-    let b = judged (not (asks_transfer m.questions)) (first_record_fault m.answers) Malformed a.1 in
-    record { first = r; others = more; are = e; soa = soa_first r (is_soa r) refl (sym (ap first_record_fault e) ∙ b.1) }
-begins m (None ∷ more) e h =
-    let a = judged (not (is_transfer_head true m)) (if not true then None else if not (asks_transfer m.questions) then Some Malformed else first_record_fault m.answers) NotValid h in
-    let b = judged (not (asks_transfer m.questions)) (first_record_fault m.answers) Malformed a.1 in
-    absurd (cc (sym (ap first_record_fault e) ∙ b.1))
-begins m [] e h =
-    let a = judged (not (is_transfer_head true m)) (if not true then None else if not (asks_transfer m.questions) then Some Malformed else first_record_fault m.answers) NotValid h in
-    let none : is_transfer_head true m ≡ false =
-    ap (λ l. m.header.qr && (m.header.opcode == 0) && not m.header.tc && (m.header.rcode == 0) && not (length l == 0) && (m.authority == 0) && (length m.questions == 1)) e
-    ∙ and_left _ (length m.questions == 1) (and_left _ (m.authority == 0) (and-false (m.header.qr && (m.header.opcode == 0) && not m.header.tc && (m.header.rcode == 0)))) in
-    absurd (cc (sym a.0 ∙ ap not none))
-
-pub first_begins : (id : ℕ) (q : Question) (m : ReadMessage) → request_fault id q true m ≡ None → BeginsWith m.answers
-first_begins id q m h = begins m m.answers refl (judged (is_other id q m) (message_fault true m) OtherAnswer h).1
 
 -- ---- the retry signal
 
@@ -115,25 +80,25 @@ past_none r h = record {
 }
 
 -- of a first message
-first_signals : (mode : Mode) (s : Record) (others : List (Option Record)) → is_soa s ≡ true → Signals mode false (run_items mode AtStart (map record_item (Some s ∷ others)))
-first_signals Axfr s others h = inl (past_none (run_items Axfr AtStart (map record_item (Some s ∷ others))) (items_past Axfr (InWhole s) (map record_item others) refl))
-first_signals Ixfr s [] h = inr (record {
+first_signals : (mode : Mode) (answers : List (Option Record)) → BeginsSoa answers → Signals mode false (run_items mode AtStart (map record_item answers))
+first_signals mode [] h = absurd h
+first_signals mode (None ∷ more) h = absurd h
+first_signals Axfr (Some s ∷ others) h = inl (past_none (run_items Axfr AtStart (map record_item (Some s ∷ others))) (items_past Axfr (InWhole s) (map record_item others) refl))
+first_signals Ixfr (Some s ∷ []) h = inr (record {
   told = refl;
   serial = serial_of s.fields;
   signal = ap (λ b. if b then Some (serial_of s.fields) else None) h;
   found = refl;
   asked = refl;
 })
-first_signals Ixfr s (None ∷ more) h = inl (record { told = refl; none = refl })
-first_signals Ixfr s (Some r ∷ more) h =
+first_signals Ixfr (Some s ∷ None ∷ more) h = inl (record { told = refl; none = refl })
+first_signals Ixfr (Some s ∷ Some r ∷ more) h =
     inl (past_none (run_items Ixfr AtStart (map record_item (Some s ∷ Some r ∷ more))) (items_past Ixfr (step Ixfr (AtSecond s) r).place (map record_item more) (second_past Ixfr s r)))
 
 -- of any message that isn't refused by itself
 pub signals : (mode : Mode) (id : ℕ) (q : Question) (begun : Bool) (p : Place) (m : ReadMessage) → IsBetween begun p mode → request_fault id q (not begun) m ≡ None → Signals mode begun (run_items mode p (map record_item m.answers))
 signals mode id q true p m w h = inl (record { told = refl; none = refl })
-signals mode id q false AtStart m w h =
-    let b = first_begins id q m h in
-    subst (λ l. Signals mode false (run_items mode AtStart (map record_item l))) (sym b.are) (first_signals mode b.first b.others b.soa)
+signals mode id q false AtStart m w h = first_signals mode m.answers (first_begins id q m h)
 signals mode id q false (AtSecond s) m w h = absurd w
 signals mode id q false (InWhole s) m w h = absurd w
 signals mode id q false (InDeletes s) m w h = absurd w
