@@ -68,7 +68,7 @@ takes_so a x s before handles taken m (Reading NotValid) own headed sound met ma
 takes_so a x s before handles taken m (Reading Malformed) own headed sound met made = (record { outcome = Reading Malformed; answers = refl; headed = headed; sound = sound; met = met }, made)
 takes_so a x s before handles taken m (Reading Unreadable) own headed sound met made = (record { outcome = Reading Unreadable; answers = refl; headed = headed; sound = sound; met = met }, made)
 takes_so a x s before handles taken m (Reading AfterEnd) own headed sound met made = (record { outcome = Reading AfterEnd; answers = refl; headed = headed; sound = sound; met = met }, made)
-takes_so a x s before handles taken m (Reading (Refused why)) own headed sound met made = (record { outcome = Reading (Refused why); answers = refl; headed = headed; sound = sound; met = met }, made)
+takes_so a x s before handles taken m (Reading (Refused r)) own headed sound met made = (record { outcome = Reading (Refused r); answers = refl; headed = headed; sound = sound; met = met }, made)
 takes_so a x s before handles taken m NoSoa own headed sound met made = absurd own
 takes_so a x s before handles taken m RequestTooLong own headed sound met made = absurd own
 takes_so a x s before handles taken m LinkFault own headed sound met made = absurd own
@@ -79,11 +79,11 @@ takes_so a x s before handles taken m TooManyMessages own headed sound met made 
 takes_so a x s before handles taken m (Tsig e) own headed sound met made = absurd own
 
 -- what comes of a message, with an outcome of its own
-pub record Comes (c : Course) (h : Option Halt) (f : Option Fault) (n : Option ℕ) (ended : Bool) (told : Result (Option SyncOk) SyncError) : Type 0 where
+pub record Comes (c : Course) (h : Option Halt) (f : Option Fault) (n : Option ℕ) (ended : Bool) (said : Result (Option SyncOk) SyncError) : Type 0 where
   pub outcome : Outcome
   pub own : IsOwn outcome
   pub met : met_after c h f n ended ≡ Some outcome
-  pub told : told ≡ lifted (answer_of outcome)
+  pub told : said ≡ lifted (answer_of outcome)
 
 settled_edit : (found asked : Option ℕ) (r : Refusal) → settled found asked (of_update (edit_error r)) ≡ lifted (answer_of (Reading (Refused r)))
 settled_edit found asked OutOfZone = refl
