@@ -31,6 +31,7 @@ other-class 076578616d706c650000fc0003
 version-0 76657273696f6e20303a
 version-1 76657273696f6e20313a
 version-2 76657273696f6e20323a
+version-3 76657273696f6e20333a
 soa 076578616d706c65000006000100000e10001600000000000100000000000000000000000000000000
 next-soa 076578616d706c65000006000100000e10001600000000000200000000000000000000000000000000
 first 04686f7374076578616d706c65000001000100000e100004c0000201
@@ -85,13 +86,16 @@ two aliases of a name (RFC 2181, 10.1);asked soa alias other-alias soa;Err(Updat
 const NEWER: &str = "\
 the SOA that was asked with says that nothing is newer;other-type soa;Ok(UpToDate);
 another SOA alone is a retry signal;other-type next-soa;Err(Iteration(SingleSoaIxfrTcpRetrySignal));
-a difference;other-type next-soa soa first next-soa second next-soa;Ok(Updated);version-2 next-soa second
-a difference in three messages;other-type next-soa soa|none first next-soa|none second next-soa;Ok(Updated);version-2 next-soa second
+a difference, before which the version is published once more;other-type next-soa soa first next-soa second next-soa;\
+Ok(Updated);version-2 soa first version-3 next-soa second
+a difference in three messages;other-type next-soa soa|none first next-soa|none second next-soa;Ok(Updated);\
+version-2 soa first version-3 next-soa second
 a whole zone;other-type next-soa second next-soa;Ok(Updated);version-2 next-soa second
-an end in the middle of a batch;other-type next-soa soa first next-soa;Err(Ended);
-a record to delete that isn't there;other-type next-soa soa second next-soa next-soa;Err(Update(IncompatibleUpdate));
-a record to add that is there;other-type next-soa soa next-soa first next-soa;Err(Update(IncompatibleUpdate));
-a record behind the end;other-type next-soa soa next-soa next-soa first;Err(Iteration(AlreadyFinished));version-2 next-soa first
+an end in the middle of a batch;other-type next-soa soa first next-soa;Err(Ended);version-2 soa first
+a record to delete that isn't there;other-type next-soa soa second next-soa next-soa;Err(Update(IncompatibleUpdate));version-2 soa first
+a record to add that is there;other-type next-soa soa next-soa first next-soa;Err(Update(IncompatibleUpdate));version-2 soa first
+a record behind the end;other-type next-soa soa next-soa next-soa first;Err(Iteration(AlreadyFinished));\
+version-2 soa first version-3 next-soa first
 a question for the whole zone;asked soa;Err(OtherAnswer);";
 
 /// The number of the first of these cases.
