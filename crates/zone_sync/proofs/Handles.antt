@@ -1,5 +1,5 @@
 -- The read handles around a transfer.
-use Rattle.std.proofs.Common.{◌≡◌, ℕ, suc, ◌+◌, true, ◌&&◌, ◌==◌, List, [], ◌∷◌, ◌++◌, refl, sym, ap, ◌∙◌, subst, Option, Some, None}
+use Rattle.std.proofs.Common.{◌≡◌, ℕ, zero, suc, ◌+◌, true, ◌&&◌, ◌==◌, List, [], ◌∷◌, ◌++◌, refl, sym, ap, ◌∙◌, subst, Option, Some, None}
 use Rattle.std.specs.Prelude.{option_map, slice_get}
 use Rattle.std.proofs.Common.{eq-eqb}
 use Rattle.dns_name.specs.Names.{Name}
@@ -20,7 +20,7 @@ numbered_after base (v ∷ more) =
 -- what stands in front stays at its place
 asked_in_front : (xs ys : List Commit) (place : ℕ) (name : Name) (qtype : ℕ) (a : Option Answer) → asked_at xs place name qtype ≡ Some a → asked_at (xs ++ ys) place name qtype ≡ Some a
 asked_in_front [] ys place name qtype a h = absurd (cc h)
-asked_in_front (c ∷ xs) ys 0 name qtype a h = h
+asked_in_front (c ∷ xs) ys zero name qtype a h = h
 asked_in_front (c ∷ xs) ys (suc place) name qtype a h = asked_in_front xs ys place name qtype a h
 
 pub keeps_handles : (base : Commit) (before later : List Commit) (s : Session) (versions : List Version) → HasMade base before s later versions → KeepsHandles base before later

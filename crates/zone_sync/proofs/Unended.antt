@@ -123,7 +123,7 @@ either_says s r = inr (either_not s r)
 step_says : (mode : Mode) (p : Place) (r : Record) → Says (step mode p r)
 step_says Axfr AtStart r = inl (tt, tt)
 step_says Ixfr AtStart r = inl tt
-step_says mode (AtSecond s) r = elim (is_soa r) as (λ b. Says (if b then end_or_batch s r else went (InWhole s) (DeleteAllRecords ∷ AddRecord r ∷ []))) [ true ↦ either_says s r | false ↦ inl (tt, tt, tt) ]
+step_says mode (AtSecond s) r = elim (is_soa r) as (λ b. Says (if b then end_or_batch s r else went (InWhole s) (DeleteAllRecords ∷ AddRecord r ∷ []))) [ true ↦ either_says s r | false ↦ inl (tt, (tt, tt)) ]
 step_says mode (InWhole s) r = elim (is_same_soa s r) as (λ b. Says (if b then went AtEnd (Finished r ∷ []) else went (InWhole s) (AddRecord r ∷ []))) [ true ↦ inr refl | false ↦ inl (tt, tt) ]
 step_says mode (InDeletes s) r = inr (step_not mode (InDeletes s) r refl)
 step_says mode (InAdds s) r = inr (step_not mode (InAdds s) r refl)
@@ -133,14 +133,14 @@ step_says mode AtEnd r = inr refl
 said : (mode : Mode) (xs : List Item) (p : Place) → IsInWhole (run_items mode p xs).place → AreOfWhole (run_items mode p xs).updates
 said mode [] p h = tt
 said mode (Bad f ∷ more) p h = tt
-said mode (Good r ∷ more) p h = by (step_says mode p r)
+said mode (Good r ∷ more) p h = by (step_says mode p r) (said mode more (step mode p r).place h)
   where
     next : Run
     next = run_items mode (step mode p r).place more
 
-    by : Says (step mode p r) → AreOfWhole ((step mode p r).updates ++ next.updates)
-    by (inl k) = two_of_whole (step mode p r).updates next.updates k (said mode more (step mode p r).place h)
-    by (inr k) = absurd (cc (sym (whole_may next.place h) ∙ run_not mode (step mode p r).place more k))
+    by : Says (step mode p r) → AreOfWhole next.updates → AreOfWhole ((step mode p r).updates ++ next.updates)
+    by (inl k) rest = two_of_whole (step mode p r).updates next.updates k rest
+    by (inr k) rest = absurd (cc (sym (whole_may next.place h) ∙ run_not mode (step mode p r).place more k))
 
 -- a reply after which the client is in a whole text
 none_made : (a : Asking) (taken : List (List ℕ)) (m : List ℕ) → (client_so_far a taken).met ≡ None → IsInWhole (client_so_far a (taken ++ m ∷ [])).place
