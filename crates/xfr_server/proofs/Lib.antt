@@ -9,6 +9,8 @@ pub mod Choice
 pub mod SentTexts
 pub mod Room
 pub mod Pages
+pub mod SignedPages
 pub mod GrantedTransfers
+pub mod SignedAnswers
 pub mod LongRequests
 pub mod Accepted

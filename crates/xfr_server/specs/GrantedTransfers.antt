@@ -40,11 +40,15 @@ pub record IsGrantedTransfer {M K : Type 0} (the_key : K → TsigKey) (keys : Ke
   pub pages : List (List Record)
   pub cut : IsCutInto (page_room (taken_message r.message) (65535 - compose_len key)) (in_singles (mode_of mode) offer.compatibility) (text_of offer (mode_of mode) serial) pages
 
--- what is sent is a message for each page, signed one after another as the answers to the request (RFC 8945, 5.3.1)
-pub record IsSentWhole {M : Type 0} (r : Request M) (key : TsigKey) (pages : List (List Record)) (sent : Option (List Sending)) : Type 0 where
+-- what is sent is these messages, signed one after another as the answers to the request (RFC 8945, 5.3.1)
+pub record IsSentInTurn {M : Type 0} (r : Request M) (key : TsigKey) (answers : List Message) (sent : Option (List Sending)) : Type 0 where
   pub items : List Sending
   pub some : sent ≡ Some items
-  pub messages : sent_by items ≡ record { messages = signed_answers key (mac_in r.message) r.at 300 (map message_wire (map (page_answer (taken_message r.message)) pages)); fails = false }
+  pub messages : sent_by items ≡ record { messages = signed_answers key (mac_in r.message) r.at 300 (map message_wire answers); fails = false }
+
+-- .. a message for each page
+abbrev pub IsSentWhole : {M : Type 0} → Request M → TsigKey → List (List Record) → Option (List Sending) → Type 0
+IsSentWhole r key pages sent = IsSentInTurn r key (map (page_answer (taken_message r.message)) pages) sent
 
 -- the law of granted transfers: a primary of these services sends that
 abbrev pub SendsWhole : {M K : Type 0} → (Request M → Option (List Sending) → Type 0) → (K → TsigKey) → Keys → (List ℕ → Option K → Option ℕ → Result Offer XfrDataProviderError)

@@ -11,3 +11,4 @@ pub mod Streams
 pub mod Serving
 pub mod SentTexts
 pub mod GrantedTransfers
+pub mod SignedAnswers

@@ -6,6 +6,7 @@ ghost use Rattle.xfr_server.specs.Items.{Sending};
 ghost use Rattle.xfr_server.specs.Offers.{CommitsMayBePushed, HistoryGrants, HistoryIsOffered};
 ghost use Rattle.xfr_server.specs.SentTexts.{TextIsChosen};
 ghost use Rattle.xfr_server.specs.GrantedTransfers.{SendsWhole, TextsBegin, WholeIsTaken, TransferIsMessage};
+ghost use Rattle.xfr_server.specs.SignedAnswers.{OtherIsHandedOn, TransferIsAnswered};
 ghost use Rattle.xfr_services.specs.Failing.{fails, FailsWhereLong, IsTooLong};
 ghost use Rattle.xfr_services.specs.declared.requests.Request.{Request as RequestOf};
 ghost use Rattle.xfr_services.specs.declared.modes.XfrMode.{XfrMode as ModeOf};
@@ -29,6 +30,19 @@ pub fn granted_transfers_are_sent<
 >()
     ensures { (next : N) (provider : X) (keys : KS) (r : RequestOf (Unit {0})) (key : TsigKey) (mode : ModeOf) (serial : ℕ) (offer : Offer) (sent : Option (List Sending))
         → SendsWhole (⟦<PrimaryStack<N, X, KS> as Service<()>>⟧.Sends ((next, provider), keys)) KS.Key.the_key (KS.key_of keys) (X.told provider) r key mode serial offer sent }
+{}
+
+/// A signed request that a primary accepts, by whatever transport: where it asks for a transfer, what is chosen of the provider's offer is told
+/// in messages that are signed one after another; any other is answered by the next service, and its replies are signed.
+pub fn signed_requests_are_answered<
+    KS: KeyStore + Drop,
+    N: Service<Option<KS::Key>> + Drop,
+    X: XfrDataProvider<Option<KS::Key>> + Drop,
+>()
+    ensures transfers { (next : N) (provider : X) (keys : KS) (r : RequestOf (Unit {0})) (key : TsigKey) (mode : ModeOf) (sent : Option (List Sending))
+        → TransferIsAnswered (⟦<PrimaryStack<N, X, KS> as Service<()>>⟧.Sends ((next, provider), keys)) KS.Key.the_key (KS.key_of keys) (X.told provider) r key mode sent }
+    ensures others { (next : N) (provider : X) (keys : KS) (r : RequestOf (Unit {0})) (key : TsigKey) (sent : Option (List Sending))
+        → OtherIsHandedOn (⟦<PrimaryStack<N, X, KS> as Service<()>>⟧.Sends ((next, provider), keys)) (KS.key_of keys) (N.Sends next) r key sent }
 {}
 
 /// Nothing refuses these messages as the answers to their request, and each has a wire form where its records have one.

@@ -1,6 +1,7 @@
 -- What a primary grants to a secondary's request.
-use Rattle.std.proofs.Common.{◌≡◌, ℕ, ◌-◌, ◌^◌, ◌<◌, ◌≤◌, true, ◌&&◌, List, refl, sym, ap, ◌∙◌, subst, arith, Option, Some, lit<, eq-eqb}
+use Rattle.std.proofs.Common.{◌≡◌, ℕ, ◌-◌, ◌^◌, ◌<◌, ◌≤◌, true, ◌&&◌, List, refl, sym, ap, ◌∙◌, subst, arith, Option, Some, None, lit<, eq-eqb}
 use Rattle.std.specs.Prelude.{◌==◌, option_map, unwrap_or, Result, Ok}
+use Rattle.std.specs.Option.{option_map_or}
 use Rattle.std.specs.Int.{abs_diff}
 use Rattle.std.specs.List.{AllByRecursion}
 use Rattle.dns_name.specs.Names.{fold, is_name, same_name}
@@ -16,7 +17,9 @@ use Rattle.tsig_port.specs.Checked.{taken_message}
 use Rattle.tsig_keys.specs.declared.algorithms.Algorithm.{Algorithm}
 use Rattle.tsig_keys.specs.declared.algorithms.Algorithm.TheVariants.{Sha1, Sha256, Sha384, Sha512}
 use Rattle.tsig_port.proofs.SignedExchange.{request_accepted}
-use Rattle.zone_model.specs.Version.{has_one_apex_soa}
+use Rattle.dns_rdata.specs.Records.{Field}
+use Rattle.dns_rdata.specs.Soa.{serial_of}
+use Rattle.zone_model.specs.Version.{has_one_apex_soa, apex_soa}
 use Rattle.zone_model.specs.Difference.{zone_serial}
 use Rattle.zone_model.specs.TransferText.{Mode, Axfr, Ixfr, OnIxfr}
 use Rattle.zone_model.specs.Offer.{Offer, Provider, IsCutInto, is_granted, offer_of, text_of}
@@ -32,9 +35,10 @@ use Rattle.xfr_server.proofs.Granted.{history_grants}
 use Rattle.xfr_course.specs.Granting.{in_singles}
 use Rattle.zone_sync.specs.Modes.{mode_of}
 use Rattle.zone_sync.specs.SoFar.{Asking, request_message, asked_question, asked_authority, asked_octets}
+use Rattle.zone_sync.specs.SoFar as so_far
 use Rattle.zone_sync.specs.Serving.{request_at}
 use Rattle.zone_sync.specs.Fitting.{sent_text, BaseMatches, Fits}
-use Rattle.zone_sync.specs.Grants.{Offers, serial_of_mode, named_serial, history_offer}
+use Rattle.zone_sync.specs.Grants.{Offers, history_offer}
 use Rattle.zone_sync.proofs.Requests.{octets_are}
 use Rattle.zone_sync.proofs.HonestRequests.{kind_of, mode_again}
 use Rattle.zone_sync.proofs.HonestRequests as requests
@@ -53,38 +57,42 @@ module _ (a : Asking) (at : ℕ) (offer : Offer) (f : Fits a at offer) where
   abbrev soa : AllByRecursion IsRecord (asked_authority a)
   soa = f.records_fit.asked
 
-  abbrev data : HaveData (asked_authority a)
-  data = f.records_fit.asked_data
+  abbrev pieces : HaveData (asked_authority a)
+  pieces = f.records_fit.asked_data
 
   pub accepted : (keys : Keys) → keys (fold a.key.name) a.key.algorithm ≡ Some a.key → verdict keys at (asked_octets a) ≡ Accepted a.key
   accepted keys known =
       ap (verdict keys at) (sym (octets_are a))
       ∙ request_accepted a.key keys (request_message a) a.at at 300 f.one_key f.close_moments.secondary (lit< tt) near
-      (requests.can_sign a f.one_key f.close_moments.secondary name class soa data) known
+      (requests.can_sign a f.one_key f.close_moments.secondary name class soa pieces) known
 
   pub asks : transfer_mode (taken_message (asked_octets a)) ≡ Some (kind_of a.mode)
-  asks = requests.taken_mode a f.one_key f.close_moments.secondary name class soa data
+  asks = requests.taken_mode a f.one_key f.close_moments.secondary name class soa pieces
 
   pub question : sole_question_in (taken_message (asked_octets a)) ≡ Some (asked_question a)
-  question = requests.taken_question a f.one_key f.close_moments.secondary name class soa data
+  question = requests.taken_question a f.one_key f.close_moments.secondary name class soa pieces
 
   -- the serial that an incremental request names is that of the base's apex SOA
   pub names : OnIxfr a.mode (asked_serial (taken_message (asked_octets a)) ≡ Some (zone_serial a.base.version))
-  names = requests.taken_serial a f.one_key f.close_moments.secondary name class soa data (on_one a.mode f.base_matches)
+  names = requests.taken_serial a f.one_key f.close_moments.secondary name class soa pieces (on_one a.mode f.base_matches)
     where
       on_one : (m : Mode) → OnIxfr m (BaseMatches a.base.version offer f.one_soa.history) → OnIxfr m (has_one_apex_soa a.base.version ≡ true)
       on_one Axfr b = tt
       on_one Ixfr b = b.one_apex_soa
 
-  pub named : unwrap_or (asked_serial (taken_message (asked_octets a))) 0 ≡ named_serial a
+  own_serial : (o : Option (List Field)) → option_map_or serial_of o 0 ≡ unwrap_or (option_map serial_of o) 0
+  own_serial None = refl
+  own_serial (Some d) = refl
+
+  pub named : unwrap_or (asked_serial (taken_message (asked_octets a))) 0 ≡ unwrap_or (so_far.asked_serial a) 0
   named = by a.mode refl names
     where
-      by : (m : Mode) → a.mode ≡ m → OnIxfr m (asked_serial (taken_message (asked_octets a)) ≡ Some (zone_serial a.base.version)) → unwrap_or (asked_serial (taken_message (asked_octets a))) 0 ≡ serial_of_mode m a.base.version
-      by Axfr e n = ap (λ o. unwrap_or o 0) (requests.taken_none a f.one_key f.close_moments.secondary name class soa data e)
-      by Ixfr e n = ap (λ o. unwrap_or o 0) n
+      by : (m : Mode) → a.mode ≡ m → OnIxfr m (asked_serial (taken_message (asked_octets a)) ≡ Some (zone_serial a.base.version)) → unwrap_or (asked_serial (taken_message (asked_octets a))) 0 ≡ unwrap_or (so_far.told_serial m a.base.version) 0
+      by Axfr e n = ap (λ o. unwrap_or o 0) (requests.taken_none a f.one_key f.close_moments.secondary name class soa pieces e)
+      by Ixfr e n = ap (λ o. unwrap_or o 0) n ∙ own_serial (apex_soa a.base.version)
 
 -- both sides mean the same by a mode
-cut_served : (offer : Offer) (n room : ℕ) (pages : List (List Record)) (mode : Mode) → IsCutInto room (in_singles mode offer.compatibility) (text_of offer mode n) pages
+pub cut_served : (offer : Offer) (n room : ℕ) (pages : List (List Record)) (mode : Mode) → IsCutInto room (in_singles mode offer.compatibility) (text_of offer mode n) pages
     → IsCutInto room (served.in_singles (mode_of (kind_of mode)) offer.compatibility) (text_of offer (mode_of (kind_of mode)) n) pages
 cut_served offer n room pages Axfr c = c
 cut_served offer n room pages Ixfr c = c

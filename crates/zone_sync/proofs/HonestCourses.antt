@@ -178,11 +178,11 @@ module _ (a : Asking) (at : ℕ) (offer : Offer) (f : Fits a at offer) where
   carried [] stop cut = absurd (cc (cut.joined ∙ (replies.begins a at offer f).is))
   carried (page ∷ more) stop cut =
       let soa = f.records_fit.asked in
-      let data = f.records_fit.asked_data in
+      let pieces = f.records_fit.asked_data in
       let early = f.close_moments.secondary in
       let begins = replies.begins a at offer f in
       let begun : begins_with_soa text ≡ true = ap begins_with_soa begins.is ∙ begins.typed in
-      let taken = whole_is_taken request q (kind_of a.mode) text (answer_room a) singles page more (requests.taken_mode a f.one_key early name class soa data) (requests.taken_question a f.one_key early name class soa data) begun cut in
+      let taken = whole_is_taken request q (kind_of a.mode) text (answer_room a) singles page more (requests.taken_mode a f.one_key early name class soa pieces) (requests.taken_question a f.one_key early name class soa pieces) begun cut in
       let each = each_page (answer_room a) singles (page ∷ more) cut.filled in
       let carry : CarrySent e id (carrier_of (page_answer request page)) (map carrier_of (page_answers a more)) = record {
         first = record { sound = ap (λ n. request_fault n q true (read_of (page_answer request page))) (sym taken_id) ∙ taken.0; answers = refl; full = is_full (length page) each.0.0 };

@@ -57,15 +57,19 @@ pub two_together : (room : ℕ) (text page : List Record) (more : List (List Rec
     → (nat_le (length text) 1 || nat_le 2 (length page)) ≡ true
 two_together room text [] more cut both = absurd (true≢false (sym cut.filled))
 two_together room text (x ∷ []) [] cut both = ap (λ l. nat_le (length l) 1 || false) (sym cut.joined)
-two_together room text (x ∷ []) ([] ∷ more) cut both = absurd (true≢false (sym (second_so _ false (first_so _ (are_pages room ([] ∷ more)) cut.filled))))
+two_together room text (x ∷ []) ([] ∷ more) cut both =
+    let begun : Bool = not (length (x ∷ []) == 0) && nat_le (room_of (x ∷ [])) room in
+    absurd (true≢false (sym (second_so begun false (first_so (begun && false) (are_pages room ([] ∷ more)) cut.filled))))
 two_together room text (x ∷ []) ((r ∷ rest) ∷ more) cut both =
     let tail : List Record = rest ++ flat_map (λ page. page) more in
-    let apart : not (nat_le (room_of (x ∷ []) + length (record_wire r)) room) ≡ true = second_so _ _ (first_so _ (are_pages room ((r ∷ rest) ∷ more)) cut.filled) in
+    let begun : Bool = not (length (x ∷ []) == 0) && nat_le (room_of (x ∷ [])) room in
+    let next : Bool = not (nat_le (room_of (x ∷ []) + length (record_wire r)) room) in
+    let apart : not (nat_le (room_of (x ∷ []) + length (record_wire r)) room) ≡ true = second_so begun next (first_so (begun && next) (are_pages room ((r ∷ rest) ∷ more)) cut.filled) in
     let many : nat_le (length (x ∷ r ∷ tail)) 1 ≡ false = lt-leb (length (x ∷ r ∷ tail)) 1 (omega arith) in
     let here : (nat_le (length (x ∷ r ∷ tail)) 1 || nat_le (room_of (x ∷ r ∷ [])) room) ≡ true = ap (λ l. nat_le (length l) 1 || nat_le (room_of (take 2 l)) room) cut.joined ∙ both in
     let fits : nat_le (room_of (x ∷ r ∷ [])) room ≡ true = sym (ap (λ b. b || nat_le (room_of (x ∷ r ∷ [])) room) many) ∙ here in
     let sum : room_of (x ∷ r ∷ []) ≡ room_of (x ∷ []) + length (record_wire r) =
-        omega (arith, sum_by-cons (λ r. length (record_wire r)) x (r ∷ []), sum_by-cons (λ r. length (record_wire r)) r [], sum_by-cons (λ r. length (record_wire r)) x []) in
+    omega (arith, sum_by-cons (λ r. length (record_wire r)) x (r ∷ []), sum_by-cons (λ r. length (record_wire r)) r [], sum_by-cons (λ r. length (record_wire r)) x []) in
     absurd (true≢false (sym apart ∙ ap (λ n. not (nat_le n room)) (sym sum) ∙ ap not fits))
 two_together room text (x ∷ y ∷ page) more cut both =
     let two : nat_le 2 (length (x ∷ y ∷ page)) ≡ true = le-leb 2 (length (x ∷ y ∷ page)) (omega arith) in
@@ -242,8 +246,8 @@ module _ (a : Asking) (at : ℕ) (offer : Offer) (f : Fits a at offer) where
   abbrev soa : AllByRecursion IsRecord (asked_authority a)
   soa = f.records_fit.asked
 
-  abbrev data : HaveData (asked_authority a)
-  data = f.records_fit.asked_data
+  abbrev pieces : HaveData (asked_authority a)
+  pieces = f.records_fit.asked_data
 
   abbrev singles : Bool
   singles = in_singles a.mode offer.compatibility
@@ -258,7 +262,7 @@ module _ (a : Asking) (at : ℕ) (offer : Offer) (f : Fits a at offer) where
   h = axfr_header (header_in request)
 
   pub asked_alone : questions_in request ≡ q ∷ []
-  asked_alone = requests.taken_questions a f.one_key f.close_moments.secondary name class soa data
+  asked_alone = requests.taken_questions a f.one_key f.close_moments.secondary name class soa pieces
 
   -- how long a page's message is
   asked_length : length (flat_map question_wire (questions_in request)) ≡ length (question_wire q)
@@ -276,8 +280,8 @@ module _ (a : Asking) (at : ℕ) (offer : Offer) (f : Fits a at offer) where
 
   page_is_message : (page : List Record) → IsPage (answer_room a) page → AllByRecursion IsRecord page → IsMessage (page_answer request page)
   page_is_message page is records =
-      transfer_is_message request (request_message a) page (requests.taken_header a f.one_key f.close_moments.secondary name class soa data) (requests.is_message a f.one_key f.close_moments.secondary name class soa data)
-      (requests.taken_parses a f.one_key f.close_moments.secondary name class soa data) records (few_records page is)
+      transfer_is_message request (request_message a) page (requests.taken_header a f.one_key f.close_moments.secondary name class soa pieces) (requests.is_message a f.one_key f.close_moments.secondary name class soa pieces)
+      (requests.taken_parses a f.one_key f.close_moments.secondary name class soa pieces) records (few_records page is)
 
   can_sign : (page : List Record) → IsPage (answer_room a) page → AllByRecursion IsRecord page → CanSign a.key (page_answer request page)
   can_sign page is records = record {
@@ -325,7 +329,7 @@ module _ (a : Asking) (at : ℕ) (offer : Offer) (f : Fits a at offer) where
   faultless : (taken : List (List ℕ)) (prior : Option (List ℕ)) (m : Message) → CanSign a.key m → prior_mac taken ≡ prior → fault_so_far a taken (signed prior m) ≡ None
   unfolding fault_so_far
   faultless taken prior m can is_prior =
-      ap (λ x. answer_fault a.key x a.at taken (signed prior m)) (sym (requests.mac_read_is a f.one_key f.close_moments.secondary name class soa data))
+      ap (λ x. answer_fault a.key x a.at taken (signed prior m)) (sym (requests.mac_read_is a f.one_key f.close_moments.secondary name class soa pieces))
       ∙ answers.passes a.key mac at a.at 300 f.one_key f.close_moments.primary (lit< tt) f.close_moments.near taken prior m can is_prior
 
   -- .. and so do all of a first part

@@ -85,7 +85,7 @@ short_question q name =
 
 -- SOA data are two names and 20 octets
 named_short : (f : Field) → part_allows Named f ≡ true → length (field_wire f) ≤ 255
-named_short (DomainName n) h = name_short n h
+named_short (DomainName n) h = let s = name_short n h in omega (arith, s)
 named_short (Octets o) h = absurd (true≢false (sym h))
 
 times_short : (f : Field) → part_allows (Exactly 20) f ≡ true → length (field_wire f) ≤ 20
@@ -118,10 +118,10 @@ short_soa r soa name is =
     let x = name_wire r.owner ++ u16_octets r.rtype in
     let y = x ++ u16_octets r.class in
     let z = y ++ u32_octets r.ttl in
-    let data : is_data type_soa r.fields ≡ true = subst (λ n. is_data n r.fields ≡ true) soa is in
+    let whole : is_data type_soa r.fields ≡ true = subst (λ n. is_data n r.fields ≡ true) soa is in
     omega (
       arith,
-      short_pieces r.fields (first_so (pointwise part_allows (parts type_soa) r.fields) _ data),
+      short_pieces r.fields (first_so (pointwise part_allows (parts type_soa) r.fields) _ whole),
       name_short r.owner name,
       length-append (name_wire r.owner) (u16_octets r.rtype),
       length-append x (u16_octets r.class),
@@ -220,7 +220,7 @@ authority_read message p (Some end) header is whole =
 -- ---- what is left of the request once it was taken
 
 module _ (a : Asking) (ok : IsKey a.key) (early : a.at < 2 ^ 48) (name : is_name a.base.version.apex ≡ true) (class : a.base.version.class < 2 ^ 16)
-    (soa : AllByRecursion IsRecord (asked_authority a)) (data : HaveData (asked_authority a)) where
+    (soa : AllByRecursion IsRecord (asked_authority a)) (pieces : HaveData (asked_authority a)) where
   abbrev q : Question
   q = asked_question a
 
@@ -255,7 +255,7 @@ module _ (a : Asking) (ok : IsKey a.key) (early : a.at < 2 ^ 48) (name : is_name
     message = is_message;
     unsigned = tt;
     count = lit< tt;
-    room = omega (arith, asking_length (asked_id a) q (asked_authority a), short_question q name, short_authority (asked_authority a) (asked_soa a.mode a.base.version) soa data, short_key a.key ok);
+    room = omega (arith, asking_length (asked_id a) q (asked_authority a), short_question q name, short_authority (asked_authority a) (asked_soa a.mode a.base.version) soa pieces, short_key a.key ok);
   }
 
   signature : signature_of (signed_request a.key M a.at 300) ≡ Signed (length M) a.key.name t
@@ -323,16 +323,16 @@ module _ (a : Asking) (ok : IsKey a.key) (early : a.at < 2 ^ 48) (name : is_name
       let p = 12 + length w + 0 in
       let only : asked_authority a ≡ s ∷ [] = here ∙ is in
       let ok_soa : AllByRecursion IsRecord (s ∷ []) = subst (AllByRecursion IsRecord) only soa in
-      let ok_data : HaveData (s ∷ []) = subst HaveData only data in
+      let ok_data : HaveData (s ∷ []) = subst HaveData only pieces in
       let octets : M ++ r ≡ (front ++ w) ++ (record_wire s ++ r) =
-          ap (λ x. front ++ (x ++ r)) (append-nil (w ++ [] ++ flat_map record_wire (asked_authority a)) ∙ ap (λ x. x ++ flat_map record_wire (asked_authority a)) (append-nil w) ∙ ap (λ l. w ++ flat_map record_wire l) only ∙ ap (λ x. w ++ x) (append-nil (record_wire s)))
-          ∙ ap (λ x. front ++ x) (append_assoc w (record_wire s) r) ∙ sym (append_assoc front w (record_wire s ++ r)) in
+      ap (λ x. front ++ (x ++ r)) (append-nil (w ++ [] ++ flat_map record_wire (asked_authority a)) ∙ ap (λ x. x ++ flat_map record_wire (asked_authority a)) (append-nil w) ∙ ap (λ l. w ++ flat_map record_wire l) only ∙ ap (λ x. w ++ x) (append-nil (record_wire s)))
+      ∙ ap (λ x. front ++ x) (append_assoc w (record_wire s) r) ∙ sym (append_assoc front w (record_wire s ++ r)) in
       let place : length (front ++ w) ≡ p = length-append front w ∙ sym (add-zero (12 + length w)) in
       let head = head_at p s in
       let readings : authority_readings (taken_message (asked_octets a)) ≡ Some head ∷ [] = taken_authority ∙ ap (λ rs. map (λ r. Some r) (heads_from p rs)) only in
       let typed_so : (s.rtype == type_soa) ≡ true = eq-eqb s.rtype type_soa typed in
       let there : readable (taken_message (asked_octets a)) head ≡ Some s =
-          ap (λ x. readable x head) (taken_is ∙ octets) ∙ ap (λ k. readable ((front ++ w) ++ (record_wire s ++ r)) (head_at k s)) (sym place) ∙ readable_again (front ++ w) s r ok_soa.0 ok_data.0 in
+      ap (λ x. readable x head) (taken_is ∙ octets) ∙ ap (λ k. readable ((front ++ w) ++ (record_wire s ++ r)) (head_at k s)) (sym place) ∙ readable_again (front ++ w) s r ok_soa.0 ok_data.0 in
       ap (first_serial (taken_message (asked_octets a))) readings
       ∙ ap (λ b. if b then option_map (λ (x : Record). serial_of x.fields) (readable (taken_message (asked_octets a)) head) else None) typed_so
       ∙ ap (option_map (λ (x : Record). serial_of x.fields)) there

@@ -5,7 +5,7 @@ use Rattle.zone_model.specs.Offer.{Offer}
 use Rattle.zone_model.specs.Commits.{Commit}
 use Rattle.zone_model.specs.Session.{Session}
 use Rattle.xfr_server.specs.Items.{Sending}
-use Rattle.xfr_server.specs.FullTransfer.{IsSentWhole}
+use Rattle.xfr_server.specs.GrantedTransfers.{IsSentWhole}
 use Rattle.zone_devices.specs.Links.{LinkLists, IsHonest}
 use Rattle.zone_sync.specs.SoFar.{Asking, asked_octets}
 use Rattle.zone_sync.specs.Serving.{request_at}

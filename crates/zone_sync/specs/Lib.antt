@@ -13,7 +13,9 @@ pub mod Standing
 pub mod Replies
 pub mod Serving
 pub mod Transfers
+pub mod Handles
 pub mod Fitting
 pub mod Delivery
 pub mod Grants
 pub mod LongQuestions
+pub mod GrantRows

@@ -199,7 +199,7 @@ impl Exchange {
     ) -> Result<Option<SyncOk>, SyncError>
         ensures takes { (a : Asking) (taken : List (List ℕ)) (before : List Commit) → a.at ≡ at → ExchangeStands self.old session.old a taken before made.old.items
             → TakesMessage a self.new session.new before made.new.items taken octets.items result }
-        ensures keeps { OnOk result (KeepsWish session.old session.new) }
+        ensures keeps { result ≡ Ok None → KeepsWish session.old session.new }
     {
         let message = self.checked(octets, at)?;
         let updates = self.read(&message)?;
@@ -322,7 +322,8 @@ fn asked_with(mode: XfrMode, zone: &ReadZone) -> Result<Option<Serial>, SyncErro
 fn apex_serial(zone: &ReadZone) -> Option<Serial>
     ensures { result ≡ option_map serial_of (apex_soa zone.now.version) }
 {
-    let found = zone.rrset_at(zone.apex_name(), Rtype::SOA)?;
+    let version = zone.contents();
+    let found = version.set_at(version.apex(), Rtype::SOA)?;
     match found.items().first() {
         Some(item) => Some(serial_of(item)),
         None => None,
