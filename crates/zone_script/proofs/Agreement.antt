@@ -23,27 +23,27 @@ use Rattle.zone_script.proofs.LaterLines as edits
 use Rattle.zone_script.proofs.LaterLines.{GivesAlike, EditsStand, rest_alike}
 
 -- a zone as it is kept stands for a zone file, of which a line was the last
-record ZoneStands (z : OpeningZone) (f : ZoneFile) (last : ℕ) : Type 0 where
-  file : z.file ≡ kept f
-  line : is_whole z.file ≡ false → z.last_line ≡ last
+pub record ZoneStands (z : OpeningZone) (f : ZoneFile) (last : ℕ) : Type 0 where
+  pub file : z.file ≡ kept f
+  pub line : is_whole z.file ≡ false → z.last_line ≡ last
 
-abbrev ZonesStand : Option Zones → scripts.Script TsigKey → Type 0
+abbrev pub ZonesStand : Option Zones → scripts.Script TsigKey → Type 0
 ZonesStand None s = (s.stage ≡ 0) × (s.key ≡ None)
 ZonesStand (Some z) s = ZoneStands z.primary s.primary s.last_primary × ZoneStands z.secondary s.secondary s.last_secondary
 
 -- what is kept stands for a script as far as it was read, but for its stage
 pub record OpensAs (k : Reading) (s : scripts.Script TsigKey) : Type 0 where
-  key : s.key ≡ k.key
-  at_primary : s.at_primary ≡ k.at_primary
-  at_secondary : s.at_secondary ≡ k.at_secondary
-  changes : s.changes ≡ []
-  queries : s.queries ≡ []
-  zones : ZonesStand k.zones s
-  early : nat_lt s.stage 6 ≡ true
+  pub key : s.key ≡ k.key
+  pub at_primary : s.at_primary ≡ k.at_primary
+  pub at_secondary : s.at_secondary ≡ k.at_secondary
+  pub changes : s.changes ≡ []
+  pub queries : s.queries ≡ []
+  pub zones : ZonesStand k.zones s
+  pub early : nat_lt s.stage 6 ≡ true
 
 pub record Stands (k : Reading) (s : scripts.Script TsigKey) : Type 0 where
-  stage : s.stage ≡ k.stage
-  opens : OpensAs k s
+  pub stage : s.stage ≡ k.stage
+  pub opens : OpensAs k s
 
 abbrev StandsAlike : Result Reading ℕ → Result (scripts.Script TsigKey) ℕ → Type 0
 StandsAlike (Ok k) (Ok s) = Stands k s

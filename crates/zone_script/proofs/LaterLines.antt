@@ -81,18 +81,18 @@ abbrev stage_in : Bool → ℕ
 stage_in asks = if asks then 7 else 6
 
 pub record EditsStand (o : Opened) (e : Edited) (s : scripts.Script TsigKey) : Type 0 where
-  key : s.key ≡ Some o.key
-  at_primary : o.at_primary ≡ s.at_primary
-  at_secondary : o.at_secondary ≡ s.at_secondary
-  primary : o.primary ≡ record { number = 0; version = close (opened s.primary) }
-  secondary : o.secondary ≡ record { number = 0; version = close (opened s.secondary) }
-  stage : s.stage ≡ stage_in e.editing.asks
-  class : e.editing.class ≡ s.primary.class
-  queries : e.editing.queries ≡ s.queries
-  pending : e.pending ≡ s.pending
-  edits : s.pending ≡ changed_all o.primary.version s.changes
-  commits : e.editing.commits ≡ told_of o.primary s.changes
-  current : e.current ≡ latest o.primary e.editing.commits
+  pub key : s.key ≡ Some o.key
+  pub at_primary : o.at_primary ≡ s.at_primary
+  pub at_secondary : o.at_secondary ≡ s.at_secondary
+  pub primary : o.primary ≡ record { number = 0; version = close (opened s.primary) }
+  pub secondary : o.secondary ≡ record { number = 0; version = close (opened s.secondary) }
+  pub stage : s.stage ≡ stage_in e.editing.asks
+  pub class : e.editing.class ≡ s.primary.class
+  pub queries : e.editing.queries ≡ s.queries
+  pub pending : e.pending ≡ s.pending
+  pub edits : s.pending ≡ changed_all o.primary.version s.changes
+  pub commits : e.editing.commits ≡ told_of o.primary s.changes
+  pub current : e.current ≡ latest o.primary e.editing.commits
 
 abbrev pub LaterAlike : Opened → Result Edited ℕ → Result (scripts.Script TsigKey) ℕ → Type 0
 LaterAlike o (Ok e) (Ok s) = EditsStand o e s
@@ -236,7 +236,7 @@ module _ (o : Opened) (e : Edited) (s : scripts.Script TsigKey) (n : ℕ) (h : E
   change_stands c =
       subst (LaterAlike o (if not e.editing.asks && is_of_class e.editing.class (ChangeLine c) then make_change e n c else Err n))
       (sym (
-          (λ i. if (may_come_is o e s 6 h ∙ may_by e.editing.asks) i && sym (class_is c) i then take_from n (ChangeLine c) (opened_once o e s 6 h i) else Err n)))
+      (λ i. if (may_come_is o e s 6 h ∙ may_by e.editing.asks) i && sym (class_is c) i then take_from n (ChangeLine c) (opened_once o e s 6 h i) else Err n)))
       (by e.editing.asks (is_of_class e.editing.class (ChangeLine c)) refl)
     where
       may_by : (asks : Bool) → (nat_le (stage_in asks) 6 && not (scripts.is_once 6 && (stage_in asks == 6)) && ((6 == 1) || nat_le 1 (stage_in asks)) && (nat_le 6 2 || true)) ≡ not asks

@@ -3,6 +3,7 @@ mod CutSteps
 mod FileLaws
 mod Refused
 mod KeyFields
+mod EditCauses
 mod LaterLines
 mod Agreement
 mod Parsing

@@ -1,7 +1,9 @@
 //! The lines of a script once its zones are open: edits of the primary's zone, and questions.
-ghost use Rattle.std.specs.Prelude.{◌≡◌, ◌<◌, ◌≤◌, ◌+◌, ◌^◌, length, Ok, Err, Some, None, IfErr, IfSome, OnOk};
-ghost use Rattle.std.specs.Result.{result_ok};
-ghost use Rattle.zone_model.specs.Edits.{add, delete};
+ghost use Rattle.std.specs.Prelude.{◌≡◌, ◌<◌, ◌≤◌, ◌+◌, ◌^◌, length, Ok, Err, IfOk, IfErr, IfSome, OnOk};
+ghost use Rattle.zone_model.specs.Edits.{close};
+ghost use Rattle.zone_model.specs.Commits.{next_commit};
+ghost use Rattle.zone_model.specs.Offer.{difference_if};
+ghost use Rattle.zone_script.specs.Script as scripts;
 ghost use Rattle.zone_script.specs.Script.{script_lines};
 ghost use Rattle.zone_script.specs.Keeping as keeping;
 ghost use Rattle.zone_script.specs.Keeping.{edited};
@@ -16,6 +18,7 @@ use crate::script::ScriptError;
 use dns_name::{Class, Rtype, StoredName};
 use dns_rdata::StoredRecord;
 use std::alloc::{AllocError, Global};
+use zone_diffs::InMemoryZoneDiff;
 use zone_sessions::{CommitError, EditError, WriteZone};
 
 /// What was read besides the edits that are pending in the primary's session.
@@ -79,10 +82,11 @@ impl Editing {
         match line {
             Line::Change(change) => self.take_change(rt, session, number, change),
             Line::Query(qname, qtype) => Ok(self.ask(qname, qtype)?),
-            opening => {
-                drop(opening);
-                Err(ScriptError::Line(number))
-            }
+            Line::Zone(apex, _) => late(apex, number),
+            Line::Key(key) => late(key, number),
+            Line::At(_, _) => Err(ScriptError::Line(number)),
+            Line::Primary(found) => late(found, number),
+            Line::Secondary(found) => late(found, number),
         }
     }
 
@@ -136,14 +140,13 @@ impl Editing {
         ensures numbers { OnOk result (session.new.current.number ≤ number) }
     {
         match change {
-            Change::Plus(added) => add_record(session, number, added),
-            Change::Minus(deleted) => delete_record(session, number, deleted),
+            Change::Plus(added) => self.add_record(session, number, added),
+            Change::Minus(deleted) => self.delete_record(session, number, deleted),
             Change::Commit => self.commit(rt, session, number),
         }
     }
 
-    /// Publishes what is pending, and keeps the version with its difference from the one before. The session is asked for the difference each
-    /// time, since its wish ends with a commit.
+    /// Publishes what is pending, and keeps the version with its difference from the one before.
     fn commit<R>(
         &mut self,
         rt: &R,
@@ -155,49 +158,77 @@ impl Editing {
         ensures memory { IfErr result (λ e. e ≡ ScriptError.Memory) }
         ensures numbers { OnOk result (session.new.current.number ≤ number) }
     {
-        session.want_difference(true);
-        let told = match session.commit(rt, false) {
-            Ok(told) => told,
-            Err(CommitError::Memory) => return Err(ScriptError::Memory),
-            Err(CommitError::VersionsExhausted) => return Err(ScriptError::Line(number)),
-        };
+        let told = publish(rt, session, number)?;
         let handle = session.handle()?;
         self.commits.push(handle, told)?;
         Ok(())
     }
-}
 
-/// Adds a record to what is pending.
-fn add_record(
-    session: &mut WriteZone<'_>,
-    number: u64,
-    added: StoredRecord,
-) -> Result<(), ScriptError>
-    ensures ok { OnOk result (result_ok (add session.old.pending added) ≡ Some session.new.pending) }
-    ensures bad { IfErr result (λ e. IfSome (line_in e) (λ n. (n ≡ number) × (result_ok (add session.old.pending added) ≡ None))) }
-    ensures same { session.new.current ≡ session.old.current }
-{
-    match session.add_record(added) {
-        Ok(()) => Ok(()),
-        Err(error) => Err(cause_of(number, error)),
+    /// Adds a record to what is pending.
+    #[tactic(auto, using(crate::proofs::EditCauses::add_refused))]
+    fn add_record(
+        &self,
+        session: &mut WriteZone<'_>,
+        number: u64,
+        added: StoredRecord,
+    ) -> Result<(), ScriptError>
+        ensures ok { OnOk result (keeping.make_change (edited session.old self.now) number (scripts.Plus added) ≡ Ok (edited session.new self.now)) }
+        ensures bad { IfErr result (λ e. IfSome (line_in e) (λ n. keeping.make_change (edited session.old self.now) number (scripts.Plus added) ≡ Err n)) }
+        ensures same { session.new.current ≡ session.old.current }
+    {
+        match session.add_record(added) {
+            Ok(()) => Ok(()),
+            Err(error) => Err(cause_of(number, error)),
+        }
+    }
+
+    /// Deletes a record from what is pending.
+    #[tactic(auto, using(crate::proofs::EditCauses::delete_refused))]
+    fn delete_record(
+        &self,
+        session: &mut WriteZone<'_>,
+        number: u64,
+        deleted: StoredRecord,
+    ) -> Result<(), ScriptError>
+        ensures ok { OnOk result (keeping.make_change (edited session.old self.now) number (scripts.Minus deleted) ≡ Ok (edited session.new self.now)) }
+        ensures bad { IfErr result (λ e. IfSome (line_in e) (λ n. keeping.make_change (edited session.old self.now) number (scripts.Minus deleted) ≡ Err n)) }
+        ensures same { session.new.current ≡ session.old.current }
+    {
+        let answer = session.delete_record(&deleted);
+        drop(deleted);
+        match answer {
+            Ok(()) => Ok(()),
+            Err(error) => Err(cause_of(number, error)),
+        }
     }
 }
 
-/// Deletes a record from what is pending.
-fn delete_record(
+/// Refuses a line of the opening at its number.
+fn late<T: Drop>(line: T, number: u64) -> Result<(), ScriptError>
+    ensures { result ≡ Err (ScriptError.Line number) }
+{
+    drop(line);
+    Err(ScriptError::Line(number))
+}
+
+/// Publishes what is pending, and tells the difference. The session is asked for it each time, since its wish ends with a commit.
+#[tactic(auto, using(crate::proofs::EditCauses::told_is))]
+fn publish<R>(
+    rt: &R,
     session: &mut WriteZone<'_>,
     number: u64,
-    deleted: StoredRecord,
-) -> Result<(), ScriptError>
-    ensures ok { OnOk result (result_ok (delete session.old.pending deleted) ≡ Some session.new.pending) }
-    ensures bad { IfErr result (λ e. IfSome (line_in e) (λ n. (n ≡ number) × (result_ok (delete session.old.pending deleted) ≡ None))) }
-    ensures same { session.new.current ≡ session.old.current }
+) -> Result<Option<InMemoryZoneDiff>, ScriptError>
+    requires { session.old.current.number < number }
+    ensures current { OnOk result (session.new.current ≡ next_commit session.old.current session.old.pending) }
+    ensures pending { OnOk result (session.new.pending ≡ close session.old.pending) }
+    ensures told { IfOk result (λ d. d ≡ difference_if session.old.current.version (close session.old.pending)) }
+    ensures memory { IfErr result (λ e. e ≡ ScriptError.Memory) }
 {
-    let answer = session.delete_record(&deleted);
-    drop(deleted);
-    match answer {
-        Ok(()) => Ok(()),
-        Err(error) => Err(cause_of(number, error)),
+    session.want_difference(true);
+    match session.commit(rt, false) {
+        Ok(told) => Ok(told),
+        Err(CommitError::Memory) => Err(ScriptError::Memory),
+        Err(CommitError::VersionsExhausted) => Err(ScriptError::Line(number)),
     }
 }
 

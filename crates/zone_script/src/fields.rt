@@ -81,8 +81,13 @@ impl Line {
         ensures { result ≡ keeping.is_of_class class (line_of self.now) }
     {
         match self {
+            Line::Zone(_, _) => true,
+            Line::Key(_) => true,
+            Line::At(_, _) => true,
+            Line::Primary(_) => true,
+            Line::Secondary(_) => true,
             Line::Change(change) => change.is_of_class(class),
-            _ => true,
+            Line::Query(_, _) => true,
         }
     }
 }

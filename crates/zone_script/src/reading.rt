@@ -162,6 +162,7 @@ impl Reading {
     pub(crate) fn open(self, number: u64) -> Result<Opened, ScriptError>
         ensures ok { IfOk result (λ o. keeping.open_zones self number ≡ Ok o) }
         ensures bad { IfErr result (λ e. IfSome (line_in e) (λ n. keeping.open_zones self number ≡ Err n)) }
+        ensures first { IfOk result (λ o. o.primary.number ≡ 0) }
     {
         let (Some(zones), Some(key)) = (self.zones, self.key) else {
             return Err(ScriptError::Line(number));

@@ -97,8 +97,10 @@ fn finish<R>(
     ensures ok { IfOk result (λ s. keeping.finished reading number (script_lines rest.now) ≡ Ok s) }
     ensures bad { IfErr result (λ e. IfSome (line_in e) (λ n. keeping.finished reading number (script_lines rest.now) ≡ Err n)) }
 {
-    let opened = reading.open(number)?;
-    read_on(rt, alloc, opened, number, rest)
+    match reading.open(number) {
+        Ok(opened) => read_on(rt, alloc, opened, number, rest),
+        Err(error) => Err(error),
+    }
 }
 
 /// Reads the edits and questions, which begin at the line of this number.
