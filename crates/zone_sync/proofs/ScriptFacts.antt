@@ -1,8 +1,8 @@
 -- What holds of every script that is spelt: its key is one to sign with, and both its zones are of one apex and class.
-use Rattle.std.specs.Prelude.{◌≡◌, ℕ, ◌+◌, ◌^◌, suc, Bool, true, false, not, nat_lt, nat_le, ◌&&◌, ◌==◌, if◌then◌else◌, List, [], ◌∷◌, length, Option, Some, None, is_some, option_map, option_and_then, unwrap_or, Result, Ok, Err, IsTrue, codes, bytes_eq, filter, fold as fold_list}
+use Rattle.std.specs.Prelude.{◌≡◌, ℕ, ◌+◌, ◌^◌, ◌<◌, suc, Bool, true, false, not, nat_lt, nat_le, ◌&&◌, ◌==◌, if◌then◌else◌, List, [], ◌∷◌, length, Option, Some, None, is_some, option_map, option_and_then, unwrap_or, Result, Ok, Err, IsTrue, codes, bytes_eq, filter, fold as fold_list}
 use Rattle.std.specs.Result.{result_ok, result_unwrap_or}
 use Rattle.std.specs.List.{AllByRecursion, list_all, slice_split}
-use Rattle.std.proofs.Common.{refl, sym, ap, ◌∙◌, subst, lt-ltb}
+use Rattle.std.proofs.Common.{refl, sym, ap, ◌∙◌, subst, arith, lt-ltb}
 use Rattle.hex.specs.Hex as hex
 use Rattle.hex.specs.declared.error.FromHexError.{FromHexError}
 use Rattle.hex.proofs.HexLemmas.{decode_of-ok}
@@ -283,6 +283,9 @@ kept_in s key =
 
 -- ---- the premises of success that hold of every script
 
+none_before : (n m : ℕ) → n < m → 0 + n < m
+none_before n m h = omega (arith, h)
+
 pub script_fits : (mode : Mode) (text : List ℕ) (s : scripts.Script TsigKey) (key : TsigKey) (longest : ℕ) → script_of wire_readers text ≡ Ok s → FitsLink mode s key longest → Fits (asking_in mode s key) s.at_primary (offer_in mode s key)
 script_fits mode text s key longest spelt f =
     let sound = script_sound text s spelt in
@@ -296,5 +299,5 @@ script_fits mode text s key longest spelt f =
       records_fit = f.records_fit;
       base_matches = f.base_matches;
       same_zone = record { apex = (same_name-Decides (opened s.secondary).apex (provider_in s key).kept.apex).1 (ap fold (base.0 ∙ sound.apex ∙ sym kept.0)); class = base.1 ∙ sound.class ∙ sym kept.1 };
-      room = f.room;
+      room = none_before _ _ f.room;
     }
