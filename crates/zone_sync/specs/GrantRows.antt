@@ -1,11 +1,11 @@
 -- Worked transfers that have to succeed: a primary that keeps a history of three versions, and secondaries that have the first or the last of them.
-use Rattle.std.specs.Prelude.{ℕ, false, List, [], ◌∷◌, codes}
+use Rattle.std.specs.Prelude.{false, List, [], ◌∷◌, codes}
 use Rattle.dns_rdata.specs.Records.{Record}
 use Rattle.tsig_port.specs.Tsig.{TsigKey}
 use Rattle.tsig_keys.specs.Hmac.{block_key}
 use Rattle.tsig_keys.specs.declared.algorithms.Algorithm.TheVariants.{Sha256}
 use Rattle.zone_model.specs.Version.{Version}
-use Rattle.zone_model.specs.TransferText.{Mode, Axfr, Ixfr}
+use Rattle.zone_model.specs.TransferText.{Mode}
 use Rattle.zone_model.specs.Offer.{Offer, Provider}
 use Rattle.zone_model.specs.ZoneRows as rows
 use Rattle.xfr_server.specs.Offers.{key_id}
