@@ -1,5 +1,5 @@
--- How a client that asked takes the message of a full transfer.
-use Rattle.std.proofs.Common.{◌≡◌, ℕ, ◌≤◌, ◌<◌, ◌^◌, suc, Bool, true, false, ◌||◌, not, cond, List, [], ◌∷◌, ◌++◌, length, map, filter, Option, Some, None, refl, sym, ap, ◌∙◌, arith, subst, eq-eqb, lit<}
+-- How a client that asked takes the messages of a transfer.
+use Rattle.std.proofs.Common.{◌≡◌, ℕ, ◌≤◌, ◌<◌, ◌^◌, suc, Bool, true, false, ◌||◌, not, cond, List, [], ◌∷◌, ◌++◌, length, map, Option, Some, None, refl, sym, ap, ◌∙◌, arith, subst, eq-eqb, lit<}
 use Rattle.std.specs.Prelude.{◌==◌, option_map, option_and_then, filter_map, flat_map}
 use Rattle.std.specs.Option.{option_map_or}
 use Rattle.std.specs.List.{AllByRecursion}
@@ -12,10 +12,8 @@ use Rattle.dns_wire.specs.Parse.{Parsed, parsed, readings, question_at, question
 use Rattle.dns_wire.specs.Written.{IsQuestion, parsed_of}
 use Rattle.dns_wire.proofs.Headers.{header_of-flags_word, word_small}
 use Rattle.dns_wire.proofs.Parsing.{unread, reads}
-use Rattle.zone_model.specs.Version.{RecordSet, Version, set_at}
-use Rattle.zone_model.specs.Answer.{apex_soa_record, first_only, records_of, records_of_option}
-use Rattle.zone_model.specs.Offer.{is_apex_soa, whole_text}
-use Rattle.zone_model.specs.Walk.{records_of_version}
+use Rattle.zone_model.specs.Version.{RecordSet, Version}
+use Rattle.zone_model.specs.Answer.{first_only, records_of, records_of_option}
 use Rattle.xfr_model.specs.Messages.{ReadMessage, read_of}
 use Rattle.xfr_model.specs.Read.{request_fault}
 use Rattle.zone_model.specs.TransferText.{is_soa}
@@ -23,29 +21,31 @@ use Rattle.zone_model.proofs.Folded.{same_name-Decides}
 use Rattle.xfr_batch.specs.XfrBatches.{axfr_header}
 use Rattle.xfr_replies.specs.TransferPages.{page_answer}
 use Rattle.xfr_server.specs.Transfers.{transfer_mode, mode_of_type}
-use Rattle.xfr_server.specs.FullTransfer.{WholeIsTaken, TransferIsMessage}
+use Rattle.xfr_server.specs.GrantedTransfers.{begins_with_soa, WholeIsTaken, TransferIsMessage}
 use Rattle.xfr_services.specs.declared.modes.XfrMode.{XfrMode}
 use Rattle.xfr_services.specs.declared.modes.XfrMode.TheVariants.{Axfr, Ixfr}
 use Rattle.xfr_server.proofs.Pages.{IsPage, each_page}
 
 -- ---- the request
 
-mode_cases : (b : Bool) (o : Option XfrMode) → cond b None o ≡ Some Axfr → (b ≡ false) × (o ≡ Some Axfr)
-mode_cases true o e = cc
-mode_cases false o e = (refl, e)
+mode_cases : (b : Bool) (o : Option XfrMode) (mode : XfrMode) → cond b None o ≡ Some mode → o ≡ Some mode
+mode_cases true o mode e = cc
+mode_cases false o mode e = e
 
-axfr_type : (n : ℕ) (a b : Bool) → (n == type_axfr) ≡ a → cond a (Some Axfr) (cond b (Some Ixfr) None) ≡ Some Axfr → (n == type_axfr) ≡ true
-axfr_type n true b is e = is
-axfr_type n false true is e = cc
-axfr_type n false false is e = cc
+-- whether one of two types is asked for
+mode_type : (full incremental : Bool) (mode : XfrMode) → cond full (Some Axfr) (cond incremental (Some Ixfr) None) ≡ Some mode → (full || incremental) ≡ true
+mode_type true incremental mode e = refl
+mode_type false true mode e = refl
+mode_type false false mode e = cc
 
--- it asks for a full transfer
-asks_axfr : (message : List ℕ) (q : Question) → transfer_mode message ≡ Some Axfr → sole_question_in message ≡ Some q → (q.qtype == type_axfr) ≡ true
-asks_axfr message q mode sole =
+-- it asks for a transfer
+asks_one : (message : List ℕ) (q : Question) (mode : XfrMode) → transfer_mode message ≡ Some mode → sole_question_in message ≡ Some q
+    → ((q.qtype == type_axfr) || (q.qtype == type_ixfr)) ≡ true
+asks_one message q mode asks sole =
     let h = header_in message in
-    let parts = mode_cases (h.qr || not (h.opcode == 0)) (option_and_then (λ (p : Question). mode_of_type p.qtype) (sole_question_in message)) mode in
-    let by : mode_of_type q.qtype ≡ Some Axfr = sym (ap (option_and_then (λ (p : Question). mode_of_type p.qtype)) sole) ∙ parts.1 in
-    axfr_type q.qtype (q.qtype == type_axfr) (q.qtype == type_ixfr) refl by
+    let one = mode_cases (h.qr || not (h.opcode == 0)) (option_and_then (λ (p : Question). mode_of_type p.qtype) (sole_question_in message)) mode asks in
+    let by : mode_of_type q.qtype ≡ Some mode = sym (ap (option_and_then (λ (p : Question). mode_of_type p.qtype)) sole) ∙ one in
+    mode_type (q.qtype == type_axfr) (q.qtype == type_ixfr) mode by
 
 -- its question is the only one
 one_reading : (item : ℕ → Option (Question × ℕ)) (r : Option (Question × ℕ)) (q : Question) → item 12 ≡ r → option_map (λ x. x.0) r ≡ Some q → filter_map (λ x. x) (readings item 1 12) ≡ q ∷ []
@@ -71,7 +71,7 @@ soa_of_items : (v : Version) (ttl : ℕ) (items : List (List Field)) → (length
 soa_of_items v ttl [] e = cc
 soa_of_items v ttl (d ∷ more) e = (record { owner = v.apex; rtype = type_soa; class = v.class; ttl = ttl; fields = d }, (refl, refl))
 
-soa_of : (v : Version) (o : Option RecordSet) → (length (option_map_or (λ (s : RecordSet). s.items) o []) == 1) ≡ true
+pub soa_of : (v : Version) (o : Option RecordSet) → (length (option_map_or (λ (s : RecordSet). s.items) o []) == 1) ≡ true
     → (r : Record) × ((records_of_option v.apex type_soa v.class (option_map first_only o) ≡ r ∷ []) × (is_soa r ≡ true))
 soa_of v None e = cc
 soa_of v (Some s) e = soa_of_items v s.ttl s.items e
@@ -90,11 +90,18 @@ not_none n = grind (arith, nat_tests)
 abbrev read_with : Header → List Question → List Record → ReadMessage
 read_with h qs rs = record { header = axfr_header h; questions = qs; answers = map Some rs; authority = 0 }
 
-taken_first : (h : Header) (q : Question) (r : Record) (rest : List Record) → (q.qtype == type_axfr) ≡ true → is_soa r ≡ true → request_fault h.id q true (read_with h (q ∷ []) (r ∷ rest)) ≡ None
-taken_first h q r rest axfr soa =
+taken_first : (h : Header) (q : Question) (r : Record) (rest : List Record) (full incremental : Bool) → (q.qtype == type_axfr) ≡ full → (q.qtype == type_ixfr) ≡ incremental
+    → (full || incremental) ≡ true → is_soa r ≡ true → request_fault h.id q true (read_with h (q ∷ []) (r ∷ rest)) ≡ None
+taken_first h q r rest full incremental is_full is_incremental asks soa =
     let id : (h.id == h.id) ≡ true = eq-eqb h.id h.id refl in
     let some : (suc (length (map Some rest)) == 0) ≡ false = not_none (length (map Some rest)) in
-    rw (id, same_alone q, some, axfr, soa) refl
+    by full incremental is_full is_incremental asks id some
+  where
+    by : (full incremental : Bool) → (q.qtype == type_axfr) ≡ full → (q.qtype == type_ixfr) ≡ incremental → (full || incremental) ≡ true
+        → (h.id == h.id) ≡ true → (suc (length (map Some rest)) == 0) ≡ false → request_fault h.id q true (read_with h (q ∷ []) (r ∷ rest)) ≡ None
+    by true incremental is_full is_incremental asks id some = rw (id, same_alone q, some, is_full, soa) refl
+    by false true is_full is_incremental asks id some = rw (id, same_alone q, some, is_full, is_incremental, soa) refl
+    by false false is_full is_incremental asks id some = cc
 
 taken_later : (h : Header) (q : Question) (r : Record) (rest : List Record) → request_fault h.id q false (read_with h (q ∷ []) (r ∷ rest)) ≡ None
 taken_later h q r rest =
@@ -113,13 +120,12 @@ read_page message q page asked =
     ∙ ap (λ qs. read_with h qs page) asked
 
 -- a page of a text that begins with an SOA
-first_taken : (message : List ℕ) (q : Question) (page rest behind : List Record) (r : Record) → questions_in message ≡ q ∷ [] → (q.qtype == type_axfr) ≡ true → is_soa r ≡ true
-    → 1 ≤ length page → page ++ behind ≡ r ∷ rest → request_fault (id_in message) q true (read_of (page_answer message page)) ≡ None
-first_taken message q [] rest behind r asked axfr soa some text = absurd (omega (arith, some))
-first_taken message q (x ∷ page) rest behind r asked axfr soa some text =
-    let first : r ≡ x = cc in
+first_taken : (message : List ℕ) (q : Question) (page behind text : List Record) → questions_in message ≡ q ∷ [] → ((q.qtype == type_axfr) || (q.qtype == type_ixfr)) ≡ true
+    → begins_with_soa text ≡ true → 1 ≤ length page → page ++ behind ≡ text → request_fault (id_in message) q true (read_of (page_answer message page)) ≡ None
+first_taken message q [] behind text asked asks soa some joined = absurd (omega (arith, some))
+first_taken message q (x ∷ page) behind text asked asks soa some joined =
     ap (request_fault (header_in message).id q true) (read_page message q (x ∷ page) asked)
-    ∙ taken_first (header_in message) q x page axfr (subst (λ y. is_soa y ≡ true) first soa)
+    ∙ taken_first (header_in message) q x page (q.qtype == type_axfr) (q.qtype == type_ixfr) refl refl asks (ap begins_with_soa joined ∙ soa)
 
 later_taken : (message : List ℕ) (q : Question) (page : List Record) → questions_in message ≡ q ∷ [] → 1 ≤ length page → request_fault (id_in message) q false (read_of (page_answer message page)) ≡ None
 later_taken message q [] asked some = absurd (omega (arith, some))
@@ -132,13 +138,10 @@ all_later message q room [] asked each = tt
 all_later message q room (page ∷ more) asked each = (later_taken message q page asked each.0.0, all_later message q room more asked each.1)
 
 pub whole_is_taken : WholeIsTaken
-whole_is_taken message q v room singles page more mode sole one cut =
+whole_is_taken message q mode text room singles page more asks sole begins cut =
     let asked = asked_alone message q sole in
-    let soa = soa_of v (set_at v v.apex type_soa) one in
-    let middle = filter (λ r. not (is_apex_soa v r)) (records_of_version v) in
-    let text : whole_text v ≡ soa.0 ∷ (middle ++ apex_soa_record v) = ap (λ rs. (rs ++ middle) ++ apex_soa_record v) soa.1.0 in
     let each = each_page room singles (page ∷ more) cut.filled in (
-      first_taken message q page (middle ++ apex_soa_record v) (flat_map (λ p. p) more) soa.0 asked (asks_axfr message q mode sole) soa.1.1 each.0.0 (cut.joined ∙ text),
+      first_taken message q page (flat_map (λ p. p) more) text asked (asks_one message q mode asks sole) begins each.0.0 cut.joined,
       all_later message q room more asked each.1,
     )
 

@@ -9,4 +9,6 @@ pub mod Transfers
 pub mod Choosing
 pub mod Streams
 pub mod Serving
-pub mod FullTransfer
+pub mod SentTexts
+pub mod GrantedTransfers
+pub mod SignedAnswers

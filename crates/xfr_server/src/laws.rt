@@ -1,30 +1,52 @@
 // Laws of what a primary sends, each the contract of a function with an empty body.
-ghost use Rattle.std.specs.Prelude.{◌≡◌, true, List, Option};
+ghost use Rattle.std.specs.Prelude.{◌≡◌, ℕ, true, List, Option};
 ghost use Rattle.tsig_port.specs.Tsig.{TsigKey};
 ghost use Rattle.zone_model.specs.Offer.{Offer};
 ghost use Rattle.xfr_server.specs.Items.{Sending};
 ghost use Rattle.xfr_server.specs.Offers.{CommitsMayBePushed, HistoryGrants, HistoryIsOffered};
-ghost use Rattle.xfr_server.specs.FullTransfer.{SendsWhole, WholeIsTaken, TransferIsMessage};
+ghost use Rattle.xfr_server.specs.SentTexts.{TextIsChosen};
+ghost use Rattle.xfr_server.specs.GrantedTransfers.{SendsWhole, TextsBegin, WholeIsTaken, TransferIsMessage};
+ghost use Rattle.xfr_server.specs.SignedAnswers.{OtherIsHandedOn, TransferIsAnswered};
 ghost use Rattle.xfr_services.specs.Failing.{fails, FailsWhereLong, IsTooLong};
 ghost use Rattle.xfr_services.specs.declared.requests.Request.{Request as RequestOf};
+ghost use Rattle.xfr_services.specs.declared.modes.XfrMode.{XfrMode as ModeOf};
 ghost use Rattle.tsig_port.specs.ServerCheck.{verdict};
 
 use crate::{PrimaryStack, Service, XfrDataProvider, XfrMiddlewareSvc};
 use tsig_port::KeyStore;
 
-/// A signed request for a full transfer that a primary accepts and its provider grants is answered with the whole text, a message for each
-/// of its pages, signed one after another.
-pub fn full_transfers_are_sent<
+/// By a stream, what is sent of an offer is the model's text in answer to the serial that is named, and each text begins with an SOA.
+pub fn texts_are_chosen()
+    ensures chosen { TextIsChosen }
+    ensures begin { TextsBegin }
+{}
+
+/// A signed request for a transfer that a primary accepts and its provider grants is answered with the whole text, be it the zone, the
+/// differences or the SOA alone: a message for each of its pages, signed one after another.
+pub fn granted_transfers_are_sent<
     KS: KeyStore + Drop,
     N: Service<Option<KS::Key>> + Drop,
     X: XfrDataProvider<Option<KS::Key>> + Drop,
 >()
-    ensures { (next : N) (provider : X) (keys : KS) (r : RequestOf (Unit {0})) (key : TsigKey) (offer : Offer) (sent : Option (List Sending))
-        → SendsWhole (⟦<PrimaryStack<N, X, KS> as Service<()>>⟧.Sends ((next, provider), keys)) KS.Key.the_key (KS.key_of keys) (X.told provider) r key offer sent }
+    ensures { (next : N) (provider : X) (keys : KS) (r : RequestOf (Unit {0})) (key : TsigKey) (mode : ModeOf) (serial : ℕ) (offer : Offer) (sent : Option (List Sending))
+        → SendsWhole (⟦<PrimaryStack<N, X, KS> as Service<()>>⟧.Sends ((next, provider), keys)) KS.Key.the_key (KS.key_of keys) (X.told provider) r key mode serial offer sent }
+{}
+
+/// A signed request that a primary accepts, by whatever transport: where it asks for a transfer, what is chosen of the provider's offer is told
+/// in messages that are signed one after another; any other is answered by the next service, and its replies are signed.
+pub fn signed_requests_are_answered<
+    KS: KeyStore + Drop,
+    N: Service<Option<KS::Key>> + Drop,
+    X: XfrDataProvider<Option<KS::Key>> + Drop,
+>()
+    ensures transfers { (next : N) (provider : X) (keys : KS) (r : RequestOf (Unit {0})) (key : TsigKey) (mode : ModeOf) (sent : Option (List Sending))
+        → TransferIsAnswered (⟦<PrimaryStack<N, X, KS> as Service<()>>⟧.Sends ((next, provider), keys)) KS.Key.the_key (KS.key_of keys) (X.told provider) r key mode sent }
+    ensures others { (next : N) (provider : X) (keys : KS) (r : RequestOf (Unit {0})) (key : TsigKey) (sent : Option (List Sending))
+        → OtherIsHandedOn (⟦<PrimaryStack<N, X, KS> as Service<()>>⟧.Sends ((next, provider), keys)) (KS.key_of keys) (N.Sends next) r key sent }
 {}
 
 /// Nothing refuses these messages as the answers to their request, and each has a wire form where its records have one.
-pub fn full_transfers_are_taken()
+pub fn granted_transfers_are_taken()
     ensures taken { WholeIsTaken }
     ensures wire { TransferIsMessage }
 {}

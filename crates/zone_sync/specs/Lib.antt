@@ -18,3 +18,5 @@ pub mod Handles
 pub mod Fitting
 pub mod Delivery
 pub mod Grants
+pub mod LongQuestions
+pub mod GrantRows

@@ -1,6 +1,0 @@
-use Rattle.xfr_server.proofs.FullTransfer.{whole_sent}
-use Rattle.xfr_server.proofs.laws.full_transfers_are_sent.Goals as goal
-
-pub returns : goal.returns
-returns g c = λ next provider keys r key offer sent.
-    whole_sent _ g.KS.Key.KeyRef.the_key (g.KS.KeyStore.key_of keys) (g.N.Service.Sends next) (g.X.XfrDataProvider.told provider) r key offer sent
