@@ -12,3 +12,4 @@ pub mod Serving
 pub mod SentTexts
 pub mod GrantedTransfers
 pub mod SignedAnswers
+pub mod AnswerRows

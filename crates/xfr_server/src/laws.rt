@@ -15,7 +15,7 @@ ghost use Rattle.tsig_port.specs.ServerCheck.{verdict};
 use crate::{PrimaryStack, Service, XfrDataProvider, XfrMiddlewareSvc};
 use tsig_port::KeyStore;
 
-/// By a stream, what is sent of an offer is the model's text in answer to the serial that is named, and each text begins with an SOA.
+/// What is sent of an offer is the model's text in answer to the serial that is named, but to who asks for AXFR by UDP; each text begins with an SOA.
 pub fn texts_are_chosen()
     ensures chosen { TextIsChosen }
     ensures begin { TextsBegin }

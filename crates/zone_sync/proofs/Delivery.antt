@@ -1,5 +1,5 @@
 -- Over an honest link to a granting primary a transfer ends well.
-use Rattle.std.proofs.Common.{◌≡◌, ℕ, ◌+◌, ◌-◌, ◌^◌, ◌<◌, ◌≤◌, Bool, true, false, not, ◌&&◌, List, [], ◌∷◌, ◌++◌, length, length-append, drop, min, append_assoc, append-nil, refl, sym, ap, ◌∙◌, subst, arith, ◌⊎◌, inl, inr, Option, Some, None, is_some, Result, Ok, Err}
+use Rattle.std.proofs.Common.{◌≡◌, ℕ, ◌+◌, ◌-◌, ◌^◌, ◌<◌, Bool, true, false, not, ◌&&◌, List, [], ◌∷◌, ◌++◌, length, length-append, drop, append_assoc, append-nil, refl, sym, ap, ◌∙◌, subst, arith, ◌⊎◌, inl, inr, Option, Some, None, is_some, Result, Ok, Err}
 use Rattle.std.specs.Prelude.{◌==◌, unwrap_or}
 use Rattle.std.specs.List.{last_or, list_all}
 use Rattle.dns_message.specs.declared.message.ShortMessage.{ShortMessage}
@@ -16,12 +16,12 @@ use Rattle.xfr_course.specs.Outcome.{Outcome, Updated, UpToDate, Ended, Short, C
 use Rattle.xfr_course.specs.Courses.{has_header}
 use Rattle.xfr_course.specs.Success.{Succeeds}
 use Rattle.zone_devices.specs.Calls.{Rose}
-use Rattle.zone_devices.specs.Links.{Way, LinkLists, HandsOn, IsHonest, WentOn, BothWentOn, LinkWentOn}
+use Rattle.zone_devices.specs.Links.{Way, LinkLists, HandsOn, IsHonest, WentOn}
 use Rattle.zone_sync.specs.SoFar.{Asking, asked_octets, lacks_soa, course_so_far}
 use Rattle.zone_sync.specs.Steps.{commit_after, HasMade}
 use Rattle.zone_sync.specs.Ending.{answer_of}
-use Rattle.zone_sync.specs.Serving.{request_at, SendsAll, SendsUntil, SendsPart, FailsAfter, HasBegun, RepliedTo, NotReplied, IsServed}
-use Rattle.zone_sync.specs.Transfers.{given_up, course_answered, AnswersCourse, Transfers, RequestsEnded, RepliesEnded, IsEnded, HasShort, NotAsked, ComesAfter, Asks, SyncSays}
+use Rattle.zone_sync.specs.Serving.{SendsAll, FailsAfter, HasBegun, RepliedTo, NotReplied, IsServed}
+use Rattle.zone_sync.specs.Transfers.{given_up, course_answered, AnswersCourse, IsEnded, HasShort, NotAsked, ComesAfter, Asks, SyncSays}
 use Rattle.zone_sync.specs.Fitting.{sent_pages, BaseMatches}
 use Rattle.zone_sync.specs.Delivery.{IsGranted, WasHonest, Delivers}
 use Rattle.zone_sync.specs.declared.outcome.SyncOk.{SyncOk}

@@ -1,6 +1,5 @@
 -- The worked transfers meet their premises.
-use Rattle.std.proofs.Common.{◌≡◌, ℕ, ◌≤◌, true, List, [], ◌∷◌, length, min, refl, ap, arith, lit<, lit≤}
-use Rattle.dns_rdata.specs.Records.{Record}
+use Rattle.std.proofs.Common.{ℕ, ◌≤◌, [], ◌∷◌, length, min, refl, arith, lit<, lit≤}
 use Rattle.dns_wire.specs.Wire.{message_wire}
 use Rattle.dns_wire.specs.Written.{IsRecord}
 use Rattle.tsig_port.specs.Tsig.{compose_len}
@@ -11,7 +10,7 @@ use Rattle.zone_model.specs.TransferLaws.{IsPublished}
 use Rattle.zone_model.specs.ZoneRows as rows
 use Rattle.zone_model.proofs.Published.{published_by_test}
 use Rattle.zone_sync.specs.SoFar.{asked_octets, request_message}
-use Rattle.zone_sync.specs.Fitting.{Fits, sent_text}
+use Rattle.zone_sync.specs.Fitting.{Fits}
 use Rattle.zone_sync.specs.GrantRows as grants
 use Rattle.zone_sync.proofs.Lengths.{asked_length}
 

@@ -22,11 +22,11 @@ use Rattle.xfr_replies.specs.TransferPages.{page_answer}
 use Rattle.xfr_server.specs.GrantedTransfers.{begins_with_soa}
 use Rattle.xfr_server.proofs.Accepted.{whole_is_taken}
 use Rattle.xfr_server.proofs.Pages.{IsPage, each_page}
-use Rattle.xfr_course.specs.Outcome.{Outcome, Updated, UpToDate, Course, outcome, made}
+use Rattle.xfr_course.specs.Outcome.{Outcome, Updated, UpToDate, Course, outcome}
 use Rattle.xfr_course.specs.Courses.{has_header, most_replies, stop_after}
 use Rattle.xfr_course.specs.Granting.{Ends, IsGranting, in_singles}
 use Rattle.xfr_course.specs.Honest.{carrier_of}
-use Rattle.xfr_course.specs.Success.{signed_checked, sent_course, CarrySent, Succeeds}
+use Rattle.xfr_course.specs.Success.{sent_course, CarrySent, Succeeds}
 use Rattle.xfr_course.proofs.Clients.{met_decides}
 use Rattle.xfr_course.proofs.Succeeding.{granted_succeeds}
 use Rattle.zone_sync.specs.SoFar.{Asking, asked_id, asked_question, asked_course, course_so_far, checked_so_far, fault_so_far, client_so_far}

@@ -1,5 +1,5 @@
 -- The cause of a primary's error.
-use Rattle.std.proofs.Common.{◌≡◌, ℕ, Bool, true, false, List, [], ◌∷◌, refl, ap, subst, ◌⊎◌, inl, inr, Option, Some, None, Err}
+use Rattle.std.proofs.Common.{◌≡◌, ℕ, Bool, true, false, List, [], ◌∷◌, refl, ap, inl, inr, Option, Some, None, Err}
 use Rattle.tsig_port.specs.ServerCheck.{Keys, verdict}
 use Rattle.xfr_server.specs.Items.{Sending}
 use Rattle.xfr_services.specs.Failing.{fails, IsTooLong}

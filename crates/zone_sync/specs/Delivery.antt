@@ -1,5 +1,5 @@
 -- A transfer over an honest link to a granting primary: when it has to end well, and what it leaves (RFC 5936, 2 and 6).
-use Rattle.std.specs.Prelude.{◌≡◌, ℕ, ◌<◌, ◌≤◌, ◌-◌, ◌^◌, List, [], ◌∷◌, length, min, Option, Some, None, Result, Ok, Err}
+use Rattle.std.specs.Prelude.{◌≡◌, ℕ, ◌<◌, ◌≤◌, ◌-◌, ◌^◌, List, length, min, Option, Some, Result, Ok, Err}
 use Rattle.zone_model.specs.Version.{Version, Same}
 use Rattle.zone_model.specs.Offer.{Offer}
 use Rattle.zone_model.specs.Commits.{Commit}

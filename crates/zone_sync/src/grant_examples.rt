@@ -3,7 +3,7 @@ ghost use Rattle.std.specs.Prelude.{◌≡◌, [], ◌∷◌};
 ghost use Rattle.zone_model.specs.TransferText.{Axfr, Ixfr};
 ghost use Rattle.zone_model.specs.ZoneRows as rows;
 ghost use Rattle.zone_sync.specs.Serving.{request_at};
-ghost use Rattle.zone_sync.specs.Fitting.{Fits, sent_text};
+ghost use Rattle.zone_sync.specs.Fitting.{BaseMatches, Fits, sent_text};
 ghost use Rattle.zone_sync.specs.Delivery.{IsGranted};
 ghost use Rattle.zone_sync.specs.Primaries.{refuser};
 ghost use Rattle.zone_sync.specs.GrantRows as grants;
@@ -56,3 +56,13 @@ pub fn caught_up_row()
     // For the proof: the law of such a primary.
     history_primaries_grant();
 }
+
+/// They aren't met where the moments are 301 seconds apart, or where no further version can be numbered; nor where the base isn't what the
+/// differences start at, is ahead of the offered version, or has its serial and not its content.
+pub fn unmet_row()
+    ensures late { Fits (grants.asks Ixfr rows.history_1) 1301 (grants.offered Ixfr rows.history_1) → ⊥ }
+    ensures no_number { Fits grants.asks_last 1000 (grants.offered Axfr rows.empty_zone) → ⊥ }
+    ensures not_first { BaseMatches (rows.zone (rows.soa 1 ∷ [])) (grants.offered Ixfr rows.history_1) (rows.history_1 ∷ rows.history_2 ∷ rows.history_3 ∷ []) → ⊥ }
+    ensures ahead { BaseMatches (rows.zone (rows.soa 4 ∷ [])) (grants.offered Ixfr rows.history_3) (rows.history_3 ∷ []) → ⊥ }
+    ensures other_content { BaseMatches (rows.zone (rows.soa 3 ∷ [])) (grants.offered Ixfr rows.history_3) (rows.history_3 ∷ []) → ⊥ }
+{}

@@ -1,3 +1,4 @@
+use Rattle.std.proofs.Common.{refl}
 use Rattle.tsig_port.specs.Tsig.{TsigKey}
 use Rattle.tsig_port.specs.Keys.{own_key}
 use Rattle.zone_model.specs.Difference.{zone_serial}
