@@ -1,5 +1,5 @@
 -- The words of the program, and the kind of transfer that they ask for.
-use Rattle.std.specs.Prelude.{◌≡◌, ◌≢◌, ◌⊎◌, ℕ, List, Option, Some, None}
+use Rattle.std.specs.Prelude.{◌≡◌, ◌≢◌, ◌⊎◌, ℕ, List, Option, Some}
 use Rattle.std.proofs.Common.{refl, sym, ap, ◌∙◌, subst, inl, inr}
 use Rattle.zone_model.specs.TransferText.{Mode}
 use Rattle.xfr_services.specs.declared.modes.XfrMode.{XfrMode}

@@ -1,5 +1,5 @@
 -- How a run ends over an honest link, where the script's parts fit each other.
-use Rattle.std.specs.Prelude.{◌≡◌, ◌≢◌, ◌⊎◌, ◌≤◌, ◌&&◌, ◌||◌, ◌==◌, true, false, ℕ, List, [], ◌∷◌, length, min, Option, Some, None, Result, Ok, Err, IsTrue, unwrap_or}
+use Rattle.std.specs.Prelude.{◌≡◌, ◌≢◌, ◌⊎◌, ◌≤◌, ◌&&◌, ◌||◌, ◌==◌, true, false, ℕ, List, [], ◌∷◌, length, min, Option, Some, Result, Ok, Err, unwrap_or}
 use Rattle.std.specs.List.{list_any}
 use Rattle.std.proofs.Common.{refl, sym, ap, subst, ◌∙◌, inl, inr, eq-eqb}
 use Rattle.dns_name.specs.Names.{Name, same_name}

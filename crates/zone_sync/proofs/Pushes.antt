@@ -1,5 +1,5 @@
 -- What a primary keeps after commits were pushed to it.
-use Rattle.std.specs.Prelude.{◌≡◌, ℕ, Bool, true, false, if◌then◌else◌, List, [], ◌∷◌, length, Option, Some, None}
+use Rattle.std.specs.Prelude.{◌≡◌, Bool, true, false, if◌then◌else◌, List, [], ◌∷◌, length, Option, Some, None}
 use Rattle.std.proofs.Common.{refl, sym, ap, ◌∙◌, subst, arith}
 use Rattle.zone_model.specs.Commits.{Commit}
 use Rattle.zone_model.specs.Difference.{Difference, diffable, difference}

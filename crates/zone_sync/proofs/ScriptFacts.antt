@@ -6,7 +6,7 @@ use Rattle.std.proofs.Common.{refl, sym, ap, ◌∙◌, subst, arith, lt-ltb}
 use Rattle.hex.specs.Hex as hex
 use Rattle.hex.specs.declared.error.FromHexError.{FromHexError}
 use Rattle.hex.proofs.HexLemmas.{decode_of-ok}
-use Rattle.dns_name.specs.Names.{Name, fold, name_wire, is_name, same_name, under}
+use Rattle.dns_name.specs.Names.{Name, fold, name_wire, is_name, under}
 use Rattle.dns_name.specs.Octets.{◌>>=◌}
 use Rattle.dns_name.specs.Compression.{name_in, name_at}
 use Rattle.dns_name.proofs.NameBounds.{read_is_name}
@@ -16,7 +16,7 @@ use Rattle.tsig_keys.specs.declared.errors.NewKeyError.{NewKeyError}
 use Rattle.tsig_keys.specs.declared.algorithms.Algorithm.{Algorithm}
 use Rattle.tsig_port.specs.Tsig.{TsigKey, new_key, is_mac_len}
 use Rattle.zone_model.specs.Version.{Sets, Version}
-use Rattle.zone_model.specs.Edits.{Refusal, with_sets, has_data, second_alias, add, delete, close}
+use Rattle.zone_model.specs.Edits.{Refusal, with_sets, has_data, second_alias, close}
 use Rattle.zone_model.specs.Classify.{ZoneFile, RecordVerdict, Accepted, Rejected, classify, opened, opened_with}
 use Rattle.zone_model.specs.Offer.{Provider, after_push, difference_if}
 use Rattle.zone_model.specs.TransferText.{Mode}

@@ -1,5 +1,5 @@
 -- The worked scripts: their zones, keys and moments fit each other.
-use Rattle.std.proofs.Common.{◌≡◌, ℕ, ◌≤◌, [], ◌∷◌, length, min, refl, arith, lit<, lit≤}
+use Rattle.std.proofs.Common.{ℕ, ◌≤◌, [], ◌∷◌, length, min, refl, arith, lit<, lit≤}
 use Rattle.dns_wire.specs.Wire.{message_wire}
 use Rattle.dns_wire.specs.Written.{IsRecord}
 use Rattle.tsig_port.specs.Tsig.{TsigKey, compose_len}

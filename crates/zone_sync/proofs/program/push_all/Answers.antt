@@ -1,4 +1,4 @@
-use Rattle.std.proofs.Common.{◌≡◌, [], refl, sym, ap, ◌∙◌, arith, length}
+use Rattle.std.proofs.Common.{◌≡◌, [], sym, ap, ◌∙◌, arith, length}
 use Rattle.std.specs.Vec.Iter.{into_iter_items}
 use Rattle.zone_sync.specs.Reported.{pushed_all, versions_of}
 use Rattle.zone_sync.proofs.Pushes.{first_may, one_pushed, none_left}

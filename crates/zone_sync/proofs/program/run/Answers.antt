@@ -1,7 +1,4 @@
-use Rattle.std.specs.Prelude.{map, string_bytes}
-use Rattle.std.proofs.Common.{refl, sym, subst, inl, absurd}
-use Rattle.zone_script.specs.Words.{form_of}
-use Rattle.zone_sync.specs.Reported.{IsDue, Wrote}
+use Rattle.std.proofs.Common.{refl}
 use Rattle.zone_sync.specs.declared.program.Status.TheVariants.{Usage}
 use Rattle.zone_sync.proofs.Asked.{asked_form, not_other, words_asked, script_asked, words_other, is_sink}
 use Rattle.zone_sync.proofs.Dues.{untouched, wrote_last}
