@@ -12,7 +12,7 @@ pub mod stored_zones;
 pub mod transfer;
 mod transfer_message;
 
-pub use laws::commits_may_be_pushed;
+pub use laws::{commits_may_be_pushed, granted_transfers_are_sent, primaries_fail_where_long};
 pub use providers::{HistoryProvider, XfrData, XfrDataProvider, XfrDataProviderError};
 pub use stored_zones::{StoredZone, current_data};
 pub use transfer::{XfrMiddlewareStream, XfrMiddlewareSvc};

@@ -1,99 +1,41 @@
 -- Over an honest link to a granting primary a transfer ends well.
-use Rattle.std.proofs.Common.{◌≡◌, ℕ, ◌+◌, ◌-◌, ◌^◌, ◌<◌, ◌≤◌, Bool, true, false, not, ◌&&◌, List, [], ◌∷◌, ◌++◌, length, length-append, drop, min, append_assoc, append-nil, refl, sym, ap, ◌∙◌, subst, arith, ◌⊎◌, inl, inr, Option, Some, None, Result, Ok, Err}
+use Rattle.std.proofs.Common.{◌≡◌, ℕ, ◌+◌, ◌-◌, ◌^◌, ◌<◌, Bool, true, false, not, ◌&&◌, List, [], ◌∷◌, ◌++◌, length, length-append, drop, append_assoc, append-nil, refl, sym, ap, ◌∙◌, subst, arith, ◌⊎◌, inl, inr, Option, Some, None, is_some, Result, Ok, Err}
 use Rattle.std.specs.Prelude.{◌==◌, unwrap_or}
 use Rattle.std.specs.List.{last_or, list_all}
 use Rattle.dns_message.specs.declared.message.ShortMessage.{ShortMessage}
-use Rattle.zone_model.specs.Version.{Version, Same}
+use Rattle.dns_name.specs.Codes.{type_soa}
+use Rattle.dns_rdata.specs.Records.{Field}
+use Rattle.dns_wire.specs.declared.builder.PushError.TheVariants.{ShortBuf, CountOverflow, Memory as OutOfMemory}
+use Rattle.zone_model.specs.Version.{Version, Same, data_at, first_or_none}
 use Rattle.zone_model.specs.Commits.{Commit}
 use Rattle.zone_model.specs.Session.{Session}
-use Rattle.xfr_client.specs.declared.protocol.Error.TheVariants as message
-use Rattle.xfr_client.specs.declared.protocol.IterationError.TheVariants as item
-use Rattle.xfr_client.specs.declared.update.Error.TheVariants as update
+use Rattle.zone_model.specs.TransferText.{Mode, Axfr, Ixfr, OnIxfr}
 use Rattle.xfr_server.specs.Items.{Sending, sent_by}
 use Rattle.xfr_services.specs.declared.services.ServiceError.{ServiceError}
-use Rattle.xfr_course.specs.Outcome.{Outcome, Updated, UpToDate, Ended, Short, Course, outcome, made}
+use Rattle.xfr_course.specs.Outcome.{Outcome, Updated, UpToDate, Ended, Short, Course, outcome, made, needs_soa}
 use Rattle.xfr_course.specs.Courses.{has_header}
 use Rattle.xfr_course.specs.Success.{Succeeds}
 use Rattle.zone_devices.specs.Calls.{Rose}
-use Rattle.zone_devices.specs.Links.{Way, LinkLists, HandsOn, IsHonest, WentOn, BothWentOn, LinkWentOn}
-use Rattle.zone_sync.specs.SoFar.{Asking, asked_octets, course_so_far}
+use Rattle.zone_devices.specs.Links.{Way, LinkLists, HandsOn, IsHonest, WentOn}
+use Rattle.zone_sync.specs.SoFar.{Asking, asked_octets, lacks_soa, course_so_far}
 use Rattle.zone_sync.specs.Steps.{commit_after, HasMade}
-use Rattle.zone_sync.specs.Ending.{refusal_outcome, outcome_of}
-use Rattle.zone_sync.specs.Serving.{request_at, SendsAll, SendsUntil, SendsPart, FailsAfter, HasBegun, RepliedTo, NotReplied, IsServed}
-use Rattle.zone_sync.specs.Transfers.{given_up, course_answered, AnswersCourse, Transfers, RequestsEnded, RepliesEnded, IsEnded, HasShort, ComesBefore, SyncSays}
-use Rattle.zone_sync.specs.Fitting.{sent_whole}
+use Rattle.zone_sync.specs.Ending.{answer_of}
+use Rattle.zone_sync.specs.Serving.{SendsAll, FailsAfter, HasBegun, RepliedTo, NotReplied, IsServed}
+use Rattle.zone_sync.specs.Transfers.{given_up, course_answered, AnswersCourse, IsEnded, HasShort, NotAsked, ComesAfter, Asks, SyncSays}
+use Rattle.zone_sync.specs.Fitting.{sent_pages, BaseMatches}
 use Rattle.zone_sync.specs.Delivery.{IsGranted, WasHonest, Delivers}
 use Rattle.zone_sync.specs.declared.outcome.SyncOk.{SyncOk}
-use Rattle.zone_sync.specs.declared.outcome.SyncOk.TheVariants as done
 use Rattle.zone_sync.specs.declared.outcome.SyncError.{SyncError}
 use Rattle.zone_sync.specs.declared.outcome.SyncError.TheVariants as why
 use Rattle.zone_sync.proofs.Serving.{headed_served}
 use Rattle.zone_sync.proofs.HonestRequests.{request_has_header}
 use Rattle.zone_sync.proofs.HonestCourses.{Waits, IsPart, part_of}
 
--- ---- outcomes
-
-abbrev is_memory : Result SyncOk SyncError → Bool
-is_memory (Err why.Memory) = true
-is_memory answer = false
-
-answered : (c : Course) (answer : Result SyncOk SyncError) → is_memory answer ≡ false → AnswersCourse c answer → outcome_of answer ≡ Some (outcome c)
-answered c (Ok x) h k = k
-answered c (Err why.NoSoa) h k = k
-answered c (Err (why.Request x)) h k = k
-answered c (Err why.LinkFault) h k = k
-answered c (Err why.Ended) h k = k
-answered c (Err (why.Short x)) h k = k
-answered c (Err (why.Primary x)) h k = k
-answered c (Err why.TooManyMessages) h k = k
-answered c (Err (why.Tsig x)) h k = k
-answered c (Err why.OtherAnswer) h k = k
-answered c (Err (why.Xfr x)) h k = k
-answered c (Err (why.Iteration x)) h k = k
-answered c (Err (why.Update x)) h k = k
-answered c (Err why.VersionsExhausted) h k = k
-answered c (Err why.Memory) h k = absurd (cc h)
-
--- no refusal is an outcome of success
-abbrev is_good : Option Outcome → Bool
-is_good (Some Updated) = true
-is_good (Some UpToDate) = true
-is_good _ = false
-
-refused_badly : (e : SyncError) → is_good (refusal_outcome e) ≡ false
-refused_badly why.NoSoa = refl
-refused_badly (why.Request x) = refl
-refused_badly why.LinkFault = refl
-refused_badly why.Ended = refl
-refused_badly (why.Short x) = refl
-refused_badly (why.Primary x) = refl
-refused_badly why.TooManyMessages = refl
-refused_badly (why.Tsig x) = refl
-refused_badly why.OtherAnswer = refl
-refused_badly (why.Xfr message.ParseError) = refl
-refused_badly (why.Xfr message.NotValidXfrResponse) = refl
-refused_badly (why.Xfr message.Malformed) = refl
-refused_badly (why.Xfr message.Finished) = refl
-refused_badly (why.Iteration item.ParseError) = refl
-refused_badly (why.Iteration item.AlreadyFinished) = refl
-refused_badly (why.Iteration item.SingleSoaIxfrTcpRetrySignal) = refl
-refused_badly (why.Iteration item.MissingInitialSoa) = refl
-refused_badly (why.Update update.OutOfZone) = refl
-refused_badly (why.Update update.NotSoaRecord) = refl
-refused_badly (why.Update update.IncompatibleUpdate) = refl
-refused_badly (why.Update update.InvalidData) = refl
-refused_badly (why.Update update.VersionsExhausted) = refl
-refused_badly (why.Update update.Finished) = refl
-refused_badly (why.Update update.Memory) = refl
-refused_badly why.VersionsExhausted = refl
-refused_badly why.Memory = refl
-
-good_end : (o : Outcome) → (o ≡ Updated) ⊎ (o ≡ UpToDate) → is_good (Some o) ≡ true
-good_end o (inl h) = ap (λ (x : Outcome). is_good (Some x)) h
-good_end o (inr h) = ap (λ (x : Outcome). is_good (Some x)) h
+-- ---- answers
 
 -- where no reply was taken, the answer is one that comes in its place
 abbrev is_early : Result SyncOk SyncError → Bool
+is_early (Err why.NoSoa) = true
 is_early (Err (why.Request e)) = true
 is_early (Err why.LinkFault) = true
 is_early (Err why.Ended) = true
@@ -102,10 +44,9 @@ is_early (Err (why.Primary e)) = true
 is_early (Err why.Memory) = true
 is_early answer = false
 
-in_place : (answer : Result SyncOk SyncError) → outcome_of answer ≡ Some (given_up answer) → is_early answer ≡ true
-in_place (Ok done.Updated) h = absurd (cc h)
-in_place (Ok done.UpToDate) h = absurd (cc h)
-in_place (Err why.NoSoa) h = absurd (cc h)
+in_place : (answer : Result SyncOk SyncError) → answer ≡ answer_of (given_up answer) → is_early answer ≡ true
+in_place (Ok x) h = absurd (cc h)
+in_place (Err why.NoSoa) h = refl
 in_place (Err (why.Request x)) h = refl
 in_place (Err why.LinkFault) h = refl
 in_place (Err why.Ended) h = refl
@@ -114,23 +55,21 @@ in_place (Err (why.Primary x)) h = refl
 in_place (Err why.TooManyMessages) h = absurd (cc h)
 in_place (Err (why.Tsig x)) h = absurd (cc h)
 in_place (Err why.OtherAnswer) h = absurd (cc h)
-in_place (Err (why.Xfr message.ParseError)) h = absurd (cc h)
-in_place (Err (why.Xfr message.NotValidXfrResponse)) h = absurd (cc h)
-in_place (Err (why.Xfr message.Malformed)) h = absurd (cc h)
-in_place (Err (why.Xfr message.Finished)) h = absurd (cc h)
-in_place (Err (why.Iteration item.ParseError)) h = absurd (cc h)
-in_place (Err (why.Iteration item.AlreadyFinished)) h = absurd (cc h)
-in_place (Err (why.Iteration item.SingleSoaIxfrTcpRetrySignal)) h = absurd (cc h)
-in_place (Err (why.Iteration item.MissingInitialSoa)) h = absurd (cc h)
-in_place (Err (why.Update update.OutOfZone)) h = absurd (cc h)
-in_place (Err (why.Update update.NotSoaRecord)) h = absurd (cc h)
-in_place (Err (why.Update update.IncompatibleUpdate)) h = absurd (cc h)
-in_place (Err (why.Update update.InvalidData)) h = absurd (cc h)
-in_place (Err (why.Update update.VersionsExhausted)) h = absurd (cc h)
-in_place (Err (why.Update update.Finished)) h = absurd (cc h)
-in_place (Err (why.Update update.Memory)) h = absurd (cc h)
+in_place (Err (why.Xfr x)) h = absurd (cc h)
+in_place (Err (why.Iteration x)) h = absurd (cc h)
+in_place (Err (why.Update x)) h = absurd (cc h)
 in_place (Err why.VersionsExhausted) h = absurd (cc h)
 in_place (Err why.Memory) h = refl
+
+-- success isn't answered by a refusal
+not_good : (e : SyncError) (o : Outcome) → Err e ≡ answer_of o → (o ≡ Updated) ⊎ (o ≡ UpToDate) → ⊥
+not_good e o h (inl g) = cc (h ∙ ap answer_of g)
+not_good e o h (inr g) = cc (h ∙ ap answer_of g)
+
+-- a base with one apex SOA has one to ask with
+has_first : (items : List (List Field)) → (length items == 1) ≡ true → is_some (first_or_none items) ≡ true
+has_first [] h = absurd (cc h)
+has_first (d ∷ more) h = refl
 
 -- ---- what passed
 
@@ -189,13 +128,13 @@ hands_on old new taken handed h w = record {
 
 module _ (Sends : List ℕ → Option (List Sending) → Type 0) (a : Asking) (at longest : ℕ) (v : Version) (grant : IsGranted Sends a at longest v) where
   abbrev pub all : List (List ℕ)
-  all = sent_whole a at grant.fits.pages
+  all = sent_pages a at grant.fits.records_fit.pages
 
   same_items : (x y : List Sending) → Some x ≡ Some y → x ≡ y
   same_items x y h = ap (λ o. unwrap_or o []) h
 
   sends_these : (items : List Sending) → Sends (asked_octets a) (Some items) → sent_by items ≡ record { messages = all; fails = false }
-  sends_these items s = let t = grant.sends (Some items) s in ap sent_by (same_items items t.items t.some) ∙ t.messages
+  sends_these items s = let t = grant.grants (Some items) s in ap sent_by (same_items items t.items t.some) ∙ t.messages
 
   sends_all : (sent : List (List ℕ)) → SendsAll (Sends (asked_octets a)) sent → sent ≡ all
   sends_all sent k = ap (λ s. s.messages) (sym k.all ∙ sends_these k.items k.sends)
@@ -208,7 +147,7 @@ module _ (Sends : List ℕ → Option (List Sending) → Type 0) (a : Asking) (a
   has_begun sent (inr k) = record { rest = k.rest; joined = ap (λ s. s.messages) (sym (sends_these k.items k.sends)) ∙ k.part }
 
   never_fails : (sent : List (List ℕ)) → FailsAfter (Sends (asked_octets a)) sent → ⊥
-  never_fails sent (inl h) = let t = grant.sends None h.0 in cc t.some
+  never_fails sent (inl h) = let t = grant.grants None h.0 in cc t.some
   never_fails sent (inr k) = cc (ap (λ s. s.fails) (sym (sends_these k.items k.sends) ∙ k.until))
 
   was_sent : (sent : List (List ℕ)) (answer : Result SyncOk SyncError) → RepliedTo (Sends (asked_octets a)) sent answer → IsFrontOf sent all
@@ -273,24 +212,25 @@ base_of a replies gave = refl
 
 module _ (Sends : List ℕ → Option (List Sending) → Type 0) (a : Asking) (at longest : ℕ) (v : Version) (grant : IsGranted Sends a at longest v)
     (headed : has_header (asked_octets a) ≡ true) (o n : LinkLists) (before handles : List Commit) (s : Session) where
-  not_refused : (e : SyncError) (replies : List (List ℕ)) → Succeeds (course_so_far a replies (given_up (Err e))) v → is_memory (Err e) ≡ false → Transfers a replies before handles s (Err e) → ⊥
-  not_refused e replies c m t =
-      let k = course_answered a replies (Err e) in
-      cc (sym (refused_badly e) ∙ ap is_good (answered k (Err e) m t.answers) ∙ good_end (outcome k) c.how)
-
-  -- where more is to come, the answer is one that comes in its place
-  waits_early : (answer : Result SyncOk SyncError) (replies rest : List (List ℕ)) → Waits a replies rest (given_up answer) → is_memory answer ≡ false → Transfers a replies before handles s answer → is_early answer ≡ true
-  waits_early answer replies rest w m t = in_place answer (answered (course_answered a replies answer) answer m t.answers ∙ ap Some w.given)
+  abbrev u : Version
+  u = grant.offer.version
 
   abbrev Says : Result SyncOk SyncError → Type 0
   Says answer = SyncSays Sends a longest (Some o) (Some n) before handles s answer
 
+  has_soa : lacks_soa a ≡ false
+  has_soa = by a.mode grant.fits.base_matches
+    where
+      by : (m : Mode) → OnIxfr m (BaseMatches a.base.version grant.offer grant.fits.one_soa.history) → needs_soa m a.base.version ≡ false
+      by Axfr b = refl
+      by Ixfr b = ap not (has_first (data_at a.base.version a.base.version.apex type_soa) b.one_apex_soa)
+
   -- the replies that came are a first part of what was sent, whose course waits for more or has succeeded
   record Came (replies : List (List ℕ)) (gave : Outcome) : Type 0 where
     front : IsFrontOf replies (all Sends a at longest v grant)
-    part : IsPart a v replies front.rest gave
+    part : IsPart a u replies front.rest gave
 
-  module _ (f g : ℕ) (h : IsHonest o n f g) where
+  module _ (f g : ℕ) (h : IsHonest o n f g) (few : f < 2 ^ 64 - 1) where
     heard_is : (answer : Result SyncOk SyncError) (k : Says answer) → k.asked ≡ asked_octets a ∷ [] → (k.heard ≡ []) ⊎ (k.heard ≡ asked_octets a ∷ [])
     heard_is answer k q = let r = hands_on o.requests n.requests k.asked k.heard h.requests k.link.requests in one_prefix (asked_octets a) k.heard r.rest (sym q ∙ r.part)
 
@@ -298,35 +238,33 @@ module _ (Sends : List ℕ → Option (List Sending) → Type 0) (a : Asking) (a
     replies_are answer k q =
         let r = hands_on o.replies n.replies k.sent k.replies h.replies k.link.replies in
         let p = came Sends a at longest v grant k.heard k.sent k.replies answer headed (heard_is answer k q) k.served (record { rest = r.rest; joined = r.part }) in
-        record { front = p; part = part_of a at grant.compatibility v grant.fits (given_up answer) k.replies p.rest p.joined }
+        record { front = p; part = part_of a at grant.offer grant.fits (given_up answer) k.replies p.rest p.joined }
 
-    -- Ok
-    ends_well : (x : SyncOk) (k : Says (Ok x)) (rest : List (List ℕ)) → IsPart a v k.replies rest Ended → Same s.current.version v
-    ends_well x k rest (inl c) = let t = k.transfers in leaves a before handles s t.versions (course_so_far a k.replies Ended) v (base_of a k.replies Ended) t.spelt t.made c
-    ends_well x k rest (inr w) = absurd (cc (waits_early (Ok x) k.replies rest w refl k.transfers))
+    -- the link didn't fail
+    no_rise : Rose f g → ⊥
+    no_rise (inl r) = let e = h.no_fault in omega (arith, e, r)
+    no_rise (inr r) = let e = h.no_fault in omega (arith, e, r, few)
 
-    -- a refusal that only a reply can bring
-    never : (e : SyncError) (k : Says (Err e)) (rest : List (List ℕ)) → is_memory (Err e) ≡ false → is_early (Err e) ≡ false → IsPart a v k.replies rest (given_up (Err e)) → ⊥
-    never e k rest m l (inl c) = not_refused e k.replies c m k.transfers
-    never e k rest m l (inr w) = cc (sym l ∙ waits_early (Err e) k.replies rest w m k.transfers)
+    -- a course that has succeeded is answered Ok, and the version offered is current
+    ends_well : (answer : Result SyncOk SyncError) (k : Says answer) → answer ≡ answer_of (outcome (course_answered a k.replies answer)) → Succeeds (course_answered a k.replies answer) u → Delivers u s answer
+    ends_well (Ok x) k e c = let t = k.transfers in leaves a before handles s t.versions (course_so_far a k.replies Ended) u (base_of a k.replies Ended) t.spelt t.made c
+    ends_well (Err x) k e c = absurd (not_good x (outcome (course_answered a k.replies (Err x))) e c.how)
 
     -- no message is too short
     long : (heard : List (List ℕ)) → (heard ≡ []) ⊎ (heard ≡ asked_octets a ∷ []) → HasShort heard → ⊥
     long heard (inl e) x = cc (ap (λ l. list_all has_header l) (sym e) ∙ x)
     long heard (inr e) x = cc (sym (ap (λ b. b && true) headed) ∙ ap (λ l. list_all has_header l) (sym e) ∙ x)
 
-    not_short : (x : ShortMessage) (k : Says (Err (why.Short x))) (rest : List (List ℕ)) → k.asked ≡ asked_octets a ∷ [] → IsPart a v k.replies rest Short → ⊥
-    not_short x k rest q (inl c) = not_refused (why.Short x) k.replies c refl k.transfers
-    not_short x k rest q (inr w) = by_short (k.short x refl)
+    not_short : (x : ShortMessage) (k : Says (Err (why.Short x))) (rest : List (List ℕ)) → k.asked ≡ asked_octets a ∷ [] → Waits a k.replies rest Short → ⊥
+    not_short x k rest q w = by_short (k.short x refl)
       where
         by_short : (HasShort k.heard × (k.sent ≡ [])) ⊎ HasShort k.replies → ⊥
         by_short (inl y) = long k.heard (heard_is (Err (why.Short x)) k q) y.0
         by_short (inr y) = cc (sym w.headed ∙ y)
 
     -- the link doesn't end before the last reply
-    not_ended : (k : Says (Err why.Ended)) (rest : List (List ℕ)) → k.asked ≡ asked_octets a ∷ [] → all Sends a at longest v grant ≡ k.replies ++ rest → IsPart a v k.replies rest Ended → ⊥
-    not_ended k rest q joined (inl c) = not_refused why.Ended k.replies c refl k.transfers
-    not_ended k rest q joined (inr w) = by_heard (heard_is (Err why.Ended) k q)
+    not_ended : (k : Says (Err why.Ended)) (rest : List (List ℕ)) → k.asked ≡ asked_octets a ∷ [] → all Sends a at longest v grant ≡ k.replies ++ rest → Waits a k.replies rest Ended → ⊥
+    not_ended k rest q joined w = by_heard (heard_is (Err why.Ended) k q)
       where
         by_heard : (k.heard ≡ []) ⊎ (k.heard ≡ asked_octets a ∷ []) → ⊥
         by_heard (inl e) =
@@ -342,33 +280,63 @@ module _ (Sends : List ℕ → Option (List Sending) → Type 0) (a : Asking) (a
     not_primary x k (inl e) = subst (λ (l : List (List ℕ)). IsServed Sends l k.sent k.replies (Err (why.Primary x))) e k.served
     not_primary x k (inr e) = never_fails Sends a at longest v grant k.sent (headed_served Sends (asked_octets a) k.sent k.replies (Err (why.Primary x)) headed (subst (λ (l : List (List ℕ)). IsServed Sends l k.sent k.replies (Err (why.Primary x))) e k.served))
 
-    was_asked : (answer : Result SyncOk SyncError) → (ComesBefore answer → ⊥) → (k : Says answer) → k.asked ≡ asked_octets a ∷ []
-    was_asked answer later k = either k.request
-      where
-        either : (k.asked ≡ asked_octets a ∷ []) ⊎ (ComesBefore answer × (k.asked ≡ []) × (k.heard ≡ [])) → k.asked ≡ asked_octets a ∷ []
-        either (inl q) = q
-        either (inr b) = absurd (later b.0)
+    -- where more is to come, only want of memory comes in place of it
+    waits : (answer : Result SyncOk SyncError) (k : Says answer) (rest : List (List ℕ)) → k.asked ≡ asked_octets a ∷ [] → ComesAfter answer → all Sends a at longest v grant ≡ k.replies ++ rest
+        → Waits a k.replies rest (given_up answer) → (answer ≡ Err why.LinkFault → Rose f g) → is_early answer ≡ true → Delivers u s answer
+    waits (Err why.Memory) k rest q after joined w fault early = tt
+    waits (Err why.LinkFault) k rest q after joined w fault early = absurd (no_rise (fault refl))
+    waits (Err why.Ended) k rest q after joined w fault early = absurd (not_ended k rest q joined w)
+    waits (Err (why.Short x)) k rest q after joined w fault early = absurd (not_short x k rest q w)
+    waits (Err (why.Primary x)) k rest q after joined w fault early = absurd (not_primary x k (heard_is (Err (why.Primary x)) k q))
+    waits (Err why.NoSoa) k rest q after joined w fault early = absurd after
+    waits (Err (why.Request x)) k rest q after joined w fault early = absurd after
+    waits (Ok x) k rest q after joined w fault early = absurd (cc early)
+    waits (Err why.TooManyMessages) k rest q after joined w fault early = absurd (cc early)
+    waits (Err (why.Tsig x)) k rest q after joined w fault early = absurd (cc early)
+    waits (Err why.OtherAnswer) k rest q after joined w fault early = absurd (cc early)
+    waits (Err (why.Xfr x)) k rest q after joined w fault early = absurd (cc early)
+    waits (Err (why.Iteration x)) k rest q after joined w fault early = absurd (cc early)
+    waits (Err (why.Update x)) k rest q after joined w fault early = absurd (cc early)
+    waits (Err why.VersionsExhausted) k rest q after joined w fault early = absurd (cc early)
 
-    pub delivers : f < 2 ^ 64 - 1 → (answer : Result SyncOk SyncError) → Says answer → (answer ≡ Err why.LinkFault → Rose f g) → Delivers v s answer
-    delivers few (Ok x) k fault = let q = was_asked (Ok x) (λ b. b) k in let r = replies_are (Ok x) k q in ends_well x k r.front.rest r.part
-    delivers few (Err why.Memory) k fault = tt
-    delivers few (Err why.LinkFault) k fault = absurd (no_rise (fault refl))
+    -- the request was handed to the link
+    asked_well : (answer : Result SyncOk SyncError) (k : Says answer) → k.asked ≡ asked_octets a ∷ [] → ComesAfter answer → (answer ≡ Err why.LinkFault → Rose f g) → AnswersCourse (course_answered a k.replies answer) answer → Delivers u s answer
+    asked_well answer k q after fault (inl e) = subst (Delivers u s) (sym e) tt
+    asked_well answer k q after fault (inr e) = by (replies_are answer k q)
       where
-        no_rise : Rose f g → ⊥
-        no_rise (inl r) = let e = h.no_fault in omega (arith, e, r)
-        no_rise (inr r) = let e = h.no_fault in omega (arith, e, r, few)
-    delivers few (Err (why.Request x)) k fault = let l = (k.too_long x refl).1 in let fits = grant.request_fits in absurd (omega (arith, l, fits))
-    delivers few (Err (why.Short x)) k fault = let q = was_asked (Err (why.Short x)) (λ b. b) k in let r = replies_are (Err (why.Short x)) k q in absurd (not_short x k r.front.rest q r.part)
-    delivers few (Err why.Ended) k fault = let q = was_asked (Err why.Ended) (λ b. b) k in let r = replies_are (Err why.Ended) k q in absurd (not_ended k r.front.rest q r.front.joined r.part)
-    delivers few (Err (why.Primary x)) k fault = let q = was_asked (Err (why.Primary x)) (λ b. b) k in absurd (not_primary x k (heard_is (Err (why.Primary x)) k q))
-    delivers few (Err why.NoSoa) k fault = let q = was_asked (Err why.NoSoa) (λ b. b) k in let r = replies_are (Err why.NoSoa) k q in absurd (never why.NoSoa k r.front.rest refl refl r.part)
-    delivers few (Err why.TooManyMessages) k fault = let q = was_asked (Err why.TooManyMessages) (λ b. b) k in let r = replies_are (Err why.TooManyMessages) k q in absurd (never why.TooManyMessages k r.front.rest refl refl r.part)
-    delivers few (Err (why.Tsig x)) k fault = let q = was_asked (Err (why.Tsig x)) (λ b. b) k in let r = replies_are (Err (why.Tsig x)) k q in absurd (never (why.Tsig x) k r.front.rest refl refl r.part)
-    delivers few (Err why.OtherAnswer) k fault = let q = was_asked (Err why.OtherAnswer) (λ b. b) k in let r = replies_are (Err why.OtherAnswer) k q in absurd (never why.OtherAnswer k r.front.rest refl refl r.part)
-    delivers few (Err (why.Xfr x)) k fault = let q = was_asked (Err (why.Xfr x)) (λ b. b) k in let r = replies_are (Err (why.Xfr x)) k q in absurd (never (why.Xfr x) k r.front.rest refl refl r.part)
-    delivers few (Err (why.Iteration x)) k fault = let q = was_asked (Err (why.Iteration x)) (λ b. b) k in let r = replies_are (Err (why.Iteration x)) k q in absurd (never (why.Iteration x) k r.front.rest refl refl r.part)
-    delivers few (Err (why.Update x)) k fault = let q = was_asked (Err (why.Update x)) (λ b. b) k in let r = replies_are (Err (why.Update x)) k q in absurd (never (why.Update x) k r.front.rest refl refl r.part)
-    delivers few (Err why.VersionsExhausted) k fault = let q = was_asked (Err why.VersionsExhausted) (λ b. b) k in let r = replies_are (Err why.VersionsExhausted) k q in absurd (never why.VersionsExhausted k r.front.rest refl refl r.part)
+        by : Came k.replies (given_up answer) → Delivers u s answer
+        by r = either r.part
+          where
+            either : IsPart a u k.replies r.front.rest (given_up answer) → Delivers u s answer
+            either (inl c) = ends_well answer k e c
+            either (inr w) = waits answer k r.front.rest q after r.front.joined w fault (in_place answer (e ∙ ap answer_of w.given))
+
+    -- it wasn't: it could be made, and the link didn't refuse it
+    not_handed : (answer : Result SyncOk SyncError) → NotAsked a longest answer → (answer ≡ Err why.LinkFault → Rose f g) → Delivers u s answer
+    not_handed (Err why.NoSoa) k fault = absurd (cc (sym k ∙ has_soa))
+    not_handed (Err (why.Request ShortBuf)) k fault = let l = k.1 in let fits = grant.request_fits in absurd (omega (arith, l, fits))
+    not_handed (Err why.LinkFault) k fault = absurd (no_rise (fault refl))
+    not_handed (Err why.Memory) k fault = tt
+    not_handed (Err (why.Request CountOverflow)) k fault = absurd k
+    not_handed (Err (why.Request OutOfMemory)) k fault = absurd k
+    not_handed (Ok x) k fault = absurd k
+    not_handed (Err why.Ended) k fault = absurd k
+    not_handed (Err (why.Short x)) k fault = absurd k
+    not_handed (Err (why.Primary x)) k fault = absurd k
+    not_handed (Err why.TooManyMessages) k fault = absurd k
+    not_handed (Err (why.Tsig x)) k fault = absurd k
+    not_handed (Err why.OtherAnswer) k fault = absurd k
+    not_handed (Err (why.Xfr x)) k fault = absurd k
+    not_handed (Err (why.Iteration x)) k fault = absurd k
+    not_handed (Err (why.Update x)) k fault = absurd k
+    not_handed (Err why.VersionsExhausted) k fault = absurd k
+
+    pub delivers : (answer : Result SyncOk SyncError) → Says answer → (answer ≡ Err why.LinkFault → Rose f g) → Delivers v s answer
+    delivers answer k fault = subst (λ w. Delivers w s answer) grant.offered (by k.request)
+      where
+        by : Asks a longest k.asked k.heard answer → Delivers u s answer
+        by (inl q) = asked_well answer k q.2 q.1 fault k.transfers.answers
+        by (inr q) = not_handed answer q.0 fault
 
 -- ---- where the link tells its lists
 

@@ -1,11 +1,15 @@
 -- What a primary grants to a secondary's request.
-use Rattle.std.proofs.Common.{◌≡◌, ℕ, ◌≤◌, Bool, true, ◌&&◌, List, length, refl, sym, ap, ◌∙◌, arith, Option, Some, lit<, eq-eqb}
-use Rattle.std.specs.Prelude.{◌==◌, sum_by, option_map, unwrap_or, Result, Ok, if◌then◌else◌}
+use Rattle.std.proofs.Common.{◌≡◌, ℕ, ◌-◌, ◌^◌, ◌<◌, ◌≤◌, true, ◌&&◌, List, refl, sym, ap, ◌∙◌, subst, arith, Option, Some, None, lit<, eq-eqb}
+use Rattle.std.specs.Prelude.{◌==◌, option_map, unwrap_or, Result, Ok}
+use Rattle.std.specs.Option.{option_map_or}
 use Rattle.std.specs.Int.{abs_diff}
-use Rattle.std.proofs.lemmas.Bool.{and_parts}
-use Rattle.dns_name.specs.Names.{fold, same_name}
-use Rattle.dns_name.specs.Codes.{type_soa}
-use Rattle.tsig_port.specs.Tsig.{TsigKey}
+use Rattle.std.specs.List.{AllByRecursion}
+use Rattle.dns_name.specs.Names.{fold, is_name, same_name}
+use Rattle.dns_rdata.specs.Records.{Record}
+use Rattle.dns_wire.specs.Wire.{Question}
+use Rattle.dns_wire.specs.Parse.{sole_question_in}
+use Rattle.dns_wire.specs.Written.{IsRecord}
+use Rattle.tsig_port.specs.Tsig.{TsigKey, compose_len}
 use Rattle.tsig_port.specs.ServerCheck.{Keys, verdict}
 use Rattle.tsig_port.specs.ServerCheck.Verdict.{Accepted}
 use Rattle.tsig_port.specs.Keys.{same_algorithm, own_key}
@@ -13,55 +17,104 @@ use Rattle.tsig_port.specs.Checked.{taken_message}
 use Rattle.tsig_keys.specs.declared.algorithms.Algorithm.{Algorithm}
 use Rattle.tsig_keys.specs.declared.algorithms.Algorithm.TheVariants.{Sha1, Sha256, Sha384, Sha512}
 use Rattle.tsig_port.proofs.SignedExchange.{request_accepted}
-use Rattle.dns_wire.specs.Wire.{Question}
-use Rattle.dns_wire.specs.Parse.{sole_question_in}
-use Rattle.zone_model.specs.Version.{Version, RecordSet, Key, has_one_apex_soa}
-use Rattle.zone_model.specs.Offer.{Offer, Provider, is_granted, offer_of}
+use Rattle.dns_rdata.specs.Records.{Field}
+use Rattle.dns_rdata.specs.Soa.{serial_of}
+use Rattle.zone_model.specs.Version.{has_one_apex_soa, apex_soa}
+use Rattle.zone_model.specs.Difference.{zone_serial}
+use Rattle.zone_model.specs.TransferText.{Mode, Axfr, Ixfr, OnIxfr}
+use Rattle.zone_model.specs.Offer.{Offer, Provider, IsCutInto, is_granted, offer_of, text_of}
 use Rattle.zone_model.proofs.Folded.{same_name-Decides}
-use Rattle.xfr_server.specs.FullTransfer.{IsGrantedAxfr}
+use Rattle.xfr_model.specs.Messages.{HaveData}
+use Rattle.xfr_replies.specs.TransferPages.{page_room}
+use Rattle.xfr_server.specs.GrantedTransfers.{IsGrantedTransfer}
+use Rattle.xfr_server.specs.SentTexts as served
 use Rattle.xfr_server.specs.Offers.{answer_to, key_id}
-use Rattle.xfr_server.specs.Transfers.{asked_serial, asks_for_apex}
+use Rattle.xfr_server.specs.Transfers.{transfer_mode, asked_serial, asks_for_apex}
 use Rattle.xfr_server.specs.declared.providers.XfrDataProviderError.{XfrDataProviderError}
 use Rattle.xfr_server.proofs.Granted.{history_grants}
-use Rattle.zone_sync.specs.SoFar.{Asking, request_message, asked_question, asked_octets}
+use Rattle.xfr_course.specs.Granting.{in_singles}
+use Rattle.zone_sync.specs.Modes.{mode_of}
+use Rattle.zone_sync.specs.SoFar.{Asking, request_message, asked_question, asked_authority, asked_octets}
+use Rattle.zone_sync.specs.SoFar as so_far
 use Rattle.zone_sync.specs.Serving.{request_at}
-use Rattle.zone_sync.specs.Fitting.{Fits}
-use Rattle.zone_sync.specs.Grants.{Offers}
+use Rattle.zone_sync.specs.Fitting.{sent_text, BaseMatches, Fits}
+use Rattle.zone_sync.specs.Grants.{Offers, history_offer}
 use Rattle.zone_sync.proofs.Requests.{octets_are}
+use Rattle.zone_sync.proofs.HonestRequests.{kind_of, mode_again}
 use Rattle.zone_sync.proofs.HonestRequests as requests
-use Rattle.zone_sync.proofs.HonestReplies.{apex_is_name, small_class}
+use Rattle.zone_sync.proofs.HonestReplies.{published, one_apex_soa, apex_is_name, small_class, room_is}
 
-module _ (a : Asking) (at : ℕ) (c : Bool) (v : Version) (f : Fits a at c v) where
+module _ (a : Asking) (at : ℕ) (offer : Offer) (f : Fits a at offer) where
   near : abs_diff a.at at ≤ 300
-  near = let n = f.near in omega (arith, n)
+  near = let n = f.close_moments.near in omega (arith, n)
+
+  abbrev name : is_name a.base.version.apex ≡ true
+  name = apex_is_name a at offer f
+
+  abbrev class : a.base.version.class < 2 ^ 16
+  class = small_class a at offer f
+
+  abbrev soa : AllByRecursion IsRecord (asked_authority a)
+  soa = f.records_fit.asked
+
+  abbrev pieces : HaveData (asked_authority a)
+  pieces = f.records_fit.asked_data
 
   pub accepted : (keys : Keys) → keys (fold a.key.name) a.key.algorithm ≡ Some a.key → verdict keys at (asked_octets a) ≡ Accepted a.key
   accepted keys known =
       ap (verdict keys at) (sym (octets_are a))
-      ∙ request_accepted a.key keys (request_message a) a.at at 300 f.is_key f.asked_early (lit< tt) near
-      (requests.can_sign a f.is_key f.asked_early (apex_is_name a at c v f) (small_class a at c v f)) known
+      ∙ request_accepted a.key keys (request_message a) a.at at 300 f.one_key f.close_moments.secondary (lit< tt) near
+      (requests.can_sign a f.one_key f.close_moments.secondary name class soa pieces) known
 
-  pub one_apex_soa : has_one_apex_soa v ≡ true
-  one_apex_soa = (and_parts (has_one_apex_soa v) (sum_by (λ (e : Key × RecordSet). if e.0.1 == type_soa then length e.1.items else 0) v.sets == 1) f.published.one_soa).0
+  pub asks : transfer_mode (taken_message (asked_octets a)) ≡ Some (kind_of a.mode)
+  asks = requests.taken_mode a f.one_key f.close_moments.secondary name class soa pieces
+
+  pub question : sole_question_in (taken_message (asked_octets a)) ≡ Some (asked_question a)
+  question = requests.taken_question a f.one_key f.close_moments.secondary name class soa pieces
+
+  -- the serial that an incremental request names is that of the base's apex SOA
+  pub names : OnIxfr a.mode (asked_serial (taken_message (asked_octets a)) ≡ Some (zone_serial a.base.version))
+  names = requests.taken_serial a f.one_key f.close_moments.secondary name class soa pieces (on_one a.mode f.base_matches)
+    where
+      on_one : (m : Mode) → OnIxfr m (BaseMatches a.base.version offer f.one_soa.history) → OnIxfr m (has_one_apex_soa a.base.version ≡ true)
+      on_one Axfr b = tt
+      on_one Ixfr b = b.one_apex_soa
+
+  own_serial : (o : Option (List Field)) → option_map_or serial_of o 0 ≡ unwrap_or (option_map serial_of o) 0
+  own_serial None = refl
+  own_serial (Some d) = refl
+
+  pub named : unwrap_or (asked_serial (taken_message (asked_octets a))) 0 ≡ unwrap_or (so_far.asked_serial a) 0
+  named = by a.mode refl names
+    where
+      by : (m : Mode) → a.mode ≡ m → OnIxfr m (asked_serial (taken_message (asked_octets a)) ≡ Some (zone_serial a.base.version)) → unwrap_or (asked_serial (taken_message (asked_octets a))) 0 ≡ unwrap_or (so_far.told_serial m a.base.version) 0
+      by Axfr e n = ap (λ o. unwrap_or o 0) (requests.taken_none a f.one_key f.close_moments.secondary name class soa pieces e)
+      by Ixfr e n = ap (λ o. unwrap_or o 0) n ∙ own_serial (apex_soa a.base.version)
+
+-- both sides mean the same by a mode
+pub cut_served : (offer : Offer) (n room : ℕ) (pages : List (List Record)) (mode : Mode) → IsCutInto room (in_singles mode offer.compatibility) (text_of offer mode n) pages
+    → IsCutInto room (served.in_singles (mode_of (kind_of mode)) offer.compatibility) (text_of offer (mode_of (kind_of mode)) n) pages
+cut_served offer n room pages Axfr c = c
+cut_served offer n room pages Ixfr c = c
 
 -- such a primary grants the request
 abbrev pub granted : {K : Type 0} (the_key : K → TsigKey) (keys : Keys) (told : List ℕ → Option K → Option ℕ → Result Offer XfrDataProviderError) (a : Asking) (at : ℕ) (offer : Offer)
-    → Offers the_key keys told a offer → Fits a at offer.compatibility offer.version → IsGrantedAxfr the_key keys told (request_at (asked_octets a) at) a.key offer
+    → Offers the_key keys told a offer → Fits a at offer → IsGrantedTransfer the_key keys told (request_at (asked_octets a) at) a.key (kind_of a.mode) (zone_serial a.base.version) offer
 granted the_key keys told a at offer o f =
-    let name = apex_is_name a at offer.compatibility offer.version f in
-    let class = small_class a at offer.compatibility offer.version f in
     record {
-      accepted = accepted a at offer.compatibility offer.version f keys o.known;
+      accepted = accepted a at offer f keys o.known;
       known = o.known;
-      macs = f.is_key.signing;
-      asks = requests.taken_mode a f.is_key f.asked_early name class f.mode;
+      macs = f.one_key.signing;
+      asks = asks a at offer f;
+      names = subst (λ m. OnIxfr m (asked_serial (taken_message (asked_octets a)) ≡ Some (zone_serial a.base.version))) (sym (mode_again a.mode)) (names a at offer f);
       stream = refl;
       fresh = refl;
       granted = o.offered;
-      apex = ap (λ (q : Option Question). asks_for_apex q offer.version) (requests.taken_question a f.is_key f.asked_early name class) ∙ f.published.same_apex;
-      one_soa = one_apex_soa a at offer.compatibility offer.version f;
-      pages = f.pages;
-      cut = f.cut;
+      apex = ap (λ (q : Option Question). asks_for_apex q offer.version) (question a at offer f) ∙ (published a at offer f).same_apex;
+      one_soa = one_apex_soa a at offer f;
+      pages = f.records_fit.pages;
+      cut = cut_served offer (zone_serial a.base.version) (page_room (taken_message (asked_octets a)) (65535 - compose_len a.key)) f.records_fit.pages a.mode
+          (subst (λ n. IsCutInto n (in_singles a.mode offer.compatibility) (sent_text a offer) f.records_fit.pages) (sym (room_is a at offer f)) f.records_fit.cut);
     }
 
 -- ---- a store of one key, and a provider that keeps one version
@@ -79,29 +132,23 @@ own_known key = rw (own_algorithm key.algorithm, (same_name-Decides key.name key
 abbrev pub kept_told : Provider → List ℕ → Option TsigKey → Option ℕ → Result Offer XfrDataProviderError
 kept_told p message key asked = answer_to p (sole_question_in message) (option_map key_id key) asked
 
--- what is offered to one who signs with a key that is granted
-abbrev pub kept_offer : Provider → Asking → Offer
-kept_offer p a = offer_of p.kept p.differences p.compatibility (unwrap_or (asked_serial (taken_message (asked_octets a))) 0)
-
-module _ (a : Asking) (at : ℕ) (p : Provider) (f : Fits a at p.compatibility p.kept) where
-  same_apex : same_name a.base.version.apex p.kept.apex ≡ true
-  same_apex = (same_name-Decides a.base.version.apex p.kept.apex).1 (sym ((same_name-Decides p.kept.apex a.base.version.apex).0 f.published.same_apex))
-
+module _ (a : Asking) (at : ℕ) (p : Provider) (f : Fits a at (history_offer p a)) where
   same_class : (a.base.version.class == p.kept.class) ≡ true
-  same_class = eq-eqb _ _ f.same_class
+  same_class = eq-eqb _ _ f.same_zone.class
 
   kept_asked : (same_name (asked_question a).qname p.kept.apex && ((asked_question a).qclass == p.kept.class)) ≡ true
-  kept_asked = rw (same_apex, same_class) refl
+  kept_asked = rw (f.same_zone.apex, same_class) refl
 
   kept_offered : (key : TsigKey) → is_granted p.grants (Some (key_id key)) ≡ true
-      → answer_to p (sole_question_in (taken_message (asked_octets a))) (Some (key_id key)) (asked_serial (taken_message (asked_octets a))) ≡ Ok (kept_offer p a)
+      → answer_to p (sole_question_in (taken_message (asked_octets a))) (Some (key_id key)) (asked_serial (taken_message (asked_octets a))) ≡ Ok (history_offer p a)
   kept_offered key grants =
       let serial = asked_serial (taken_message (asked_octets a)) in
-      ap (λ o. answer_to p o (Some (key_id key)) serial) (requests.taken_question a f.is_key f.asked_early (apex_is_name a at p.compatibility p.kept f) (small_class a at p.compatibility p.kept f))
+      ap (λ o. answer_to p o (Some (key_id key)) serial) (question a at (history_offer p a) f)
       ∙ history_grants p (asked_question a) (key_id key) serial kept_asked grants
+      ∙ ap (λ n. Ok (offer_of p.kept p.differences p.compatibility n)) (named a at (history_offer p a) f)
 
-pub history_offers : (p : Provider) (key : TsigKey) (a : Asking) (at : ℕ) → a.key ≡ key → is_granted p.grants (Some (key_id key)) ≡ true → Fits a at p.compatibility p.kept
-    → Offers (λ (k : TsigKey). k) (own_key key) (kept_told p) a (kept_offer p a)
+pub history_offers : (p : Provider) (key : TsigKey) (a : Asking) (at : ℕ) → a.key ≡ key → is_granted p.grants (Some (key_id key)) ≡ true → Fits a at (history_offer p a)
+    → Offers (λ (k : TsigKey). k) (own_key key) (kept_told p) a (history_offer p a)
 history_offers p key a at is grants f = record {
   known = ap (λ k. own_key k (fold a.key.name) a.key.algorithm) (sym is) ∙ own_known a.key;
   offered = λ k e.

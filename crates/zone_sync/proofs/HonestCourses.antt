@@ -1,39 +1,40 @@
 -- What a granting primary sends to a secondary's request makes a course that succeeds, and a first part of it one that goes on.
-use Rattle.std.proofs.Common.{◌≡◌, ℕ, suc, ◌+◌, ◌-◌, ◌^◌, ◌<◌, ◌≤◌, Bool, true, false, not, List, [], ◌∷◌, ◌++◌, map, length, length-append, append-nil, refl, sym, ap, ◌∙◌, subst, arith, lit≤, Option, Some, None, ◌⊎◌, inl, inr}
-use Rattle.std.specs.Cmp.{first_so}
-use Rattle.std.specs.Prelude.{◌==◌, flat_map, unwrap_or}
+use Rattle.std.proofs.Common.{◌≡◌, ℕ, suc, ◌+◌, ◌-◌, ◌^◌, ◌<◌, ◌≤◌, Bool, true, false, not, List, [], ◌∷◌, ◌++◌, map, length, length-append, append-nil, refl, sym, ap, ◌∙◌, subst, arith, lit≤, true≢false, Option, Some, None, ◌⊎◌, inl, inr}
+use Rattle.std.specs.Prelude.{◌&&◌, ◌||◌, ◌==◌, nat_le, flat_map, unwrap_or, IsTrue}
+use Rattle.std.specs.Int.{abs_diff}
 use Rattle.std.specs.List.{AllByRecursion, list_all, last_or}
 use Rattle.std.proofs.lemmas.List.{map-append}
 use Rattle.std.proofs.lemmas.Bool.Decides.{nat_tests}
-use Rattle.dns_name.specs.Names.{is_name, same_name}
-use Rattle.dns_name.specs.NameOrder.{same_name_equiv}
+use Rattle.dns_name.specs.Names.{Name, is_name}
+use Rattle.dns_name.specs.Serial.{serial_lt}
 use Rattle.dns_rdata.specs.Records.{Record}
 use Rattle.dns_wire.specs.Wire.{Question, id_in}
 use Rattle.tsig_port.specs.Tsig.{compose_len}
 use Rattle.zone_model.specs.Version.{Version, has_one_soa, has_one_apex_soa}
-use Rattle.zone_model.specs.Spells.{spelling}
-use Rattle.zone_model.specs.TransferText.{Mode, Axfr}
-use Rattle.zone_model.specs.Offer.{whole_text, IsCutInto}
-use Rattle.zone_model.proofs.Valid.{one_soa}
-use Rattle.zone_model.proofs.WholeText.{whole_is, whole_spells}
+use Rattle.zone_model.specs.Difference.{zone_serial}
+use Rattle.zone_model.specs.TransferText.{Mode, Axfr, Ixfr, OnIxfr}
+use Rattle.zone_model.specs.TransferLaws.{IsPublished}
+use Rattle.zone_model.specs.Offer.{Offer, IsCutInto}
 use Rattle.xfr_model.specs.Messages.{read_of}
 use Rattle.xfr_model.specs.Read.{request_fault}
 use Rattle.xfr_model.specs.Carried.{Carrier, Carries}
 use Rattle.xfr_replies.specs.TransferPages.{page_answer}
+use Rattle.xfr_server.specs.GrantedTransfers.{begins_with_soa}
 use Rattle.xfr_server.proofs.Accepted.{whole_is_taken}
 use Rattle.xfr_server.proofs.Pages.{IsPage, each_page}
-use Rattle.xfr_course.specs.Outcome.{Outcome, Updated, UpToDate, Course, outcome, made}
+use Rattle.xfr_course.specs.Outcome.{Outcome, Updated, UpToDate, Course, outcome}
 use Rattle.xfr_course.specs.Courses.{has_header, most_replies, stop_after}
-use Rattle.xfr_course.specs.Granting.{Ends, IsGranting}
+use Rattle.xfr_course.specs.Granting.{Ends, IsGranting, in_singles}
 use Rattle.xfr_course.specs.Honest.{carrier_of}
-use Rattle.xfr_course.specs.Success.{signed_checked, sent_course, CarrySent, Succeeds}
+use Rattle.xfr_course.specs.Success.{sent_course, CarrySent, Succeeds}
 use Rattle.xfr_course.proofs.Clients.{met_decides}
 use Rattle.xfr_course.proofs.Succeeding.{granted_succeeds}
 use Rattle.zone_sync.specs.SoFar.{Asking, asked_id, asked_question, asked_course, course_so_far, checked_so_far, fault_so_far, client_so_far}
 use Rattle.zone_sync.specs.Standing.{Passed}
-use Rattle.zone_sync.specs.Fitting.{answer_room, page_answers, sent_whole, Fits, WholeSucceeds}
+use Rattle.zone_sync.specs.Fitting.{answer_room, sent_text, page_answers, sent_pages, begins_together, has_more, BaseMatches, Fits, GrantedSucceed}
 use Rattle.zone_sync.proofs.Outcomes.{comes, passed_course, stop_few}
 use Rattle.zone_sync.proofs.Replying.{so_far}
+use Rattle.zone_sync.proofs.HonestRequests.{kind_of}
 use Rattle.zone_sync.proofs.HonestRequests as requests
 use Rattle.zone_sync.proofs.HonestReplies as replies
 
@@ -43,33 +44,56 @@ no_empty n = grind (arith, nat_tests)
 is_full : (n : ℕ) → 1 ≤ n → not (n == 0) ≡ true
 is_full n some = grind (arith, nat_tests)
 
+-- ---- premises of one mode
+
+on_map : {P Q : Type 0} (mode : Mode) → (P → Q) → OnIxfr mode P → OnIxfr mode Q
+on_map Axfr f p = tt
+on_map Ixfr f p = f p
+
+on_both : {P Q R : Type 0} (mode : Mode) → (P → Q → R) → OnIxfr mode P → OnIxfr mode Q → OnIxfr mode R
+on_both Axfr f p q = tt
+on_both Ixfr f p q = f p q
+
+both : (b c : Bool) → b ≡ true → c ≡ true → (b && c) ≡ true
+both b c h k = rw (h, k) refl
+
 -- ---- the two ends, so far as the course depends on them
 
-abbrev pub ends : Asking → Bool → Version → Ends
-ends a compatibility v = record {
-  offer = record { version = v; differences = []; compatibility = compatibility };
-  history = v ∷ [];
-  mode = Axfr;
+abbrev pub ends : Asking → ℕ → Offer → List Version → Ends
+ends a at offer history = record {
+  offer = offer;
+  history = history;
+  mode = a.mode;
   base = a.base.version;
   number = a.base.number;
   question = asked_question a;
   request_len = 0;
   max_len = 0;
   signature_len = compose_len a.key;
-  primary_signs = 0;
-  primary_wants = 0;
-  secondary_signs = 0;
-  secondary_wants = 0;
-  at_primary = 0;
-  at_secondary = 0;
+  primary_signs = a.key.signing_len;
+  primary_wants = a.key.min_mac_len;
+  secondary_signs = a.key.signing_len;
+  secondary_wants = a.key.min_mac_len;
+  at_primary = at;
+  at_secondary = a.at;
 }
 
-module _ (a : Asking) (at : ℕ) (c : Bool) (v : Version) (f : Fits a at c v) where
+all_one_soa : (apex : Name) (history : List Version) → AllByRecursion (IsPublished apex) history → list_all has_one_soa history ≡ true
+all_one_soa apex [] h = refl
+all_one_soa apex (v ∷ more) h = both (has_one_soa v) (list_all has_one_soa more) h.0.one_soa (all_one_soa apex more h.1)
+
+module _ (a : Asking) (at : ℕ) (offer : Offer) (f : Fits a at offer) where
   abbrev e : Ends
-  e = ends a c v
+  e = ends a at offer f.one_soa.history
 
   abbrev text : List Record
-  text = whole_text v
+  text = sent_text a offer
+
+  abbrev singles : Bool
+  singles = in_singles a.mode offer.compatibility
+
+  abbrev pages : List (List Record)
+  pages = f.records_fit.pages
 
   abbrev id : ℕ
   id = asked_id a
@@ -78,48 +102,42 @@ module _ (a : Asking) (at : ℕ) (c : Bool) (v : Version) (f : Fits a at c v) wh
   q = asked_question a
 
   abbrev request : List ℕ
-  request = replies.request a at c v f
+  request = replies.request a at offer f
 
   abbrev name : is_name a.base.version.apex ≡ true
-  name = replies.apex_is_name a at c v f
+  name = replies.apex_is_name a at offer f
 
   abbrev class : a.base.version.class < 2 ^ 16
-  class = replies.small_class a at c v f
+  class = replies.small_class a at offer f
 
-  one_soa_is : has_one_soa v ≡ true
-  one_soa_is = f.published.one_soa
-
-  same_apex : same_name a.base.version.apex v.apex ≡ true
-  same_apex = same_name_equiv.symm a.base.version.apex v.apex ∙ f.published.same_apex
-
-  one_version : length (spelling Axfr text a.base.version).versions ≡ 1
-  one_version = ap (λ s. length s.versions) (whole_spells Axfr v a.base.version f.published.valid one_soa_is same_apex tt).0
+  near : abs_diff at a.at ≤ 300
+  near = f.close_moments.near
 
   granting : IsGranting e
   granting = record {
-    offered = record { ends = refl; tells = refl; newer = refl; distinct = refl };
-    primary_accepts = lit≤ tt;
-    secondary_accepts = lit≤ tt;
-    primary_clock = lit≤ tt;
-    secondary_clock = lit≤ tt;
-    one_soa = rw one_soa_is refl;
-    pages = f.pages;
-    cut = subst (λ room. IsCutInto room c text f.pages) (replies.room_is a at c v f) f.cut;
-    few = f.few;
-    together = tt;
-    asks = tt;
-    caught_up = tt;
-    starts = tt;
-    same_apex = same_apex;
-    same_class = f.same_class;
+    offered = f.one_soa.told;
+    primary_accepts = f.one_key.taken;
+    secondary_accepts = f.one_key.taken;
+    primary_clock = omega (arith, near);
+    secondary_clock = omega (arith, near);
+    one_soa = all_one_soa a.base.version.apex f.one_soa.history f.one_soa.each;
+    pages = pages;
+    cut = f.records_fit.cut;
+    few = f.records_fit.few;
+    together = on_both a.mode (both (begins_together (answer_room a) text) (has_more text)) f.records_fit.together f.records_fit.more;
+    asks = on_map a.mode (λ (m : BaseMatches a.base.version offer f.one_soa.history). both (has_one_apex_soa a.base.version) (not (serial_lt (zone_serial offer.version) (zone_serial a.base.version))) m.one_apex_soa m.not_ahead) f.base_matches;
+    caught_up = on_map a.mode (λ (m : BaseMatches a.base.version offer f.one_soa.history). m.caught_up) f.base_matches;
+    starts = on_map a.mode (λ (m : BaseMatches a.base.version offer f.one_soa.history). m.starts) f.base_matches;
+    same_apex = f.same_zone.apex;
+    same_class = f.same_zone.class;
     request_fits = lit≤ tt;
-    numbers_left = omega (arith, one_version, f.numbers_left);
+    numbers_left = f.room;
   }
 
   -- ---- what the messages carry
 
   taken_id : id_in request ≡ id
-  taken_id = requests.taken_id a f.is_key f.asked_early name class
+  taken_id = requests.taken_id a f.one_key f.close_moments.secondary name class f.records_fit.asked f.records_fit.asked_data
 
   carry_later : (pages : List (List Record)) → AllByRecursion (IsPage (answer_room a)) pages → AllByRecursion (λ page. request_fault (id_in request) q false (read_of (page_answer request page)) ≡ None) pages
       → AllByRecursion (Carries (request_fault id q) false) (map carrier_of (page_answers a pages))
@@ -134,40 +152,52 @@ module _ (a : Asking) (at : ℕ) (c : Bool) (v : Version) (f : Fits a at c v) wh
   -- ---- the course of all of them
 
   abbrev w : List (List ℕ)
-  w = sent_whole a at f.pages
+  w = sent_pages a at pages
 
   few_sent : length w ≤ most_replies
-  few_sent = omega (arith, replies.sends_each a at f.pages, f.few)
+  few_sent = omega (arith, replies.sends_each a at pages, f.records_fit.few)
 
   passed : Passed (fault_so_far a) w
-  passed = replies.front_passed a at c v f w [] (sym (append-nil w))
+  passed = replies.front_passed a at offer f w [] (sym (append-nil w))
 
-  course_is : (gave : Outcome) → course_so_far a w gave ≡ sent_course e id (map carrier_of (page_answers a f.pages)) (stop_after gave w None)
+  course_is : (gave : Outcome) → course_so_far a w gave ≡ sent_course e id (map carrier_of (page_answers a pages)) (stop_after gave w None)
   course_is gave =
       let stop = stop_after gave w None in
-      passed_course a w gave passed few_sent
-      ∙ ap (λ ks. asked_course a ks stop) (replies.sent_checked a at c v f)
-      ∙ ap (λ (m : Mode). record { mode = m; id = id; question = q; base = a.base.version; number = a.base.number; checked = map signed_checked (map carrier_of (page_answers a f.pages)); stop = stop }) f.mode
+      passed_course a w gave passed few_sent ∙ ap (λ ks. asked_course a ks stop) (replies.sent_checked a at offer f)
 
-  carried : (pages : List (List Record)) (stop : Outcome) → IsCutInto (answer_room a) c text pages → Succeeds (sent_course e id (map carrier_of (page_answers a pages)) stop) v
-  carried [] stop cut = absurd (cc (cut.joined ∙ whole_is v (one_soa v f.published.valid one_soa_is)))
+  -- the second record comes in the first message
+  first_page : (page : List Record) (more : List (List Record)) → IsCutInto (answer_room a) singles text (page ∷ more) → OnIxfr a.mode (IsTrue (nat_le (length text) 1 || nat_le 2 (length page)))
+  first_page page more cut = by a.mode (in_singles a.mode offer.compatibility) refl cut f.records_fit.together
+    where
+      by : (m : Mode) (s : Bool) → in_singles m offer.compatibility ≡ s → IsCutInto (answer_room a) s text (page ∷ more) → OnIxfr m (IsTrue (begins_together (answer_room a) text)) → OnIxfr m (IsTrue (nat_le (length text) 1 || nat_le 2 (length page)))
+      by Axfr s is c h = tt
+      by Ixfr true is c h = absurd (true≢false (sym is))
+      by Ixfr false is c h = replies.two_together (answer_room a) text page more c h
+
+  carried : (pages : List (List Record)) (stop : Outcome) → IsCutInto (answer_room a) singles text pages → Succeeds (sent_course e id (map carrier_of (page_answers a pages)) stop) offer.version
+  carried [] stop cut = absurd (cc (cut.joined ∙ (replies.begins a at offer f).is))
   carried (page ∷ more) stop cut =
-      let taken = whole_is_taken request q v (answer_room a) c page more (requests.taken_mode a f.is_key f.asked_early name class f.mode) (requests.taken_question a f.is_key f.asked_early name class) (first_so (has_one_apex_soa v) _ one_soa_is) cut in
-      let each = each_page (answer_room a) c (page ∷ more) cut.filled in
+      let soa = f.records_fit.asked in
+      let pieces = f.records_fit.asked_data in
+      let early = f.close_moments.secondary in
+      let begins = replies.begins a at offer f in
+      let begun : begins_with_soa text ≡ true = ap begins_with_soa begins.is ∙ begins.typed in
+      let taken = whole_is_taken request q (kind_of a.mode) text (answer_room a) singles page more (requests.taken_mode a f.one_key early name class soa pieces) (requests.taken_question a f.one_key early name class soa pieces) begun cut in
+      let each = each_page (answer_room a) singles (page ∷ more) cut.filled in
       let carry : CarrySent e id (carrier_of (page_answer request page)) (map carrier_of (page_answers a more)) = record {
         first = record { sound = ap (λ n. request_fault n q true (read_of (page_answer request page))) (sym taken_id) ∙ taken.0; answers = refl; full = is_full (length page) each.0.0 };
         later = carry_later more each.1 taken.1;
         text = texts (page ∷ more) ∙ cut.joined;
-        together = tt;
+        together = first_page page more cut;
       } in
-      granted_succeeds e id (carrier_of (page_answer request page)) (map carrier_of (page_answers a more)) stop granting (f.published, tt) carry
+      granted_succeeds e id (carrier_of (page_answer request page)) (map carrier_of (page_answers a more)) stop granting f.one_soa.each carry
 
-  pub succeeds : (gave : Outcome) → Succeeds (course_so_far a w gave) v
-  succeeds gave = subst (λ (k : Course). Succeeds k v) (sym (course_is gave)) (carried f.pages (stop_after gave w None) f.cut)
+  pub succeeds : (gave : Outcome) → Succeeds (course_so_far a w gave) offer.version
+  succeeds gave = subst (λ (k : Course). Succeeds k offer.version) (sym (course_is gave)) (carried pages (stop_after gave w None) f.records_fit.cut)
 
--- the law of full transfers
-pub whole_succeeds : WholeSucceeds
-whole_succeeds a at c v gave f = succeeds a at c v f gave
+-- the law of granted transfers
+pub granted_succeed : GrantedSucceed
+granted_succeed a at offer gave f = succeeds a at offer f gave
 
 -- ---- a first part of what was sent
 
@@ -184,28 +214,34 @@ same_how : (x y : Outcome) → x ≡ y → (y ≡ Updated) ⊎ (y ≡ UpToDate) 
 same_how x y e (inl h) = inl (e ∙ h)
 same_how x y e (inr h) = inr (e ∙ h)
 
-module _ (a : Asking) (at : ℕ) (c : Bool) (v : Version) (f : Fits a at c v) (gave : Outcome) where
-  -- it passed
-  passes : (xs rest : List (List ℕ)) → sent_whole a at f.pages ≡ xs ++ rest → Passed (fault_so_far a) xs
-  passes xs rest joined = replies.front_passed a at c v f xs rest joined
+module _ (a : Asking) (at : ℕ) (offer : Offer) (f : Fits a at offer) (gave : Outcome) where
+  abbrev v : Version
+  v = offer.version
 
-  few : (xs rest : List (List ℕ)) → sent_whole a at f.pages ≡ xs ++ rest → length xs + length rest ≤ most_replies
-  few xs rest joined = omega (arith, replies.sends_each a at f.pages, f.few, ap length joined, length-append xs rest)
+  abbrev all : List (List ℕ)
+  all = sent_pages a at f.records_fit.pages
+
+  -- it passed
+  passes : (xs rest : List (List ℕ)) → all ≡ xs ++ rest → Passed (fault_so_far a) xs
+  passes xs rest joined = replies.front_passed a at offer f xs rest joined
+
+  few : (xs rest : List (List ℕ)) → all ≡ xs ++ rest → length xs + length rest ≤ most_replies
+  few xs rest joined = omega (arith, replies.sends_each a at f.records_fit.pages, f.records_fit.few, ap length joined, length-append xs rest)
 
   abbrev checked_course : List (List ℕ) → Outcome → Course
   checked_course xs stop = asked_course a (map checked_so_far xs) stop
 
-  front_is : (xs rest : List (List ℕ)) → sent_whole a at f.pages ≡ xs ++ rest → course_so_far a xs gave ≡ checked_course xs (stop_after gave xs None)
+  front_is : (xs rest : List (List ℕ)) → all ≡ xs ++ rest → course_so_far a xs gave ≡ checked_course xs (stop_after gave xs None)
   front_is xs rest joined = passed_course a xs gave (passes xs rest joined) (omega (arith, few xs rest joined))
 
-  all_is : (xs rest : List (List ℕ)) → sent_whole a at f.pages ≡ xs ++ rest → Succeeds (asked_course a (map checked_so_far xs ++ map checked_so_far rest) (stop_after gave (xs ++ rest) None)) v
+  all_is : (xs rest : List (List ℕ)) → all ≡ xs ++ rest → Succeeds (asked_course a (map checked_so_far xs ++ map checked_so_far rest) (stop_after gave (xs ++ rest) None)) v
   all_is xs rest joined =
-      let all = sym (append-nil (xs ++ rest)) in
+      let none = sym (append-nil (xs ++ rest)) in
       subst (λ (k : Course). Succeeds k v)
-      (ap (λ l. course_so_far a l gave) joined ∙ front_is (xs ++ rest) [] (joined ∙ all) ∙ ap (λ ks. asked_course a ks (stop_after gave (xs ++ rest) None)) (map-append checked_so_far xs rest)) (succeeds a at c v f gave)
+      (ap (λ l. course_so_far a l gave) joined ∙ front_is (xs ++ rest) [] (joined ∙ none) ∙ ap (λ ks. asked_course a ks (stop_after gave (xs ++ rest) None)) (map-append checked_so_far xs rest)) (succeeds a at offer f gave)
 
   -- it met the outcome of all
-  has_met : (xs rest : List (List ℕ)) (o : Outcome) → sent_whole a at f.pages ≡ xs ++ rest → (client_so_far a xs).met ≡ Some o → Succeeds (course_so_far a xs gave) v
+  has_met : (xs rest : List (List ℕ)) (o : Outcome) → all ≡ xs ++ rest → (client_so_far a xs).met ≡ Some o → Succeeds (course_so_far a xs gave) v
   has_met xs rest o joined h =
       let stop = stop_after gave xs None in
       let last = stop_after gave (xs ++ rest) None in
@@ -221,7 +257,7 @@ module _ (a : Asking) (at : ℕ) (c : Bool) (v : Version) (f : Fits a at c v) (g
       } in
       subst (λ (k : Course). Succeeds k v) (sym (front_is xs rest joined)) part
 
-  waits : (xs : List (List ℕ)) (r : List ℕ) (rest : List (List ℕ)) → sent_whole a at f.pages ≡ xs ++ r ∷ rest → (client_so_far a xs).met ≡ None → Waits a xs (r ∷ rest) gave
+  waits : (xs : List (List ℕ)) (r : List ℕ) (rest : List (List ℕ)) → all ≡ xs ++ r ∷ rest → (client_so_far a xs).met ≡ None → Waits a xs (r ∷ rest) gave
   waits xs r rest joined h =
       let stop = stop_after gave xs None in
       let headed = (passes xs (r ∷ rest) joined).headed in
@@ -232,10 +268,10 @@ module _ (a : Asking) (at : ℕ) (c : Bool) (v : Version) (f : Fits a at c v) (g
         more = no_empty (length rest);
       }
 
-  pub part_of : (xs rest : List (List ℕ)) → sent_whole a at f.pages ≡ xs ++ rest → IsPart a v xs rest gave
+  pub part_of : (xs rest : List (List ℕ)) → all ≡ xs ++ rest → IsPart a v xs rest gave
   part_of xs rest joined = by rest (client_so_far a xs).met joined refl
     where
-      by : (more : List (List ℕ)) (m : Option Outcome) → sent_whole a at f.pages ≡ xs ++ more → (client_so_far a xs).met ≡ m → IsPart a v xs more gave
+      by : (more : List (List ℕ)) (m : Option Outcome) → all ≡ xs ++ more → (client_so_far a xs).met ≡ m → IsPart a v xs more gave
       by more (Some o) j h = inl (has_met xs more o j h)
-      by [] None j h = inl (subst (λ (l : List (List ℕ)). Succeeds (course_so_far a l gave) v) (j ∙ append-nil xs) (succeeds a at c v f gave))
+      by [] None j h = inl (subst (λ (l : List (List ℕ)). Succeeds (course_so_far a l gave) v) (j ∙ append-nil xs) (succeeds a at offer f gave))
       by (r ∷ more) None j h = inr (waits xs r more j h)

@@ -1,11 +1,15 @@
 -- The whole text as its primary sends it, message by message, taken by the secondary that asked.
-use Rattle.std.proofs.Common.{◌≡◌, ℕ, suc, ◌+◌, ◌-◌, ◌*◌, ◌^◌, ◌<◌, ◌≤◌, Bool, true, false, not, nat_le, List, [], ◌∷◌, ◌++◌, length, length-append, append_assoc, append-nil, map, take, drop, refl, sym, ap, ◌∙◌, subst, arith, Option, Some, None, lit<, lit≤, le-leb, leb-true}
-use Rattle.std.specs.Prelude.{◌==◌, flat_map, unwrap_or, IsTrue}
-use Rattle.std.specs.List.{AllByRecursion}
+use Rattle.std.proofs.Common.{◌≡◌, ℕ, suc, ◌+◌, ◌-◌, ◌*◌, ◌^◌, ◌<◌, ◌≤◌, Bool, true, false, ◌&&◌, ◌||◌, not, nat_le, if◌then◌else◌, List, [], ◌∷◌, ◌++◌, length, length-append, append_assoc, append-nil, map, take, drop, refl, sym, ap, ◌∙◌, subst, true≢false, arith, Option, Some, None, is_some, lit<, lit≤, le-leb, leb-true, eq-eqb}
+use Rattle.std.specs.Prelude.{◌==◌, filter, flat_map, unwrap_or, IsTrue}
+use Rattle.std.specs.List.{AllByRecursion, list_all, last_or}
+use Rattle.std.specs.Cmp.{first_so, second_so}
+use Rattle.std.proofs.lemmas.Bool.{lt-leb}
 use Rattle.std.proofs.lemmas.List.Concat.{length-flat_map}
 use Rattle.std.proofs.lemmas.List.Sums.{sum_by-cons}
 use Rattle.std.proofs.lemmas.List.{length-map}
-use Rattle.dns_name.specs.Names.{is_name, name_wire}
+use Rattle.dns_name.specs.Names.{Name, is_name, name_wire}
+use Rattle.dns_name.specs.Codes.{type_soa}
+use Rattle.dns_name.specs.Serial.{serial_upto}
 use Rattle.dns_name.specs.Octets.{u16_octets, u32_octets}
 use Rattle.dns_rdata.specs.Records.{Record, record_wire, data_wire, is_data}
 use Rattle.dns_wire.specs.Wire.{Header, Message, Question, header_in, question_wire, message_wire}
@@ -15,24 +19,29 @@ use Rattle.tsig_port.specs.Tsig.{TsigKey, compose_len, mac_in, tsig_record, answ
 use Rattle.tsig_port.specs.Checked.{answer_fault, taken_message, prior_mac}
 use Rattle.tsig_port.specs.Signing.{CanSign}
 use Rattle.tsig_port.proofs.SignedAnswers as answers
-use Rattle.zone_model.specs.Version.{Version}
-use Rattle.zone_model.specs.Offer.{whole_text, room_of, are_single, IsCutInto}
-use Rattle.zone_model.proofs.Valid.{one_soa}
-use Rattle.zone_model.proofs.WholeText.{middle_of, soa_of, whole_is}
+use Rattle.zone_model.specs.Version.{Version, has_one_apex_soa}
+use Rattle.zone_model.specs.Answer.{apex_soa_record}
+use Rattle.zone_model.specs.Walk.{records_of_version}
+use Rattle.zone_model.specs.Difference.{Difference, zone_serial}
+use Rattle.zone_model.specs.TransferText.{Mode, Axfr, Ixfr, is_soa}
+use Rattle.zone_model.specs.TransferLaws.{IsPublished}
+use Rattle.zone_model.specs.Offer.{Offer, is_apex_soa, is_sendable, difference_text, whole_text, changes_text, changes_or_whole, text_of, room_of, are_pages, are_single, IsCutInto}
+use Rattle.zone_model.proofs.ChangesText.{last_published}
 use Rattle.xfr_batch.specs.XfrBatches.{axfr_header}
 use Rattle.xfr_model.specs.Messages.{HaveData, ReadMessage, read_of, message_of}
 use Rattle.xfr_model.proofs.ReadingBuilt.{built_is_read}
-use Rattle.xfr_replies.specs.TransferPages.{page_answer}
+use Rattle.xfr_replies.specs.TransferPages.{page_answer, page_room}
 use Rattle.xfr_server.proofs.Accepted.{transfer_is_message}
 use Rattle.xfr_server.proofs.Answers.{wire_length}
 use Rattle.xfr_server.proofs.Pages.{IsPage, each_page}
 use Rattle.xfr_course.specs.Outcome.{Checked}
 use Rattle.xfr_course.specs.Courses.{has_header}
+use Rattle.xfr_course.specs.Granting.{in_singles}
 use Rattle.xfr_course.specs.Honest.{carrier_of}
 use Rattle.xfr_course.specs.Success.{signed_checked}
-use Rattle.zone_sync.specs.SoFar.{Asking, asked_question, request_message, asked_octets, checked_so_far, fault_so_far, message_so_far, header_alone}
+use Rattle.zone_sync.specs.SoFar.{Asking, asked_authority, asked_question, request_message, asked_octets, checked_so_far, fault_so_far, message_so_far, header_alone}
 use Rattle.zone_sync.specs.Standing.{Passed}
-use Rattle.zone_sync.specs.Fitting.{answer_room, page_answers, sent_whole, Fits, SendsEach}
+use Rattle.zone_sync.specs.Fitting.{answer_room, sent_text, page_answers, sent_pages, Fits, SendsEach}
 use Rattle.zone_sync.proofs.Standings.{none_passed, one_passed}
 use Rattle.zone_sync.proofs.HonestNames.{same_is_name}
 use Rattle.zone_sync.proofs.HonestRequests as requests
@@ -42,6 +51,33 @@ use Rattle.zone_sync.proofs.HonestRequests as requests
 -- a text that one message has room for is one page
 pub one_cut : (room : ℕ) (text : List Record) → not (length text == 0) ≡ true → room_of text ≤ room → IsCutInto room false text (text ∷ [])
 one_cut room text full fits = let within : nat_le (room_of text) room ≡ true = le-leb _ _ fits in record { joined = append-nil text; filled = rw (full, within) refl }
+
+-- the first two records of a text, where they have room together, come in its first page
+pub two_together : (room : ℕ) (text page : List Record) (more : List (List Record)) → IsCutInto room false text (page ∷ more) → (nat_le (length text) 1 || nat_le (room_of (take 2 text)) room) ≡ true
+    → (nat_le (length text) 1 || nat_le 2 (length page)) ≡ true
+two_together room text [] more cut both = absurd (true≢false (sym cut.filled))
+two_together room text (x ∷ []) [] cut both = ap (λ l. nat_le (length l) 1 || false) (sym cut.joined)
+two_together room text (x ∷ []) ([] ∷ more) cut both =
+    let begun : Bool = not (length (x ∷ []) == 0) && nat_le (room_of (x ∷ [])) room in
+    absurd (true≢false (sym (second_so begun false (first_so (begun && false) (are_pages room ([] ∷ more)) cut.filled))))
+two_together room text (x ∷ []) ((r ∷ rest) ∷ more) cut both =
+    let tail : List Record = rest ++ flat_map (λ page. page) more in
+    let begun : Bool = not (length (x ∷ []) == 0) && nat_le (room_of (x ∷ [])) room in
+    let next : Bool = not (nat_le (room_of (x ∷ []) + length (record_wire r)) room) in
+    let apart : not (nat_le (room_of (x ∷ []) + length (record_wire r)) room) ≡ true = second_so begun next (first_so (begun && next) (are_pages room ((r ∷ rest) ∷ more)) cut.filled) in
+    let many : nat_le (length (x ∷ r ∷ tail)) 1 ≡ false = lt-leb (length (x ∷ r ∷ tail)) 1 (omega arith) in
+    let here : (nat_le (length (x ∷ r ∷ tail)) 1 || nat_le (room_of (x ∷ r ∷ [])) room) ≡ true = ap (λ l. nat_le (length l) 1 || nat_le (room_of (take 2 l)) room) cut.joined ∙ both in
+    let fits : nat_le (room_of (x ∷ r ∷ [])) room ≡ true = sym (ap (λ b. b || nat_le (room_of (x ∷ r ∷ [])) room) many) ∙ here in
+    let sum : room_of (x ∷ r ∷ []) ≡ room_of (x ∷ []) + length (record_wire r) =
+    omega (arith, sum_by-cons (λ r. length (record_wire r)) x (r ∷ []), sum_by-cons (λ r. length (record_wire r)) r [], sum_by-cons (λ r. length (record_wire r)) x []) in
+    absurd (true≢false (sym apart ∙ ap (λ n. not (nat_le n room)) (sym sum) ∙ ap not fits))
+two_together room text (x ∷ y ∷ page) more cut both =
+    let two : nat_le 2 (length (x ∷ y ∷ page)) ≡ true = le-leb 2 (length (x ∷ y ∷ page)) (omega arith) in
+    by (nat_le (length text) 1) two
+  where
+    by : (b : Bool) {n : Bool} → n ≡ true → (b || n) ≡ true
+    by true e = refl
+    by false e = e
 
 -- with one record each, there are as many pages as records
 abbrev pub singles_of : List Record → List (List Record)
@@ -103,20 +139,82 @@ read_so_far : (octets : List ℕ) (m : ReadMessage) → message_of octets ≡ So
 unfolding message_so_far
 read_so_far octets m h = ap (λ o. unwrap_or o (header_alone octets)) h
 
+-- ---- the text
+
+-- a list of records begins with the apex SOA record of a version
+pub record Begins (v : Version) (text : List Record) : Type 0 where
+  pub soa : Record
+  pub rest : List Record
+  pub is : text ≡ soa ∷ rest
+  pub typed : is_soa soa ≡ true
+  pub owned : soa.owner ≡ v.apex
+  pub classed : soa.class ≡ v.class
+
+soa_begins : (v : Version) → has_one_apex_soa v ≡ true → (rest : List Record) → Begins v (apex_soa_record v ++ rest)
+soa_begins v one rest =
+    let n = requests.names_soa v one in
+    record { soa = n.soa; rest = rest; is = ap (λ l. l ++ rest) n.is; typed = eq-eqb n.soa.rtype type_soa n.typed; owned = n.owned; classed = n.classed }
+
+-- .. in whichever form it is sent
+whole_begins : (v : Version) → has_one_apex_soa v ≡ true → Begins v (whole_text v)
+whole_begins v one =
+    let middle = filter (λ r. not (is_apex_soa v r)) (records_of_version v) in
+    subst (Begins v) (sym (append_assoc (apex_soa_record v) middle (apex_soa_record v))) (soa_begins v one (middle ++ apex_soa_record v))
+
+changes_begin : (v : Version) → has_one_apex_soa v ≡ true → (ds : List Difference) → Begins v (changes_text v ds)
+changes_begin v one ds =
+    let middle = flat_map (difference_text v) ds in
+    subst (Begins v) (sym (append_assoc (apex_soa_record v) middle (apex_soa_record v))) (soa_begins v one (middle ++ apex_soa_record v))
+
+newer_begins : (v : Version) → has_one_apex_soa v ≡ true → (ds : List Difference) → Begins v (changes_or_whole v ds)
+newer_begins v one [] = whole_begins v one
+newer_begins v one (d ∷ ds) = by (list_all (is_sendable v) (d ∷ ds))
+  where
+    by : (b : Bool) → Begins v (if b then changes_text v (d ∷ ds) else whole_text v)
+    by true = changes_begin v one (d ∷ ds)
+    by false = whole_begins v one
+
+pub text_begins : (offer : Offer) (mode : Mode) (asked : ℕ) → has_one_apex_soa offer.version ≡ true → Begins offer.version (text_of offer mode asked)
+text_begins offer Axfr asked one = whole_begins offer.version one
+text_begins offer Ixfr asked one = by (serial_upto (zone_serial offer.version) asked)
+  where
+    by : (b : Bool) → Begins offer.version (if b then apex_soa_record offer.version else changes_or_whole offer.version offer.differences)
+    by true = subst (Begins offer.version) (append-nil (apex_soa_record offer.version)) (soa_begins offer.version one [])
+    by false = newer_begins offer.version one offer.differences
+
 -- ---- what follows of the premises
 
+last_of : (apex : Name) (v : Version) (history : List Version) → last_or None history ≡ Some v → AllByRecursion (IsPublished apex) history → IsPublished apex v
+last_of apex v [] e all = absurd (true≢false (sym (ap is_some e)))
+last_of apex v (w ∷ more) e all = last_published (IsPublished apex) w more v e all
+
+-- the offered version may be published
+pub published : (a : Asking) (at : ℕ) (offer : Offer) → Fits a at offer → IsPublished a.base.version.apex offer.version
+published a at offer f = last_of a.base.version.apex offer.version f.one_soa.history f.one_soa.told.ends f.one_soa.each
+
+pub one_apex_soa : (a : Asking) (at : ℕ) (offer : Offer) → Fits a at offer → has_one_apex_soa offer.version ≡ true
+one_apex_soa a at offer f = first_so (has_one_apex_soa offer.version) _ (published a at offer f).one_soa
+
+pub begins : (a : Asking) (at : ℕ) (offer : Offer) → Fits a at offer → Begins offer.version (sent_text a offer)
+begins a at offer f = text_begins offer a.mode (zone_serial a.base.version) (one_apex_soa a at offer f)
+
 -- the SOA record has a wire form, and so has the question
-soa_is_record : (a : Asking) (at : ℕ) (c : Bool) (v : Version) → Fits a at c v → IsTrue (is_name v.apex) × (v.class < 2 ^ 16)
-soa_is_record a at c v f =
-    let o = one_soa v f.published.valid f.published.one_soa in
-    let all : AllByRecursion IsRecord (soa_of v o ∷ middle_of v ++ soa_of v o ∷ []) = subst (AllByRecursion IsRecord) (whole_is v o) f.records in
-    (all.0.owner, all.0.class)
+soa_is_record : (a : Asking) (at : ℕ) (offer : Offer) (f : Fits a at offer) → IsRecord (begins a at offer f).soa
+soa_is_record a at offer f =
+    let b = begins a at offer f in
+    let all : AllByRecursion IsRecord (b.soa ∷ b.rest) = subst (AllByRecursion IsRecord) b.is f.records_fit.sent in
+    all.0
 
-pub apex_is_name : (a : Asking) (at : ℕ) (c : Bool) (v : Version) → Fits a at c v → is_name a.base.version.apex ≡ true
-apex_is_name a at c v f = same_is_name v.apex a.base.version.apex f.published.same_apex (soa_is_record a at c v f).0
+pub apex_is_name : (a : Asking) (at : ℕ) (offer : Offer) → Fits a at offer → is_name a.base.version.apex ≡ true
+apex_is_name a at offer f =
+    same_is_name offer.version.apex a.base.version.apex (published a at offer f).same_apex (subst (λ n. is_name n ≡ true) (begins a at offer f).owned (soa_is_record a at offer f).owner)
 
-pub small_class : (a : Asking) (at : ℕ) (c : Bool) (v : Version) → Fits a at c v → a.base.version.class < 2 ^ 16
-small_class a at c v f = omega (arith, f.same_class, (soa_is_record a at c v f).1)
+pub small_class : (a : Asking) (at : ℕ) (offer : Offer) → Fits a at offer → a.base.version.class < 2 ^ 16
+small_class a at offer f =
+    let same = f.same_zone.class in
+    let classed = (begins a at offer f).classed in
+    let small = (soa_is_record a at offer f).class in
+    omega (arith, same, classed, small)
 
 -- ---- what is sent
 
@@ -138,12 +236,21 @@ signed_header key mac prior m at fudge =
 
 -- ---- as it is taken
 
-module _ (a : Asking) (at : ℕ) (c : Bool) (v : Version) (f : Fits a at c v) where
+module _ (a : Asking) (at : ℕ) (offer : Offer) (f : Fits a at offer) where
   abbrev name : is_name a.base.version.apex ≡ true
-  name = apex_is_name a at c v f
+  name = apex_is_name a at offer f
 
   abbrev class : a.base.version.class < 2 ^ 16
-  class = small_class a at c v f
+  class = small_class a at offer f
+
+  abbrev soa : AllByRecursion IsRecord (asked_authority a)
+  soa = f.records_fit.asked
+
+  abbrev pieces : HaveData (asked_authority a)
+  pieces = f.records_fit.asked_data
+
+  abbrev singles : Bool
+  singles = in_singles a.mode offer.compatibility
 
   abbrev pub request : List ℕ
   request = taken_message (asked_octets a)
@@ -155,7 +262,7 @@ module _ (a : Asking) (at : ℕ) (c : Bool) (v : Version) (f : Fits a at c v) wh
   h = axfr_header (header_in request)
 
   pub asked_alone : questions_in request ≡ q ∷ []
-  asked_alone = requests.taken_questions a f.is_key f.asked_early name class
+  asked_alone = requests.taken_questions a f.one_key f.close_moments.secondary name class soa pieces
 
   -- how long a page's message is
   asked_length : length (flat_map question_wire (questions_in request)) ≡ length (question_wire q)
@@ -164,24 +271,24 @@ module _ (a : Asking) (at : ℕ) (c : Bool) (v : Version) (f : Fits a at c v) wh
   pub page_length : (page : List Record) → length (message_wire (page_answer request page)) ≡ 12 + (length (question_wire q) + room_of page)
   page_length page = omega (arith, wire_length h (questions_in request) page, asked_length, length-flat_map record_wire page)
 
-  pub room_is : answer_room a ≡ 65535 - 12 - length (question_wire q) - compose_len a.key
+  pub room_is : page_room request (65535 - compose_len a.key) ≡ answer_room a
   room_is = omega (arith, page_length [])
 
   -- so few records fit into one
   few_records : (page : List Record) → IsPage (answer_room a) page → length page < 2 ^ 16
-  few_records page is = omega (arith, long_records page, leb-true (room_of page) (answer_room a) is.1, room_is)
+  few_records page is = omega (arith, long_records page, leb-true (room_of page) (answer_room a) is.1)
 
   page_is_message : (page : List Record) → IsPage (answer_room a) page → AllByRecursion IsRecord page → IsMessage (page_answer request page)
   page_is_message page is records =
-      transfer_is_message request (request_message a) page (requests.taken_header a f.is_key f.asked_early name class) (requests.is_message a f.is_key f.asked_early name class)
-      (requests.taken_parses a f.is_key f.asked_early name class) records (few_records page is)
+      transfer_is_message request (request_message a) page (requests.taken_header a f.one_key f.close_moments.secondary name class soa pieces) (requests.is_message a f.one_key f.close_moments.secondary name class soa pieces)
+      (requests.taken_parses a f.one_key f.close_moments.secondary name class soa pieces) records (few_records page is)
 
   can_sign : (page : List Record) → IsPage (answer_room a) page → AllByRecursion IsRecord page → CanSign a.key (page_answer request page)
   can_sign page is records = record {
     message = page_is_message page is records;
     unsigned = tt;
     count = lit< tt;
-    room = omega (arith, page_length page, long_records page, is.0, leb-true (room_of page) (answer_room a) is.1, room_is);
+    room = omega (arith, page_length page, long_records page, is.0, leb-true (room_of page) (answer_room a) is.1);
   }
 
   all_can_sign : (pages : List (List Record)) → AllByRecursion (IsPage (answer_room a)) pages → AllByRecursion (λ page. AllByRecursion IsRecord page) pages → AllByRecursion (CanSign a.key) (page_answers a pages)
@@ -192,11 +299,17 @@ module _ (a : Asking) (at : ℕ) (c : Bool) (v : Version) (f : Fits a at c v) wh
   all_have [] have = tt
   all_have (page ∷ more) have = (have.0, all_have more have.1)
 
-  pub signable : AllByRecursion (CanSign a.key) (page_answers a f.pages)
-  signable = all_can_sign f.pages (each_page (answer_room a) c f.pages f.cut.filled) (in_pages IsRecord (answer_room a) c (whole_text v) f.pages f.cut f.records)
+  abbrev pub pages : List (List Record)
+  pages = f.records_fit.pages
 
-  pub readable : AllByRecursion (λ (m : Message). HaveData m.answers) (page_answers a f.pages)
-  readable = all_have f.pages (in_pages (λ r. IsTrue (is_data r.rtype r.fields)) (answer_room a) c (whole_text v) f.pages f.cut f.have)
+  abbrev cut : IsCutInto (answer_room a) singles (sent_text a offer) pages
+  cut = f.records_fit.cut
+
+  pub signable : AllByRecursion (CanSign a.key) (page_answers a pages)
+  signable = all_can_sign pages (each_page (answer_room a) singles pages cut.filled) (in_pages IsRecord (answer_room a) singles (sent_text a offer) pages cut f.records_fit.sent)
+
+  pub readable : AllByRecursion (λ (m : Message). HaveData m.answers) (page_answers a pages)
+  readable = all_have pages (in_pages (λ r. IsTrue (is_data r.rtype r.fields)) (answer_room a) singles (sent_text a offer) pages cut f.records_fit.sent_data)
 
   -- ---- in sequence
 
@@ -216,8 +329,8 @@ module _ (a : Asking) (at : ℕ) (c : Bool) (v : Version) (f : Fits a at c v) wh
   faultless : (taken : List (List ℕ)) (prior : Option (List ℕ)) (m : Message) → CanSign a.key m → prior_mac taken ≡ prior → fault_so_far a taken (signed prior m) ≡ None
   unfolding fault_so_far
   faultless taken prior m can is_prior =
-      ap (λ x. answer_fault a.key x a.at taken (signed prior m)) (sym (requests.mac_read_is a f.is_key f.asked_early name class))
-      ∙ answers.passes a.key mac at a.at 300 f.is_key f.early (lit< tt) f.near taken prior m can is_prior
+      ap (λ x. answer_fault a.key x a.at taken (signed prior m)) (sym (requests.mac_read_is a f.one_key f.close_moments.secondary name class soa pieces))
+      ∙ answers.passes a.key mac at a.at 300 f.one_key f.close_moments.primary (lit< tt) f.close_moments.near taken prior m can is_prior
 
   -- .. and so do all of a first part
   part_passed : (taken : List (List ℕ)) (prior : Option (List ℕ)) (ms : List Message) (xs rest : List (List ℕ)) → AllByRecursion (CanSign a.key) ms → prior_mac taken ≡ prior
@@ -230,11 +343,11 @@ module _ (a : Asking) (at : ℕ) (c : Bool) (v : Version) (f : Fits a at c v) wh
       let first : s ≡ x = cc in
       let behind : sequence (next prior m) ms ≡ xs ++ rest = cc in
       let one : Passed (fault_so_far a) (taken ++ s ∷ []) = one_passed (fault_so_far a) taken s p (faultless taken prior m can.0 is_prior) (signed_header a.key mac prior m at 300) in
-      let all = part_passed (taken ++ s ∷ []) (next prior m) ms xs rest can.1 (answers.prior_then a.key mac at a.at 300 f.is_key f.early (lit< tt) f.near taken prior m can.0) behind one in
+      let all = part_passed (taken ++ s ∷ []) (next prior m) ms xs rest can.1 (answers.prior_then a.key mac at a.at 300 f.one_key f.close_moments.primary (lit< tt) f.close_moments.near taken prior m can.0) behind one in
       subst (Passed (fault_so_far a)) (append_assoc taken (s ∷ []) xs ∙ ap (λ y. taken ++ y ∷ xs) first) all
 
-  pub front_passed : (xs rest : List (List ℕ)) → sent_whole a at f.pages ≡ xs ++ rest → Passed (fault_so_far a) xs
-  front_passed xs rest e = part_passed [] None (page_answers a f.pages) xs rest signable refl e (none_passed (fault_so_far a))
+  pub front_passed : (xs rest : List (List ℕ)) → sent_pages a at pages ≡ xs ++ rest → Passed (fault_so_far a) xs
+  front_passed xs rest e = part_passed [] None (page_answers a pages) xs rest signable refl e (none_passed (fault_so_far a))
 
   -- each says what it was built of
   checked_is : (prior : Option (List ℕ)) (m : Message) → CanSign a.key m → HaveData m.answers → checked_so_far (signed prior m) ≡ signed_checked (carrier_of m)
@@ -242,7 +355,7 @@ module _ (a : Asking) (at : ℕ) (c : Bool) (v : Version) (f : Fits a at c v) wh
   checked_is prior m can have =
       let w = signed prior m in
       let r = record_wire (tsig_record a.key.name (answer_tsig a.key mac prior (message_wire m) at 300)) in
-      let taken : taken_message w ≡ message_wire m ++ r = answers.taken_is a.key mac at a.at 300 f.is_key f.early (lit< tt) f.near prior m can in
+      let taken : taken_message w ≡ message_wire m ++ r = answers.taken_is a.key mac at a.at 300 f.one_key f.close_moments.primary (lit< tt) f.close_moments.near prior m can in
       let read : message_so_far (taken_message w) ≡ read_of m = ap message_so_far taken ∙ read_so_far (message_wire m ++ r) (read_of m) (built_is_read m r can.message have) in
       ap (λ x. record { message = x }) read
 
@@ -254,5 +367,5 @@ module _ (a : Asking) (at : ℕ) (c : Bool) (v : Version) (f : Fits a at c v) wh
       ap (λ (k : Checked). k ∷ map checked_so_far (sequence (next prior m) ms)) (checked_is prior m can.0 have.0)
       ∙ ap (λ (ks : List Checked). signed_checked (carrier_of m) ∷ ks) (all_checked (next prior m) ms can.1 have.1)
 
-  pub sent_checked : map checked_so_far (sent_whole a at f.pages) ≡ map signed_checked (map carrier_of (page_answers a f.pages))
-  sent_checked = all_checked None (page_answers a f.pages) signable readable
+  pub sent_checked : map checked_so_far (sent_pages a at pages) ≡ map signed_checked (map carrier_of (page_answers a pages))
+  sent_checked = all_checked None (page_answers a pages) signable readable

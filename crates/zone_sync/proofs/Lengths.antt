@@ -1,17 +1,17 @@
 -- How many octets a signed request takes.
-use Rattle.std.proofs.Common.{◌≡◌, ℕ, ◌+◌, ◌≤◌, List, [], ◌∷◌, ◌++◌, length, length-append, length-drop, take, drop, ap, arith}
+use Rattle.std.proofs.Common.{◌≡◌, ℕ, ◌+◌, ◌≤◌, List, [], ◌++◌, length, length-append, length-drop, take, drop, ap, arith}
 use Rattle.std.specs.Prelude.{IsTrue}
 use Rattle.std.proofs.lemmas.List.{length-take-le}
 use Rattle.dns_name.specs.Octets.{u16_octets, u32_octets, u48_octets}
 use Rattle.dns_name.specs.Codes.{type_tsig, class_any}
 use Rattle.dns_name.specs.Names.{Name, name_wire}
 use Rattle.dns_rdata.specs.Records.{record_wire, data_wire}
-use Rattle.dns_wire.specs.Wire.{with_item, header_number, header_of, id_in, message_wire}
+use Rattle.dns_wire.specs.Wire.{with_item, header_number, id_in, message_wire}
 use Rattle.tsig_port.specs.Tsig.{Tsig, is_mac_len, compose_len, tsig_rest, tsig_record, request_tsig, request_input, blank_tsig}
 use Rattle.tsig_port.proofs.SignedExchange.{length-mac}
-use Rattle.xfr_server.proofs.Answers.{wire_length}
-use Rattle.zone_sync.specs.SoFar.{Asking, asked_id, asked_question, request_message, asked_octets}
+use Rattle.zone_sync.specs.SoFar.{Asking, asked_id, asked_question, asked_authority, request_message, asked_octets}
 use Rattle.zone_sync.proofs.Requests.{octets_are}
+use Rattle.zone_sync.proofs.HonestRequests.{asking_length}
 
 rest_length : (t : Tsig) → length (tsig_rest t) ≡ 16 + length t.mac + length t.other
 rest_length t =
@@ -59,11 +59,12 @@ asked_length a macs =
     let m = message_wire (request_message a) in
     let t = request_tsig a.key m a.at 300 in
     let blank = blank_tsig a.key a.at 300 (id_in m) 0 [] in
+    let whole = asking_length (asked_id a) (asked_question a) (asked_authority a) in
     omega (
       arith,
       ap length (octets_are a),
-      wire_length (header_of (asked_id a) 0) (asked_question a ∷ []) [],
-      item_length 10 m (record_wire (tsig_record a.key.name t)) (omega (arith, wire_length (header_of (asked_id a) 0) (asked_question a ∷ []) [])),
+      whole,
+      item_length 10 m (record_wire (tsig_record a.key.name t)) (omega (arith, whole)),
       record_length a.key.name t,
       rest_length t,
       length-mac a.key (request_input m a.key.name blank) macs,

@@ -1,65 +1,115 @@
--- When an honest full transfer succeeds, from the secondary's request on (RFC 5936, 2 and 6; RFC 8945, 5).
-use Rattle.std.specs.Prelude.{◌≡◌, ℕ, ◌+◌, ◌-◌, ◌^◌, ◌≤◌, ◌<◌, Bool, true, List, map, length}
+-- When an honest transfer succeeds, from the secondary's request on (RFC 5936, 2 and 6; RFC 1995, 2 to 4; RFC 8945, 5).
+use Rattle.std.specs.Prelude.{◌≡◌, ℕ, ◌+◌, ◌-◌, ◌^◌, ◌≤◌, ◌<◌, Bool, true, ◌||◌, not, ◌==◌, nat_le, List, map, length, take, IsTrue}
 use Rattle.std.specs.Int.{abs_diff}
 use Rattle.std.specs.List.{AllByRecursion}
+use Rattle.dns_name.specs.Names.{Name, same_name}
+use Rattle.dns_name.specs.Serial.{serial_lt}
 use Rattle.dns_rdata.specs.Records.{Record}
-use Rattle.dns_wire.specs.Wire.{Message, message_wire}
+use Rattle.dns_wire.specs.Wire.{Message, message_wire, question_wire}
 use Rattle.dns_wire.specs.Written.{IsRecord}
 use Rattle.tsig_port.specs.Tsig.{mac_in, compose_len, signed_answers}
 use Rattle.tsig_port.specs.Checked.{taken_message}
 use Rattle.tsig_port.specs.Signing.{IsKey}
-use Rattle.zone_model.specs.Version.{Version}
-use Rattle.zone_model.specs.TransferText.{Axfr}
-use Rattle.xfr_model.specs.Messages.{HaveData}
+use Rattle.zone_model.specs.Version.{Version, Same, has_one_apex_soa}
+use Rattle.zone_model.specs.Difference.{zone_serial}
+use Rattle.zone_model.specs.TransferText.{OnIxfr}
+use Rattle.zone_model.specs.Spells.{spelling}
 use Rattle.zone_model.specs.TransferLaws.{IsPublished}
-use Rattle.zone_model.specs.Offer.{whole_text, IsCutInto}
-use Rattle.xfr_replies.specs.TransferPages.{page_answer, page_room}
+use Rattle.zone_model.specs.Offer.{Offer, IsHistory, IsCutInto, text_of, room_of, first_is}
+use Rattle.xfr_model.specs.Messages.{HaveData}
+use Rattle.xfr_replies.specs.TransferPages.{page_answer}
 use Rattle.xfr_course.specs.Outcome.{Outcome}
 use Rattle.xfr_course.specs.Courses.{has_header, most_replies}
+use Rattle.xfr_course.specs.Granting.{in_singles}
 use Rattle.xfr_course.specs.Success.{Succeeds}
-use Rattle.zone_sync.specs.SoFar.{Asking, asked_octets, course_so_far}
+use Rattle.zone_sync.specs.SoFar.{Asking, asked_octets, asked_question, asked_authority, course_so_far}
 
--- how many octets of records a message has room for that answers the request, beside its question and signature
+-- ---- what is sent
+
+-- how many octets of records a message has room for that answers the request, beside header, question and signature
 abbrev pub answer_room : Asking → ℕ
-answer_room a = page_room (taken_message (asked_octets a)) (65535 - compose_len a.key)
+answer_room a = 65535 - 12 - length (question_wire (asked_question a)) - compose_len a.key
+
+-- the text of an offer in answer to the request
+abbrev pub sent_text : Asking → Offer → List Record
+sent_text a offer = text_of offer a.mode (zone_serial a.base.version)
 
 -- the messages that answer the request with the pages of a text
 abbrev pub page_answers : Asking → List (List Record) → List Message
 page_answers a pages = map (page_answer (taken_message (asked_octets a))) pages
 
 -- what a granting primary sends at a moment: these messages, signed in sequence
-abbrev pub sent_whole : Asking → ℕ → List (List Record) → List (List ℕ)
-sent_whole a at pages = signed_answers a.key (mac_in (asked_octets a)) at 300 (map message_wire (page_answers a pages))
+abbrev pub sent_pages : Asking → ℕ → List (List Record) → List (List ℕ)
+sent_pages a at pages = signed_answers a.key (mac_in (asked_octets a)) at 300 (map message_wire (page_answers a pages))
 
--- a secondary that asks, and the moment and the version of a primary, which fit each other; the messages hold one record each (RFC 5936, 7.2), or
--- as many as have room
-pub record Fits (a : Asking) (at : ℕ) (compatibility : Bool) (v : Version) : Type 0 where
-  pub mode : a.mode ≡ Axfr
-  pub is_key : IsKey a.key
-  -- both moments can be written, and are at most 300 seconds apart (RFC 8945, 4.2 and 5.2.3)
-  pub asked_early : a.at < 2 ^ 48
-  pub early : at < 2 ^ 48
-  pub near : abs_diff at a.at ≤ 300
-  -- the version may be published as one of the zone that is asked for
-  pub published : IsPublished a.base.version.apex v
-  pub same_class : a.base.version.class ≡ v.class
-  -- its records have a wire form
-  pub records : AllByRecursion IsRecord (whole_text v)
-  pub have : HaveData (whole_text v)
-  -- they fill signed messages, no more than a secondary takes
+-- ---- the premises
+
+-- both moments can be written, and are at most 300 seconds apart (RFC 8945, 4.2 and 5.2.3)
+pub record AreClose (at_primary at_secondary : ℕ) : Type 0 where
+  pub primary : at_primary < 2 ^ 48
+  pub secondary : at_secondary < 2 ^ 48
+  pub near : abs_diff at_primary at_secondary ≤ 300
+
+-- each version of the offer's history may be published as one of this zone: it has one SOA record, at the apex
+pub record ArePublished (apex : Name) (offer : Offer) : Type 0 where
+  pub history : List Version
+  pub told : IsHistory offer history
+  pub each : AllByRecursion (IsPublished apex) history
+
+-- the second record of a text comes in the first message, if there is one: an incremental answer isn't begun by its SOA alone (RFC 1995, 2)
+abbrev pub begins_together : ℕ → List Record → Bool
+begins_together room text = nat_le (length text) 1 || nat_le (room_of (take 2 text)) room
+
+-- a record stands between the SOAs of a whole text, without which it reads as the incremental form (RFC 1995, 4)
+abbrev pub has_more : List Record → Bool
+has_more text = not (length text == 2)
+
+-- the records of request and text have wire forms; the text is cut into pages that fill signed messages, no more than a secondary takes
+pub record RecordsFit (a : Asking) (offer : Offer) : Type 0 where
+  pub asked : AllByRecursion IsRecord (asked_authority a)
+  pub asked_data : HaveData (asked_authority a)
+  pub sent : AllByRecursion IsRecord (sent_text a offer)
+  pub sent_data : HaveData (sent_text a offer)
   pub pages : List (List Record)
-  pub cut : IsCutInto (answer_room a) compatibility (whole_text v) pages
+  -- one record a message only for AXFR, where the offer says so (RFC 5936, 7)
+  pub cut : IsCutInto (answer_room a) (in_singles a.mode offer.compatibility) (sent_text a offer) pages
   pub few : length pages ≤ most_replies
-  -- one more version can be numbered
-  pub numbers_left : a.base.number + 1 < 2 ^ 64
+  pub together : OnIxfr a.mode (IsTrue (begins_together (answer_room a) (sent_text a offer)))
+  pub more : OnIxfr a.mode (IsTrue (has_more (sent_text a offer)))
 
--- the law of full transfers: what such a primary sends makes a course that succeeds, whatever comes in place of a further reply
-abbrev pub WholeSucceeds : Type 0
-WholeSucceeds = (a : Asking) (at : ℕ) (compatibility : Bool) (v : Version) (gave : Outcome) → (f : Fits a at compatibility v) → Succeeds (course_so_far a (sent_whole a at f.pages) gave) v
+-- a version from which an incremental request may ask: it has one apex SOA, whose serial isn't greater than the offered one (at distance 2^31 neither is);
+-- where both are equal it is what is offered, and where differences are offered it is what they start at
+pub record BaseMatches (base : Version) (offer : Offer) (history : List Version) : Type 0 where
+  pub one_apex_soa : IsTrue (has_one_apex_soa base)
+  pub not_ahead : IsTrue (not (serial_lt (zone_serial offer.version) (zone_serial base)))
+  pub caught_up : zone_serial base ≡ zone_serial offer.version → Same base offer.version
+  pub starts : IsTrue (first_is base history)
+
+-- two versions of one zone
+pub record AreOfOneZone (v w : Version) : Type 0 where
+  pub apex : IsTrue (same_name v.apex w.apex)
+  pub class : v.class ≡ w.class
+
+-- a secondary that asks, and the moment and the offer of a primary, which fit each other
+pub record Fits (a : Asking) (at : ℕ) (offer : Offer) : Type 0 where
+  pub one_key : IsKey a.key
+  pub close_moments : AreClose at a.at
+  pub one_soa : ArePublished a.base.version.apex offer
+  pub records_fit : RecordsFit a offer
+  pub base_matches : OnIxfr a.mode (BaseMatches a.base.version offer one_soa.history)
+  pub same_zone : AreOfOneZone a.base.version offer.version
+  -- there are numbers left for the versions that are spelt
+  pub room : a.base.number + length (spelling a.mode (sent_text a offer) a.base.version).versions < 2 ^ 64
+
+-- ---- laws
+
+-- the law of granted transfers: what such a primary sends makes a course that succeeds, whatever comes in place of a further reply
+abbrev pub GrantedSucceed : Type 0
+GrantedSucceed = (a : Asking) (at : ℕ) (offer : Offer) (gave : Outcome) → (f : Fits a at offer) → Succeeds (course_so_far a (sent_pages a at f.records_fit.pages) gave) offer.version
 
 -- what is sent is a message for each page
 abbrev pub SendsEach : Type 0
-SendsEach = (a : Asking) (at : ℕ) (pages : List (List Record)) → length (sent_whole a at pages) ≡ length pages
+SendsEach = (a : Asking) (at : ℕ) (pages : List (List Record)) → length (sent_pages a at pages) ≡ length pages
 
 -- the signed request is at least a header
 abbrev pub RequestHasHeader : Type 0

@@ -1,6 +1,5 @@
 pub mod Report
 pub mod ProgramRows
-pub mod Lines
 pub mod Primaries
 pub mod Reported
 pub mod Notices
@@ -14,6 +13,9 @@ pub mod Standing
 pub mod Replies
 pub mod Serving
 pub mod Transfers
+pub mod Handles
 pub mod Fitting
 pub mod Delivery
 pub mod Grants
+pub mod LongQuestions
+pub mod GrantRows

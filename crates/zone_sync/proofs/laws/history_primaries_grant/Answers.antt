@@ -1,17 +1,21 @@
+use Rattle.std.proofs.Common.{refl}
 use Rattle.tsig_port.specs.Tsig.{TsigKey}
 use Rattle.tsig_port.specs.Keys.{own_key}
-use Rattle.xfr_server.proofs.FullTransfer.{whole_sent}
+use Rattle.zone_model.specs.Difference.{zone_serial}
 use Rattle.zone_sync.specs.SoFar.{asked_octets}
 use Rattle.zone_sync.specs.Serving.{request_at}
-use Rattle.zone_sync.proofs.Grants.{granted, kept_told, kept_offer, history_offers}
+use Rattle.zone_sync.specs.Grants.{history_offer}
+use Rattle.zone_sync.proofs.Grants.{granted, kept_told, history_offers}
+use Rattle.zone_sync.proofs.HonestRequests.{kind_of}
 use Rattle.zone_sync.proofs.laws.history_primaries_grant.Goals as goal
 
 pub returns : goal.returns
 returns c = λ next provider key a at longest is grants f short. record {
-  compatibility = provider.compatibility;
+  offer = history_offer provider a;
+  offered = refl;
   fits = f;
-  sends = λ sent.
-      whole_sent _ (λ (k : TsigKey). k) (own_key key) _ (kept_told provider) (request_at (asked_octets a) at) a.key (kept_offer provider a) sent
-      (granted (λ (k : TsigKey). k) (own_key key) (kept_told provider) a at (kept_offer provider a) (history_offers provider key a at is grants f) f);
+  grants = λ sent.
+      c.granted_transfers_are_sent.ensures next provider key (request_at (asked_octets a) at) a.key (kind_of a.mode) (zone_serial a.base.version) (history_offer provider a) sent
+      (granted (λ (k : TsigKey). k) (own_key key) (kept_told provider) a at (history_offer provider a) (history_offers provider key a at is grants f) f);
   request_fits = short;
 }

@@ -1,0 +1,11 @@
+use Rattle.zone_model.specs.Difference.{zone_serial}
+use Rattle.zone_sync.specs.SoFar.{asked_octets}
+use Rattle.zone_sync.specs.Serving.{request_at}
+use Rattle.zone_sync.proofs.Grants.{granted}
+use Rattle.zone_sync.proofs.HonestRequests.{kind_of}
+use Rattle.zone_sync.proofs.laws.granting_primaries_send_the_offered_text.Goals as goal
+
+pub returns : goal.returns
+returns g c = λ next provider keys a at offer sent o f.
+    c.granted_transfers_are_sent.ensures next provider keys (request_at (asked_octets a) at) a.key (kind_of a.mode) (zone_serial a.base.version) offer sent
+    (granted g.KS.Key.KeyRef.the_key (g.KS.KeyStore.key_of keys) (g.X.XfrDataProvider.told provider) a at offer o f)
