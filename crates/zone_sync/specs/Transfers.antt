@@ -1,5 +1,5 @@
 -- A transfer whole: what it commits and answers, whatever octets the link hands back (RFC 5936, 6; RFC 8945, 5.3).
-use Rattle.std.specs.Prelude.{◌≡◌, ◌≢◌, ◌↔◌, ℕ, ◌<◌, ◌⊎◌, true, false, List, [], ◌∷◌, ◌++◌, Option, Some, None, Result, Ok, Err, length, min}
+use Rattle.std.specs.Prelude.{◌≡◌, ◌≢◌, ◌↔◌, ℕ, ◌<◌, ◌⊎◌, true, false, List, [], ◌∷◌, ◌++◌, Option, Some, None, Result, Err, length, min}
 use Rattle.std.specs.List.{list_all}
 use Rattle.dns_wire.specs.declared.builder.PushError.TheVariants.{ShortBuf}
 use Rattle.dns_message.specs.declared.message.ShortMessage.{ShortMessage}
