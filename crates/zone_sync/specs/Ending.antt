@@ -1,5 +1,5 @@
 -- How a transfer answers each outcome: one answer for each (RFC 5936, 6; RFC 1995, 2).
-use Rattle.std.specs.Prelude.{Bool, true, false, ◌==◌, if◌then◌else◌, ℕ, Option, Some, None, Result, Ok, Err}
+use Rattle.std.specs.Prelude.{Bool, false, ◌==◌, if◌then◌else◌, ℕ, Option, Some, None, Result, Ok, Err}
 use Rattle.zone_model.specs.Edits as edits
 use Rattle.zone_model.specs.Updates as updates
 use Rattle.xfr_model.specs.Read as faults
