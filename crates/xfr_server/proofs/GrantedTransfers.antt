@@ -123,7 +123,7 @@ soa_alone_of : (v : Version) (ttl : ℕ) (items : List (List Field)) → begins_
 soa_alone_of v ttl [] e = cc
 soa_alone_of v ttl (d ∷ more) e = (record { owner = v.apex; rtype = type_soa; class = v.class; ttl = ttl; fields = d }, refl)
 
-soa_alone_by : (v : Version) (o : Option RecordSet) → begins_with_soa (records_of_option v.apex type_soa v.class (option_map first_only o)) ≡ true
+pub soa_alone_by : (v : Version) (o : Option RecordSet) → begins_with_soa (records_of_option v.apex type_soa v.class (option_map first_only o)) ≡ true
     → (r : Record) × (records_of_option v.apex type_soa v.class (option_map first_only o) ≡ r ∷ [])
 soa_alone_by v None e = cc
 soa_alone_by v (Some s) e = soa_alone_of v s.ttl s.items e
@@ -149,7 +149,7 @@ choice_given told mode message known k transport reserved n given choice own is 
     let own_l = subst (λ l. SendsChoice message l false (chosen (told (Some k)) mode false message) given) (limit_left n) own_r in
     subst (λ c. SendsChoice message (65535 - n) false c given) chooses own_l
 
-some_text : (x a : List Record) (y b : Bool) → ◌≡◌ {A = Option (List Record × Bool)} (Some (x, y)) (Some (a, b)) → (x ≡ a) × (y ≡ b)
+pub some_text : (x a : List Record) (y b : Bool) → ◌≡◌ {A = Option (List Record × Bool)} (Some (x, y)) (Some (a, b)) → (x ≡ a) × (y ≡ b)
 some_text x a y b e =
     (ap (λ (o : Option (List Record × Bool)). option_map_or (λ p. p.0) o x) e, ap (λ (o : Option (List Record × Bool)). option_map_or (λ p. p.1) o y) e)
 

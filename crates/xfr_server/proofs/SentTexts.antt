@@ -49,13 +49,13 @@ text_is_chosen Ixfr udp question asked serial offer takes names apex one = rw (n
 
 -- ---- each text begins with an SOA
 
-whole_begins : (v : Version) → has_one_apex_soa v ≡ true → begins_with_soa (whole_text v) ≡ true
+pub whole_begins : (v : Version) → has_one_apex_soa v ≡ true → begins_with_soa (whole_text v) ≡ true
 whole_begins v one =
     let middle = filter (λ r. not (is_apex_soa v r)) (records_of_version v) in
     let soa = soa_of v (set_at v v.apex type_soa) one in
     ap (λ rs. begins_with_soa ((rs ++ middle) ++ apex_soa_record v)) soa.1.0 ∙ soa.1.1
 
-changes_begin : (v : Version) (ds : List Difference) → has_one_apex_soa v ≡ true → begins_with_soa (changes_text v ds) ≡ true
+pub changes_begin : (v : Version) (ds : List Difference) → has_one_apex_soa v ≡ true → begins_with_soa (changes_text v ds) ≡ true
 changes_begin v ds one =
     let middle = flat_map (difference_text v) ds in
     let soa = soa_of v (set_at v v.apex type_soa) one in

@@ -32,6 +32,7 @@ use Rattle.xfr_services.specs.declared.requests.Request.{Request}
 use Rattle.xfr_services.specs.declared.services.ServiceFeedback.TheVariants.{BeginTransaction, EndTransaction}
 use Rattle.xfr_services.specs.declared.signing.Signing.TheVariants.{First, All}
 use Rattle.xfr_services.specs.declared.modes.XfrMode.{XfrMode}
+use Rattle.xfr_server.proofs.OutOfRoom.{chosen_begins, choice_fails}
 use Rattle.xfr_server.proofs.Pages.{each_page}
 use Rattle.xfr_server.proofs.GrantedTransfers.{found_key}
 use Rattle.xfr_server.proofs.SignedPages.{fits_whole, can_sign, can_sign_page, first_signed, last_signed, EndsWith, pages_signed}
@@ -180,9 +181,22 @@ module _ {M K : Type 0} (IsDefault : Option K → Type 0) (the_key : K → TsigK
       let own : SendsAnswer (told request by_key.known) mode r.transport reserved request by_key.given = subst P asks by_key.next in
       let Q : Option K → Type 0 = λ o. SendsAnswer (told request o) mode r.transport reserved request by_key.given in
       let answer = subst Q found.1.0 own in
-      let made = choice_told r key sent by_key.given by_key.signed a.macs (reply_limit r.transport reserved) (limit_small (most_octets r.transport) r.reserved (compose_len key) a.octets)
-      (is_udp r.transport) (chosen (told request (Some found.0)) mode (is_udp r.transport) request) answer in
-      record { found = found.0; is_found = found.1.1; given = by_key.given; answer = answer; signed = by_key.signed; answers = made.0; tell = made.1.0; in_turn = made.1.1 }
+      let limit = reply_limit r.transport reserved in
+      let small : limit ≤ 65535 - compose_len key = limit_small (most_octets r.transport) r.reserved (compose_len key) a.octets in
+      let choice : Choice = chosen (told request (Some found.0)) mode (is_udp r.transport) request in
+      let made = choice_told r key sent by_key.given by_key.signed a.macs limit small (is_udp r.transport) choice answer in
+      record {
+        found = found.0;
+        is_found = found.1.1;
+        given = by_key.given;
+        answer = answer;
+        signed = by_key.signed;
+        answers = made.0;
+        tell = made.1.0;
+        in_turn = made.1.1;
+        no_room = λ long received.
+            choice_fails r key sent by_key.given by_key.signed a.macs limit small long received (is_udp r.transport) choice (chosen_begins (told request (Some found.0)) mode (is_udp r.transport) request) answer;
+      }
 
   pub other_handed : ((m : Option K) → IsDefault m → m ≡ None) → (sent : Option (List Sending)) → OtherIsHandedOn (SendsChecked the_key keys (SendsTransfer IsDefault Next told)) keys Next r key sent
   other_handed none sent a asks sends =
