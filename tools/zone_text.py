@@ -1,14 +1,15 @@
 #!/usr/bin/python3
 """Turns a zone's master file into a script for zonesync, and a report of zonesync back into master-file text.
 
-usage: tools/zone_text.py script ORIGIN MASTER [SECONDARY] [--query NAME TYPE].. > script
+usage: tools/zone_text.py script ORIGIN MASTER [SECONDARY] [--changes FILE] [--query NAME TYPE].. > script
        tools/zone_text.py zone < report
 
 It needs dnspython, by Debian's package for Debian's own Python: apt-get update && apt-get install -y python3-dnspython
 
 `script` reads a master file (RFC 1035, 5) of the zone ORIGIN, in class IN, whose records the primary has, and where it is named one whose records the
-secondary begins with. The SOA record comes first, the others in canonical order. The key is a sample key. Each `--query` is a question to the
-secondary, a name below ORIGIN or one that ends with a dot. `zone` prints each record that the report shows in the text form of its type
+secondary begins with. The SOA record comes first, the others in canonical order. The key is a sample key. FILE has what then changes on the primary,
+line by line: `- RECORD`, `+ RECORD` (each a record as in a master file, with its owner, on one line) and `commit`; a line that begins with `;` says nothing.
+Each `--query` is a question to the secondary, a name below ORIGIN or one that ends with a dot. `zone` prints each record that the report shows in the text form of its type
 (RFC 1035, 5.1), types and data without one as RFC 3597, 5 has them, and the report's other lines as comments. docs/SCRIPT.md says what script
 and report are, docs/example.zone is a master file.
 """
@@ -22,6 +23,7 @@ import dns.rdata
 import dns.rdataclass
 import dns.rdatatype
 import dns.zone
+import dns.zonefile
 
 KEY = "key 0673616d706c6500 hmac-sha256 000102030405060708090a0b0c0d0e0f - -"
 
@@ -41,12 +43,31 @@ def lines_of(word, origin, path):
     return [f"{word} {wire(*it).hex()}" for it in found]
 
 
-def print_script(origin, primary, secondary, questions):
+def change_lines(origin, path):
+    """A line for each change of a list."""
+    found = []
+    with open(path) as changes:
+        for line in map(str.strip, changes):
+            if line and not line.startswith(";"):
+                sign, _, text = line.partition(" ")
+                if sign == "commit" and not text:
+                    found.append(sign)
+                elif sign in ("-", "+"):
+                    (rrset,) = dns.zonefile.read_rrsets(text, rdclass=None, origin=origin, default_ttl=3600)
+                    found.append(f"{sign} {wire(rrset.name, rrset.ttl, rrset[0]).hex()}")
+                else:
+                    sys.exit(f"no change: {line}")
+    return found
+
+
+def print_script(origin, primary, secondary, changes, questions):
     name = dns.name.from_text(origin)
     print(f"zone {name.to_wire().hex()} 1", KEY, sep="\n")
     print(*lines_of("p", name, primary), sep="\n")
     if secondary:
         print(*lines_of("s", name, secondary), sep="\n")
+    if changes:
+        print(*change_lines(name, changes), sep="\n")
     for qname, qtype in questions:
         print(f"query {dns.name.from_text(qname, name).to_wire().hex()} {int(dns.rdatatype.from_text(qtype))}")
 
@@ -85,13 +106,14 @@ def main():
     script.add_argument("origin")
     script.add_argument("master")
     script.add_argument("secondary", nargs="?")
+    script.add_argument("--changes", metavar="FILE")
     script.add_argument("--query", nargs=2, action="append", default=[], metavar=("NAME", "TYPE"))
     ways.add_parser("zone")
     words = parser.parse_args()
     if words.way == "zone":
         print_zone(sys.stdin)
     else:
-        print_script(words.origin, words.master, words.secondary, words.query)
+        print_script(words.origin, words.master, words.secondary, words.changes, words.query)
 
 
 if __name__ == "__main__":

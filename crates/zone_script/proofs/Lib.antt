@@ -2,7 +2,8 @@ mod NumberSteps
 mod CutSteps
 mod FileLaws
 mod Refused
-mod ReadLines
 mod KeyFields
+mod EditCauses
+mod LaterLines
 mod Agreement
 mod Parsing

@@ -1,77 +1,97 @@
 -- The answers to a script, from what the lines say.
-use Rattle.std.proofs.Common.{◌≡◌, ◌⊎◌, inl, inr, ℕ, ◌+◌, List, [], ◌∷◌, refl, sym, ap, ◌∙◌, subst, Result, Ok, Err, IfOk, IfErr, IfSome}
+use Rattle.std.proofs.Common.{◌≡◌, ◌⊎◌, inl, inr, ℕ, ◌+◌, ◌==◌, Bool, true, false, List, [], ◌∷◌, refl, sym, ap, ◌∙◌, subst, Result, Ok, Err, IfOk, IfErr, IfSome}
 use Rattle.tsig_port.specs.Tsig.{TsigKey}
 use Rattle.zone_script.specs.Script as scripts
-use Rattle.zone_script.specs.Script.{script_of, script_lines}
-use Rattle.zone_script.specs.ScriptReaders.{readers_so_far}
-use Rattle.zone_script.specs.Keeping.{nothing_read, take_text, finished, take_lines, Gives}
+use Rattle.zone_script.specs.Script.{script_of, script_lines, read_lines, no_script}
+use Rattle.zone_script.specs.ScriptReaders.{wire_readers}
+use Rattle.zone_script.specs.Keeping.{nothing_read, take_text, finished, Gives}
 use Rattle.zone_script.specs.Causes.{line_in}
 use Rattle.zone_script.specs.declared.reading.Reading.{Reading}
 use Rattle.zone_script.specs.declared.script.Script.{Script}
 use Rattle.zone_script.specs.declared.script.ScriptError.{ScriptError}
 use Rattle.zone_script.specs.declared.script.ScriptError.TheVariants.{Line, Memory}
-use Rattle.zone_script.proofs.Agreement.{GivesAlike, script_alike}
+use Rattle.zone_script.proofs.LaterLines.{GivesAlike}
+use Rattle.zone_script.proofs.Agreement.{OpensAs, Stands, OkAlike, TextAlike, read_text, on_from, over_end, text_alike, finish_alike, begin_stands}
 use Rattle.zone_script.proofs.FileLaws.{FileLaws}
 
--- what a result says of the lines: the script that they give, or the line that they name
-pub record Tells (r : Result Script ScriptError) (x : Result Script ℕ) : Type 0 where
-  pub ok : IfOk r (λ g. x ≡ Ok g)
-  pub bad : IfErr r (λ e. IfSome (line_in e) (λ n. x ≡ Err n))
-
-abbrev pub said : List ℕ → Result Script ℕ
-said text = take_lines (Ok nothing_read) 1 (script_lines text)
-
-read_so : (x : Result Script ℕ) (y : Result (scripts.Script TsigKey) ℕ) (g : Script) → GivesAlike x y → x ≡ Ok g → (t : scripts.Script TsigKey) × (y ≡ Ok t) × Gives t g
-read_so x y g h e = at_ok y (subst (λ z. GivesAlike z y) e h)
-  where
-    at_ok : (y : Result (scripts.Script TsigKey) ℕ) → GivesAlike (Ok g) y → (t : scripts.Script TsigKey) × (y ≡ Ok t) × Gives t g
-    at_ok (Ok t) a = (t, refl, a)
-    at_ok (Err n) a = absurd a
-
-named_so : (x : Result Script ℕ) (y : Result (scripts.Script TsigKey) ℕ) (n : ℕ) → GivesAlike x y → x ≡ Err n → y ≡ Err n
-named_so x y n h e = at_err y (subst (λ z. GivesAlike z y) e h)
-  where
-    at_err : (y : Result (scripts.Script TsigKey) ℕ) → GivesAlike (Err n) y → y ≡ Err n
-    at_err (Ok t) a = absurd a
-    at_err (Err m) a = ap Err (sym a)
-
-pub reads : (laws : FileLaws) (r : Result Script ScriptError) (text : List ℕ) → Tells r (said text) → IfOk r (λ g. (t : scripts.Script TsigKey) × (script_of readers_so_far text ≡ Ok t) × Gives t g)
-reads laws (Ok g) text h = read_so (said text) (script_of readers_so_far text) g (script_alike laws text) h.ok
-reads laws (Err e) text h = tt
-
-pub names : (laws : FileLaws) (r : Result Script ScriptError) (text : List ℕ) → Tells r (said text) → IfErr r (λ e. IfSome (line_in e) (λ n. script_of readers_so_far text ≡ Err n))
-names laws (Ok g) text h = tt
-names laws (Err (Line n)) text h = named_so (said text) (script_of readers_so_far text) n (script_alike laws text) h.bad
-names laws (Err Memory) text h = tt
+-- what a result says of a text: the script that it is, or the line that it names
+pub record Tells (r : Result Script ScriptError) (y : Result (scripts.Script TsigKey) ℕ) : Type 0 where
+  pub ok : IfOk r (λ g. (t : scripts.Script TsigKey) × (y ≡ Ok t) × Gives t g)
+  pub bad : IfErr r (λ e. IfSome (line_in e) (λ n. y ≡ Err n))
 
 same_line : (y : Result (scripts.Script TsigKey) ℕ) (m n : ℕ) → y ≡ Err m → y ≡ Err n → m ≡ n
 same_line y m n p q = cc
 
-pub only_names : (laws : FileLaws) (r : Result Script ScriptError) (text : List ℕ) → Tells r (said text) → (n : ℕ) → script_of readers_so_far text ≡ Err n → (r ≡ Err (Line n)) ⊎ (r ≡ Err Memory)
-only_names laws (Ok g) text h n e =
-    let found = read_so (said text) (script_of readers_so_far text) g (script_alike laws text) h.ok in
-    let clash : Ok found.0 ≡ Err n = sym found.1 ∙ e in
-    absurd cc
-only_names laws (Err (Line m)) text h n e =
-    inl (ap (λ k. Err (Line k)) (same_line (script_of readers_so_far text) m n (named_so (said text) (script_of readers_so_far text) m (script_alike laws text) h.bad) e))
-only_names laws (Err Memory) text h n e = inr refl
+pub only_names : (r : Result Script ScriptError) (y : Result (scripts.Script TsigKey) ℕ) → Tells r y → (n : ℕ) → y ≡ Err n → (r ≡ Err (Line n)) ⊎ (r ≡ Err Memory)
+only_names (Ok g) y h n e = let clash : Ok h.ok.0 ≡ Err n = sym h.ok.1 ∙ e in absurd cc
+only_names (Err (Line m)) y h n e = inl (ap (λ k. Err (Line k)) (same_line y m n h.bad e))
+only_names (Err Memory) y h n e = inr refl
 
--- at the end
-pub tells_at_end : (r : Result Script ScriptError) (k : Reading) (n : ℕ) (rest text : List ℕ) → IfOk r (λ g. finished k n ≡ Ok g) → IfErr r (λ e. IfSome (line_in e) (λ m. finished k n ≡ Err m)) → rest ≡ []
-    → take_lines (Ok k) n (script_lines rest) ≡ said text → Tells r (said text)
-tells_at_end r k n rest text ok bad empty whole = by r ok bad
+-- what is kept stands for a script, of which the lines that are left say what the whole text says
+pub record Reads (k : Reading) (n : ℕ) (rest text : List ℕ) : Type 0 where
+  pub script : scripts.Script TsigKey
+  pub stands : Stands k script
+  pub says : read_lines wire_readers (Ok script) n (script_lines rest) ≡ script_of wire_readers text
+
+pub reads_nothing : (text : List ℕ) → Reads nothing_read 1 text text
+reads_nothing text = record { script = no_script; stands = begin_stands; says = refl }
+
+-- ---- where a line is refused
+pub tells_at_line : (laws : FileLaws) (e : ScriptError) (k : Reading) (n : ℕ) (line rest behind text : List ℕ) → IfSome (line_in e) (λ m. take_text k n line ≡ Err m) → script_lines rest ≡ line ∷ script_lines behind
+    → Reads k n rest text → Tells (Err e) (script_of wire_readers text)
+tells_at_line laws (Line m) k n line rest behind text bad lines h =
+    let refused : read_text h.script n line ≡ Err m = subst (λ x. TextAlike x h.script n line) bad (text_alike laws k h.script n line h.stands) in
+    record {
+      ok = tt;
+      bad = sym h.says ∙ ap (read_lines wire_readers (Ok h.script) n) lines ∙ ap (λ x. read_lines wire_readers x (n + 1) (script_lines behind)) refused;
+    }
+tells_at_line laws Memory k n line rest behind text bad lines h = record { ok = tt; bad = tt }
+
+-- ---- where one is taken
+pub reads_more : (laws : FileLaws) (k j : Reading) (n : ℕ) (line rest behind text : List ℕ) → take_text k n line ≡ Ok j → (j.stage == 6) ≡ false → script_lines rest ≡ line ∷ script_lines behind
+    → Reads k n rest text → Reads j (n + 1) behind text
+reads_more laws k j n line rest behind text taken going lines h =
+    let alike : OkAlike (j.stage == 6) j h.script n line = subst (λ x. TextAlike x h.script n line) taken (text_alike laws k h.script n line h.stands) in
+    let next : OkAlike false j h.script n line = subst (λ b. OkAlike b j h.script n line) going alike in
+    record {
+      script = next.0;
+      stands = next.1;
+      says = ap (λ x. read_lines wire_readers x (n + 1) (script_lines behind)) (sym next.2) ∙ ap (read_lines wire_readers (Ok h.script) n) (sym lines) ∙ h.says;
+    }
+
+-- ---- from the first edit or question on, or at the end
+
+tells_from : (laws : FileLaws) (r : Result Script ScriptError) (k : Reading) (s : scripts.Script TsigKey) (n : ℕ) (lines : List (List ℕ)) (text : List ℕ)
+    → IfOk r (λ g. finished k n lines ≡ Ok g) → IfErr r (λ e. IfSome (line_in e) (λ m. finished k n lines ≡ Err m)) → OpensAs k s → on_from s n lines ≡ script_of wire_readers text → Tells r (script_of wire_readers text)
+tells_from laws r k s n lines text ok bad opens says = by r ok bad
   where
-    same : finished k n ≡ said text
-    same = ap (λ l. take_lines (Ok k) n (script_lines l)) (sym empty) ∙ whole
+    alike : GivesAlike (finished k n lines) (script_of wire_readers text)
+    alike = subst (GivesAlike (finished k n lines)) says (finish_alike laws k s n lines opens)
 
-    by : (q : Result Script ScriptError) → IfOk q (λ g. finished k n ≡ Ok g) → IfErr q (λ e. IfSome (line_in e) (λ m. finished k n ≡ Err m)) → Tells q (said text)
-    by (Ok g) a b = record { ok = sym same ∙ a; bad = tt }
-    by (Err (Line m)) a b = record { ok = tt; bad = sym same ∙ b }
+    given : (g : Script) (y : Result (scripts.Script TsigKey) ℕ) → GivesAlike (Ok g) y → (t : scripts.Script TsigKey) × (y ≡ Ok t) × Gives t g
+    given g (Ok t) h = (t, refl, h)
+    given g (Err m) h = absurd h
+
+    named : (m : ℕ) (y : Result (scripts.Script TsigKey) ℕ) → GivesAlike (Err m) y → y ≡ Err m
+    named m (Ok t) h = absurd h
+    named m (Err d) h = ap Err (sym h)
+
+    by : (q : Result Script ScriptError) → IfOk q (λ g. finished k n lines ≡ Ok g) → IfErr q (λ e. IfSome (line_in e) (λ m. finished k n lines ≡ Err m)) → Tells q (script_of wire_readers text)
+    by (Ok g) a b = record { ok = given g (script_of wire_readers text) (subst (λ x. GivesAlike x (script_of wire_readers text)) a alike); bad = tt }
+    by (Err (Line m)) a b = record { ok = tt; bad = named m (script_of wire_readers text) (subst (λ x. GivesAlike x (script_of wire_readers text)) b alike) }
     by (Err Memory) a b = record { ok = tt; bad = tt }
 
--- where a line is refused
-pub tells_at_line : (e : ScriptError) (k : Reading) (n : ℕ) (line rest behind text : List ℕ) → IfSome (line_in e) (λ m. take_text k n line ≡ Err m) → script_lines rest ≡ line ∷ script_lines behind
-    → take_lines (Ok k) n (script_lines rest) ≡ said text → Tells (Err e) (said text)
-tells_at_line (Line m) k n line rest behind text bad lines whole =
-    record { ok = tt; bad = sym whole ∙ ap (take_lines (Ok k) n) lines ∙ ap (λ x. take_lines x (n + 1) (script_lines behind)) bad }
-tells_at_line Memory k n line rest behind text bad lines whole = record { ok = tt; bad = tt }
+pub tells_over : (laws : FileLaws) (r : Result Script ScriptError) (k j : Reading) (n : ℕ) (line rest behind text : List ℕ) → take_text k n line ≡ Ok j → (j.stage == 6) ≡ true → script_lines rest ≡ line ∷ script_lines behind
+    → IfOk r (λ g. finished j n (script_lines rest) ≡ Ok g) → IfErr r (λ e. IfSome (line_in e) (λ m. finished j n (script_lines rest) ≡ Err m))
+    → Reads k n rest text → Tells r (script_of wire_readers text)
+tells_over laws r k j n line rest behind text taken over lines ok bad h =
+    let alike : OkAlike (j.stage == 6) j h.script n line = subst (λ x. TextAlike x h.script n line) taken (text_alike laws k h.script n line h.stands) in
+    let late : OkAlike true j h.script n line = subst (λ b. OkAlike b j h.script n line) over alike in
+    tells_from laws r j h.script n (script_lines rest) text ok bad late.0
+    (ap (on_from h.script n) lines ∙ sym (late.1 (script_lines behind)) ∙ ap (read_lines wire_readers (Ok h.script) n) (sym lines) ∙ h.says)
+
+pub tells_at_end : (laws : FileLaws) (r : Result Script ScriptError) (k : Reading) (n : ℕ) (rest text : List ℕ) → IfOk r (λ g. finished k n (script_lines []) ≡ Ok g) → IfErr r (λ e. IfSome (line_in e) (λ m. finished k n (script_lines []) ≡ Err m)) → rest ≡ []
+    → Reads k n rest text → Tells r (script_of wire_readers text)
+tells_at_end laws r k n rest text ok bad empty h =
+    tells_from laws r k h.script n [] text ok bad h.stands.opens
+    (sym (over_end h.script n h.stands.opens.early) ∙ ap (λ l. read_lines wire_readers (Ok h.script) n (script_lines l)) (sym empty) ∙ h.says)

@@ -2,6 +2,8 @@
 use Rattle.std.specs.Prelude.{ℕ, Option, Some, None}
 use Rattle.zone_errors.specs.declared.errors.RecordError.{RecordError}
 use Rattle.zone_errors.specs.declared.errors.RecordError.TheVariants as refused
+use Rattle.zone_versions.specs.declared.errors.EditError.{EditError}
+use Rattle.zone_versions.specs.declared.errors.EditError.TheVariants as edits
 use Rattle.zone_script.specs.declared.script.ScriptError.{ScriptError}
 use Rattle.zone_script.specs.declared.script.ScriptError.TheVariants.{Line, Memory}
 
@@ -13,3 +15,8 @@ line_in Memory = None
 abbrev pub cause_of : ℕ → RecordError → ScriptError
 cause_of n refused.Memory = Memory
 cause_of n _ = Line n
+
+-- .. and of an edit
+abbrev pub edit_cause : ℕ → EditError → ScriptError
+edit_cause n edits.Memory = Memory
+edit_cause n _ = Line n

@@ -12,6 +12,13 @@ use Rattle.zone_script.specs.Script.{number_below}
 use Rattle.zone_script.specs.ScriptReaders.{or_none, length_field}
 use Rattle.zone_script.specs.declared.fields.Line.{Line}
 use Rattle.zone_script.specs.declared.fields.Line.TheVariants as line
+use Rattle.zone_script.specs.declared.fields.Change.{Change}
+use Rattle.zone_script.specs.declared.fields.Change.TheVariants as change
+
+abbrev pub change_of : Change → scripts.Change
+change_of (change.Plus added) = scripts.Plus added
+change_of (change.Minus deleted) = scripts.Minus deleted
+change_of change.Commit = scripts.Commit
 
 abbrev pub line_of : Line → scripts.Line TsigKey
 line_of (line.Zone apex class) = scripts.ZoneLine apex class
@@ -19,6 +26,7 @@ line_of (line.Key key) = scripts.KeyLine key
 line_of (line.At primary secondary) = scripts.AtLine primary secondary
 line_of (line.Primary found) = scripts.PrimaryLine found
 line_of (line.Secondary found) = scripts.SecondaryLine found
+line_of (line.Change c) = scripts.ChangeLine (change_of c)
 line_of (line.Query name rtype) = scripts.QueryLine name rtype
 
 -- the fields of what is left of a line

@@ -1,5 +1,5 @@
 -- How the program's script reads names, records and keys: whole octets, without pointers.
-use Rattle.std.specs.Prelude.{ℕ, ◌==◌, not, true, List, [], ◌∷◌, Option, Some, None, option_map, option_and_then, codes, bytes_eq, if◌then◌else◌}
+use Rattle.std.specs.Prelude.{ℕ, List, [], ◌∷◌, Option, Some, None, option_map, option_and_then, codes, bytes_eq, if◌then◌else◌}
 use Rattle.std.specs.Result.{result_ok}
 use Rattle.dns_name.specs.Octets.{◌>>=◌}
 use Rattle.dns_name.specs.Compression.{name_in}
@@ -37,8 +37,4 @@ key_of (name ∷ algorithm ∷ secret ∷ signing ∷ least ∷ []) = do
 key_of _ = None
 
 abbrev pub wire_readers : Readers TsigKey
-wire_readers = record { name = name_in; found = record_in; key = key_of; reads = λ stage. true }
-
--- ---- what is read so far: no edits
-abbrev pub readers_so_far : Readers TsigKey
-readers_so_far = record wire_readers { reads = λ stage. not (stage == 6) }
+wire_readers = record { name = name_in; found = record_in; key = key_of }

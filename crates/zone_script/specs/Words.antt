@@ -1,12 +1,19 @@
 -- The program's words, and its statuses.
 use Rattle.std.specs.Prelude.{ℕ, ◌+◌, ◌*◌, ◌^◌, ◌%◌, ◌&&◌, nat_le, if◌then◌else◌, List, [], ◌∷◌, Option, Some, None, option_map, option_and_then, codes, bytes_eq}
 use Rattle.zone_model.specs.TransferText.{Mode, Axfr, Ixfr}
+use Rattle.xfr_services.specs.declared.modes.XfrMode.{XfrMode}
+use Rattle.xfr_services.specs.declared.modes.XfrMode.TheVariants as transfers
 use Rattle.zone_script.specs.Script.{number_of, number_below}
 
 -- what the words ask for
 pub data Form : Type 0 where
   Transfer : (mode : Mode) (readers : ℕ) → Form
   Generate : (size seed : ℕ) → Form
+
+-- a kind of transfer
+abbrev pub mode_of : XfrMode → Mode
+mode_of transfers.Axfr = Axfr
+mode_of transfers.Ixfr = Ixfr
 
 abbrev pub between : ℕ → ℕ → ℕ → Option ℕ
 between low high n = if nat_le low n && nat_le n high then Some n else None

@@ -5,8 +5,9 @@ ghost use Rattle.dns_name.specs.Compression.{name_in};
 ghost use Rattle.dns_rdata.specs.Heads.{record_in};
 ghost use Rattle.tsig_port.specs.Tsig.{new_key};
 ghost use Rattle.zone_script.specs.Script as scripts;
-ghost use Rattle.zone_script.specs.ScriptReaders.{readers_so_far, key_of, algorithm_word, or_none};
-ghost use Rattle.zone_script.specs.Lines.{line_of, key_from, mac_len_field};
+ghost use Rattle.zone_script.specs.ScriptReaders.{wire_readers, key_of, algorithm_word, or_none};
+ghost use Rattle.zone_script.specs.Lines.{line_of, change_of, key_from, mac_len_field};
+ghost use Rattle.zone_script.specs.Keeping as keeping;
 
 use crate::lines::cut;
 use crate::numbers::{number_below, octets_of_hex};
@@ -15,6 +16,30 @@ use dns_rdata::{StoredRecord, record_from_octets};
 use std::alloc::{AllocError, Global};
 use std::marker::Model;
 use tsig_port::{Algorithm, Key, Time48};
+
+/// An edit of the primary's zone.
+#[derive(Drop)]
+pub(crate) enum Change {
+    /// Adds a record.
+    Plus(StoredRecord),
+    /// Deletes a record.
+    Minus(StoredRecord),
+    /// Publishes what was edited.
+    Commit,
+}
+
+impl Change {
+    /// Whether its record, if it has one, is of a class.
+    pub(crate) fn is_of_class(&self, class: Class) -> bool
+        ensures { result ≡ keeping.is_of_class class (scripts.ChangeLine (change_of self.now)) }
+    {
+        match self {
+            Change::Plus(added) => added.class() == class,
+            Change::Minus(deleted) => deleted.class() == class,
+            Change::Commit => true,
+        }
+    }
+}
 
 /// A line as it is read.
 #[derive(Drop)]
@@ -29,6 +54,8 @@ pub(crate) enum Line {
     Primary(StoredRecord),
     /// A record with which the secondary's zone opens.
     Secondary(StoredRecord),
+    /// An edit of the primary's zone.
+    Change(Change),
     /// A question to the secondary's zone: name and type.
     Query(StoredName, Rtype),
 }
@@ -44,7 +71,23 @@ impl Line {
             Line::At(_, _) => 3,
             Line::Primary(_) => 4,
             Line::Secondary(_) => 5,
+            Line::Change(_) => 6,
             Line::Query(_, _) => 7,
+        }
+    }
+
+    /// Whether the record of an edit is of a class.
+    pub(crate) fn is_of_class(&self, class: Class) -> bool
+        ensures { result ≡ keeping.is_of_class class (line_of self.now) }
+    {
+        match self {
+            Line::Zone(_, _) => true,
+            Line::Key(_) => true,
+            Line::At(_, _) => true,
+            Line::Primary(_) => true,
+            Line::Secondary(_) => true,
+            Line::Change(change) => change.is_of_class(class),
+            Line::Query(_, _) => true,
         }
     }
 }
@@ -101,7 +144,7 @@ fn two_fields<'l>(fields: &mut Fields<'l>) -> Option<(&'l [u8], &'l [u8])>
 
 /// What a line says; None where it isn't read.
 pub(crate) fn read_line(alloc: Global, line: &[u8]) -> Result<Option<Line>, AllocError>
-    ensures { IfOk result (λ l. option_map line_of l ≡ scripts.read_line readers_so_far line.now) }
+    ensures { IfOk result (λ l. option_map line_of l ≡ scripts.read_line wire_readers line.now) }
 {
     let (word, rest) = cut(line, b' ');
     let mut fields = Fields { rest };
@@ -109,13 +152,12 @@ pub(crate) fn read_line(alloc: Global, line: &[u8]) -> Result<Option<Line>, Allo
 }
 
 /// What a word says with the fields after it.
-#[tactic(auto, using(crate::proofs::ReadLines::zone_passes, crate::proofs::ReadLines::key_passes, crate::proofs::ReadLines::at_passes, crate::proofs::ReadLines::primary_passes, crate::proofs::ReadLines::secondary_passes, crate::proofs::ReadLines::late_query, crate::proofs::ReadLines::late_none))]
 fn read_word(
     alloc: Global,
     word: &[u8],
     fields: &mut Fields<'_>,
 ) -> Result<Option<Line>, AllocError>
-    ensures { IfOk result (λ l. option_map line_of l ≡ option_and_then (scripts.of_stage readers_so_far) (scripts.read_word readers_so_far word.now fields.old)) }
+    ensures { IfOk result (λ l. option_map line_of l ≡ scripts.read_word wire_readers word.now fields.old) }
 {
     if word == b"zone".as_slice() {
         read_zone(alloc, fields)
@@ -127,6 +169,12 @@ fn read_word(
         read_primary(alloc, fields)
     } else if word == b"s".as_slice() {
         read_secondary(alloc, fields)
+    } else if word == b"-".as_slice() {
+        read_minus(alloc, fields)
+    } else if word == b"+".as_slice() {
+        read_plus(alloc, fields)
+    } else if word == b"commit".as_slice() {
+        Ok(read_commit(fields))
     } else if word == b"query".as_slice() {
         read_query(alloc, fields)
     } else {
@@ -136,7 +184,7 @@ fn read_word(
 
 /// `NAME CLASS`.
 fn read_zone(alloc: Global, fields: &mut Fields<'_>) -> Result<Option<Line>, AllocError>
-    ensures { IfOk result (λ l. option_map line_of l ≡ scripts.two_fields (scripts.zone_line readers_so_far) fields.old) }
+    ensures { IfOk result (λ l. option_map line_of l ≡ scripts.two_fields (scripts.zone_line wire_readers) fields.old) }
 {
     let Some((name, class)) = two_fields(fields) else {
         return Ok(None);
@@ -171,7 +219,7 @@ fn read_moment(field: &[u8]) -> Option<Time48>
 
 /// A record of the primary's zone.
 fn read_primary(alloc: Global, fields: &mut Fields<'_>) -> Result<Option<Line>, AllocError>
-    ensures { IfOk result (λ l. option_map line_of l ≡ scripts.one_field (scripts.record_line readers_so_far scripts.PrimaryLine) fields.old) }
+    ensures { IfOk result (λ l. option_map line_of l ≡ scripts.one_field (scripts.record_line wire_readers scripts.PrimaryLine) fields.old) }
 {
     let Some(field) = one_field(fields) else {
         return Ok(None);
@@ -184,7 +232,7 @@ fn read_primary(alloc: Global, fields: &mut Fields<'_>) -> Result<Option<Line>, 
 
 /// A record of the secondary's zone.
 fn read_secondary(alloc: Global, fields: &mut Fields<'_>) -> Result<Option<Line>, AllocError>
-    ensures { IfOk result (λ l. option_map line_of l ≡ scripts.one_field (scripts.record_line readers_so_far scripts.SecondaryLine) fields.old) }
+    ensures { IfOk result (λ l. option_map line_of l ≡ scripts.one_field (scripts.record_line wire_readers scripts.SecondaryLine) fields.old) }
 {
     let Some(field) = one_field(fields) else {
         return Ok(None);
@@ -195,9 +243,45 @@ fn read_secondary(alloc: Global, fields: &mut Fields<'_>) -> Result<Option<Line>
     }
 }
 
+/// A record that is deleted from the primary's zone.
+fn read_minus(alloc: Global, fields: &mut Fields<'_>) -> Result<Option<Line>, AllocError>
+    ensures { IfOk result (λ l. option_map line_of l ≡ scripts.one_field (scripts.record_line wire_readers (λ r. scripts.ChangeLine (scripts.Minus r))) fields.old) }
+{
+    let Some(field) = one_field(fields) else {
+        return Ok(None);
+    };
+    match record_of_hex(alloc, field)? {
+        Some(deleted) => Ok(Some(Line::Change(Change::Minus(deleted)))),
+        None => Ok(None),
+    }
+}
+
+/// A record that is added to the primary's zone.
+fn read_plus(alloc: Global, fields: &mut Fields<'_>) -> Result<Option<Line>, AllocError>
+    ensures { IfOk result (λ l. option_map line_of l ≡ scripts.one_field (scripts.record_line wire_readers (λ r. scripts.ChangeLine (scripts.Plus r))) fields.old) }
+{
+    let Some(field) = one_field(fields) else {
+        return Ok(None);
+    };
+    match record_of_hex(alloc, field)? {
+        Some(added) => Ok(Some(Line::Change(Change::Plus(added)))),
+        None => Ok(None),
+    }
+}
+
+/// A commit, which has no fields.
+fn read_commit(fields: &mut Fields<'_>) -> Option<Line>
+    ensures { option_map line_of result ≡ scripts.no_fields (scripts.ChangeLine scripts.Commit) fields.old }
+{
+    match fields.next_field() {
+        Some(_) => None,
+        None => Some(Line::Change(Change::Commit)),
+    }
+}
+
 /// `NAME TYPE`: a question, of any type.
 fn read_query(alloc: Global, fields: &mut Fields<'_>) -> Result<Option<Line>, AllocError>
-    ensures { IfOk result (λ l. option_map line_of l ≡ scripts.two_fields (scripts.query_line readers_so_far) fields.old) }
+    ensures { IfOk result (λ l. option_map line_of l ≡ scripts.two_fields (scripts.query_line wire_readers) fields.old) }
 {
     let Some((name, rtype)) = two_fields(fields) else {
         return Ok(None);
@@ -214,7 +298,7 @@ fn read_query(alloc: Global, fields: &mut Fields<'_>) -> Result<Option<Line>, Al
 
 /// One record in wire form without pointers, as hexadecimal digits.
 fn record_of_hex(alloc: Global, field: &[u8]) -> Result<Option<StoredRecord>, AllocError>
-    ensures { IfOk result (λ r. r ≡ scripts.record_field readers_so_far field.now) }
+    ensures { IfOk result (λ r. r ≡ scripts.record_field wire_readers field.now) }
 {
     match octets_of_hex(alloc, field)? {
         Some(octets) => record_of_octets(alloc, octets.as_slice()),
@@ -238,7 +322,7 @@ fn record_of_octets(alloc: Global, octets: &[u8]) -> Result<Option<StoredRecord>
 
 /// A name in wire form without pointers, as hexadecimal digits.
 fn name_of_hex(alloc: Global, field: &[u8]) -> Result<Option<KeyName>, AllocError>
-    ensures { IfOk result (λ n. n ≡ scripts.name_field readers_so_far field.now) }
+    ensures { IfOk result (λ n. n ≡ scripts.name_field wire_readers field.now) }
 {
     match octets_of_hex(alloc, field)? {
         Some(octets) => Ok(name_of_octets(octets.as_slice())),

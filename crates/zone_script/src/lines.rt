@@ -2,7 +2,7 @@
 ghost use Rattle.std.specs.Prelude.{◌≡◌, ◌<◌, ◌==◌, [], ◌∷◌, length, IfSome, IfNone};
 ghost use Rattle.std.specs.List.{slice_split};
 ghost use Rattle.std.specs.Option.{option_map_or};
-ghost use Rattle.zone_script.specs.Script.{script_lines};
+ghost use Rattle.zone_script.specs.Script.{script_lines, is_skipped as skips};
 
 /// What stands before the first octet of a kind, and what stands after it if there is one.
 pub(crate) fn cut(octets: &[u8], at: u8) -> (&[u8], Option<&[u8]>)
@@ -31,5 +31,15 @@ pub(crate) fn next_line(octets: &[u8]) -> Option<(&[u8], &[u8])>
     match rest {
         Some(rest) => Some((line, rest)),
         None => Some((line, &[])),
+    }
+}
+
+/// Whether a line is empty or a comment.
+pub(crate) fn is_skipped(line: &[u8]) -> bool
+    ensures { result ≡ skips line.now }
+{
+    match line {
+        [] => true,
+        [first, ..] => *first == b'#',
     }
 }

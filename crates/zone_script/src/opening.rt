@@ -47,15 +47,11 @@ impl OpeningZone {
         }
     }
 
-    /// The line of the last record, where the records make no zone.
-    pub(crate) fn refusal(&self) -> Option<u64>
-        ensures { result ≡ keeping.refusal self.now }
+    /// The class.
+    pub(crate) fn class(&self) -> Class
+        ensures { result ≡ self.now.file.class }
     {
-        if self.file.is_whole() {
-            None
-        } else {
-            Some(self.last_line)
-        }
+        self.file.class()
     }
 
     /// The zone with these records as its version 0; the line of the last one, where they make no zone.

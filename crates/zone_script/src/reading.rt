@@ -1,18 +1,19 @@
-//! A script as far as it was read.
+//! The lines of a script up to the first edit or question, and the zones that they open.
 ghost use Rattle.std.specs.Prelude.{◌≡◌, Ok, Err, IfOk, IfErr, IfSome, IsSomeAnd, OnOk};
-ghost use Rattle.zone_script.specs.Script.{stage_of, is_skipped as skips};
+ghost use Rattle.zone_script.specs.Script.{stage_of};
 ghost use Rattle.zone_script.specs.Keeping as keeping;
 ghost use Rattle.zone_script.specs.Lines.{line_of};
 ghost use Rattle.zone_script.specs.Causes.{line_in};
 
 use crate::fields::{Line, read_line};
+use crate::lines::is_skipped;
 use crate::opening::OpeningZone;
-use crate::queries::Queries;
-use crate::script::{Script, ScriptError};
+use crate::script::ScriptError;
 use dns_name::{Class, StoredName};
 use dns_rdata::StoredRecord;
 use std::alloc::{AllocError, Global};
 use tsig_port::{Key, Time48};
+use zone_sessions::ZoneApex;
 
 /// The two zones as they are read.
 #[derive(Drop)]
@@ -32,19 +33,9 @@ impl Zones {
             secondary: OpeningZone::new(alloc, apex, class),
         })
     }
-
-    /// The line that refuses one of them, where its records make no zone; the primary's before the secondary's.
-    fn refusal(&self) -> Option<u64>
-        ensures { result ≡ keeping.zones_refusal (Some self.now) }
-    {
-        match self.primary.refusal() {
-            Some(line) => Some(line),
-            None => self.secondary.refusal(),
-        }
-    }
 }
 
-/// A script as far as it was read.
+/// A script as far as it was read, up to the first edit or question.
 #[derive(Drop)]
 pub(crate) struct Reading {
     stage: u8,
@@ -52,12 +43,21 @@ pub(crate) struct Reading {
     key: Option<Key>,
     at_primary: Time48,
     at_secondary: Time48,
-    queries: Queries,
+}
+
+/// What the lines up to the first edit or question say.
+#[derive(Drop)]
+pub(crate) struct Opened {
+    pub(crate) key: Key,
+    pub(crate) at_primary: Time48,
+    pub(crate) at_secondary: Time48,
+    pub(crate) primary: ZoneApex,
+    pub(crate) secondary: ZoneApex,
 }
 
 impl Reading {
     /// Nothing was read.
-    pub(crate) fn new(alloc: Global) -> Reading
+    pub(crate) fn new() -> Reading
         ensures { result ≡ keeping.nothing_read }
     {
         Reading {
@@ -66,8 +66,14 @@ impl Reading {
             key: None,
             at_primary: Time48::from_u64(0),
             at_secondary: Time48::from_u64(0),
-            queries: Queries::new(alloc),
         }
+    }
+
+    /// Whether the line that was read last is the first edit or question. It is left, to be read once the zones are open.
+    pub(crate) fn is_over(&self) -> bool
+        ensures { result ≡ (self.now.stage == 6) }
+    {
+        self.stage == 6
     }
 
     /// Reads the line of this number.
@@ -94,31 +100,37 @@ impl Reading {
         ensures ok { OnOk result (keeping.take_line self.old number (line_of line) ≡ Ok self.new) }
         ensures bad { IfErr result (λ e. IfSome (line_in e) (λ n. keeping.take_line self.old number (line_of line) ≡ Err n)) }
     {
-        if let Some(refused) = self.refused_at(number, line.stage()) {
+        if !self.may_stand(&line) {
             drop(line);
-            return Err(ScriptError::Line(refused));
+            return Err(ScriptError::Line(number));
         }
         self.put(alloc, number, line)
     }
 
-    /// The line that refuses one of a stage at this number: its own where it may not come, else that of an opening zone.
-    #[tactic(auto, unfolding(crate::specs::Keeping::refused_at))]
-    fn refused_at(&self, number: u64, stage: u8) -> Option<u64>
-        ensures { result ≡ keeping.refused_at self.now number stage }
+    /// Whether a line may stand here: its stage may come, and the record of an edit is of the zones' class.
+    #[tactic(auto, unfolding(crate::specs::Keeping::may_stand))]
+    fn may_stand(&self, line: &Line) -> bool
+        ensures { result ≡ keeping.may_stand self.now (line_of line.now) }
     {
-        if self.may_come(stage) {
-            self.refused_before(stage)
-        } else {
-            Some(number)
+        self.may_come(line.stage()) && self.is_of_zones(line)
+    }
+
+    /// Whether the record of an edit is of the zones' class.
+    fn is_of_zones(&self, line: &Line) -> bool
+        ensures { result ≡ keeping.is_of_zones self.now.zones (line_of line.now) }
+    {
+        match &self.zones {
+            Some(zones) => line.is_of_class(zones.primary.class()),
+            None => true,
         }
     }
 
-    /// Puts a line to what was read.
+    /// Puts a line to what was read. An edit or a question is left.
     fn put(&mut self, alloc: Global, number: u64, line: Line) -> Result<(), ScriptError>
         ensures ok { OnOk result (keeping.put_line self.old number (line_of line) ≡ Ok self.new) }
         ensures bad { IfErr result (λ e. IfSome (line_in e) (λ n. keeping.put_line self.old number (line_of line) ≡ Err n)) }
     {
-        let stage = line.stage();
+        let stage = line.stage().min(6);
         match line {
             Line::Zone(apex, class) => self.zones = Some(Zones::new(alloc, apex, class)?),
             Line::Key(key) => self.key = Some(key),
@@ -128,7 +140,8 @@ impl Reading {
             }
             Line::Primary(found) => put_primary(&mut self.zones, found, number)?,
             Line::Secondary(found) => put_secondary(&mut self.zones, found, number)?,
-            Line::Query(qname, qtype) => self.queries.push(qname, qtype)?,
+            Line::Change(change) => drop(change),
+            Line::Query(qname, _) => drop(qname),
         }
         self.stage = stage;
         Ok(())
@@ -144,35 +157,23 @@ impl Reading {
             && (stage <= 2 || self.key.is_some())
     }
 
-    /// The line that refuses an opening zone, asked before a line of a stage: at the first one after the zones, where their lines are all there.
-    fn refused_before(&self, stage: u8) -> Option<u64>
-        ensures { result ≡ keeping.refused_before self.now stage }
-    {
-        if stage < 6 || self.stage >= 6 {
-            return None;
-        }
-        match &self.zones {
-            Some(zones) => zones.refusal(),
-            None => None,
-        }
-    }
-
-    /// What the script says, where it ends before the line of this number.
-    pub(crate) fn finish(self, number: u64) -> Result<Script, ScriptError>
-        ensures ok { IfOk result (λ s. keeping.finished self number ≡ Ok s) }
-        ensures bad { IfErr result (λ e. IfSome (line_in e) (λ n. keeping.finished self number ≡ Err n)) }
+    /// What the lines say: the zones open. A script without a key is refused at this number, the one after its last line; a zone whose records make none at
+    /// the line of its last record, the primary's before the secondary's.
+    pub(crate) fn open(self, number: u64) -> Result<Opened, ScriptError>
+        ensures ok { IfOk result (λ o. keeping.open_zones self number ≡ Ok o) }
+        ensures bad { IfErr result (λ e. IfSome (line_in e) (λ n. keeping.open_zones self number ≡ Err n)) }
+        ensures first { IfOk result (λ o. o.primary.number ≡ 0) }
     {
         let (Some(zones), Some(key)) = (self.zones, self.key) else {
             return Err(ScriptError::Line(number));
         };
         let primary = zones.primary.build()?;
-        Ok(Script {
+        Ok(Opened {
             key,
             at_primary: self.at_primary,
             at_secondary: self.at_secondary,
             primary,
             secondary: zones.secondary.build()?,
-            queries: self.queries,
         })
     }
 }
@@ -210,15 +211,5 @@ fn put_secondary(
             drop(found);
             Err(ScriptError::Line(number))
         }
-    }
-}
-
-/// Whether a line is empty or a comment.
-fn is_skipped(line: &[u8]) -> bool
-    ensures { result ≡ skips line.now }
-{
-    match line {
-        [] => true,
-        [first, ..] => *first == b'#',
     }
 }

@@ -1,19 +1,23 @@
-//! Scripts: a primary's and a secondary's zone, the key that both sides share, and questions.
-ghost use Rattle.std.specs.Prelude.{◌≡◌, ◌⊎◌, ℕ, Ok, Err, IfOk, IfErr, IfSome};
+//! Scripts: a primary's zone and its commits, a secondary's zone, the key that both sides share, and questions.
+ghost use Rattle.std.specs.Prelude.{◌≡◌, ◌⊎◌, ◌<◌, ◌+◌, ◌^◌, ℕ, length, Ok, Err, IfOk, IfErr, IfSome};
 ghost use Rattle.tsig_port.specs.Tsig.{TsigKey};
 ghost use Rattle.zone_script.specs.Script as scripts;
-ghost use Rattle.zone_script.specs.ScriptReaders.{readers_so_far};
+ghost use Rattle.zone_script.specs.Script.{script_lines};
+ghost use Rattle.zone_script.specs.ScriptReaders.{wire_readers};
+ghost use Rattle.zone_script.specs.Keeping as keeping;
 ghost use Rattle.zone_script.specs.Keeping.{Gives};
 ghost use Rattle.zone_script.specs.Causes.{line_in};
 
+use crate::commits::Commits;
+use crate::editing::{Editing, read_rest};
 use crate::lines::next_line;
 use crate::queries::Queries;
-use crate::reading::Reading;
+use crate::reading::{Opened, Reading};
 use std::alloc::{AllocError, Global};
 use thiserror::Error;
 use tsig_port::{Key, Time48};
 use zone_records::zone_files_open;
-use zone_sessions::ZoneApex;
+use zone_sessions::{ReadZone, ZoneApex};
 
 /// What a script says.
 #[derive(Drop)]
@@ -24,8 +28,10 @@ pub struct Script {
     pub at_primary: Time48,
     /// When the secondary signs its request and checks the replies.
     pub at_secondary: Time48,
-    /// The primary's zone.
-    pub primary: ZoneApex,
+    /// The version with which the primary's zone opens.
+    pub opening: ReadZone,
+    /// The versions that the primary's zone gets after it.
+    pub commits: Commits,
     /// The secondary's zone, of the same apex and class.
     pub secondary: ZoneApex,
     /// The questions to the secondary's zone after the transfer.
@@ -54,23 +60,75 @@ impl From<AllocError> for ScriptError {
     }
 }
 
-/// Reads a script, as docs/SCRIPT.md says. The answer `Line` has the number of its first bad line.
-pub fn parse(alloc: Global, text: &[u8]) -> Result<Script, ScriptError>
+/// Reads a script, as docs/SCRIPT.md says. The answer `Line` has the number of its first bad line. Nothing waits, so nothing is asked of `rt`.
+pub fn parse<R>(rt: &R, alloc: Global, text: &[u8]) -> Result<Script, ScriptError>
     // What is read is what the definition says.
-    ensures ok { IfOk result (λ s. (t : scripts.Script TsigKey) × (scripts.script_of readers_so_far text.now ≡ Ok t) × Gives t s) }
+    ensures ok { IfOk result (λ s. (t : scripts.Script TsigKey) × (scripts.script_of wire_readers text.now ≡ Ok t) × Gives t s) }
     // A line is named exactly where the definition names it, but for want of memory.
-    ensures bad { IfErr result (λ e. IfSome (line_in e) (λ n. scripts.script_of readers_so_far text.now ≡ Err n)) }
-    ensures only_bad { (n : ℕ) → scripts.script_of readers_so_far text.now ≡ Err n → (result ≡ Err (ScriptError.Line n)) ⊎ (result ≡ Err ScriptError.Memory) }
+    ensures bad { IfErr result (λ e. IfSome (line_in e) (λ n. scripts.script_of wire_readers text.now ≡ Err n)) }
+    ensures only_bad { (n : ℕ) → scripts.script_of wire_readers text.now ≡ Err n → (result ≡ Err (ScriptError.Line n)) ⊎ (result ≡ Err ScriptError.Memory) }
 {
     // For the proof: what is held of a zone file takes, refuses and makes what the file does.
     zone_files_open();
-    let mut reading = Reading::new(alloc);
+    let mut reading = Reading::new();
     let mut rest = text;
     let mut number = 1u64;
-    'lines: while let Some((line, behind)) = next_line(rest) {
+    'opening: while let Some((line, behind)) = next_line(rest) {
         reading.read(alloc, number, line)?;
+        if reading.is_over() {
+            return finish(rt, alloc, reading, number, rest);
+        }
         rest = behind;
         number += 1;
     }
-    reading.finish(number)
+    finish(rt, alloc, reading, number, &[])
+}
+
+/// Opens the zones, and reads the edits and questions, which begin at the line of this number.
+fn finish<R>(
+    rt: &R,
+    alloc: Global,
+    reading: Reading,
+    number: u64,
+    rest: &[u8],
+) -> Result<Script, ScriptError>
+    requires first { 0 < number }
+    requires lines { number + length rest.now < 2 ^ 64 }
+    ensures ok { IfOk result (λ s. keeping.finished reading number (script_lines rest.now) ≡ Ok s) }
+    ensures bad { IfErr result (λ e. IfSome (line_in e) (λ n. keeping.finished reading number (script_lines rest.now) ≡ Err n)) }
+{
+    match reading.open(number) {
+        Ok(opened) => read_on(rt, alloc, opened, number, rest),
+        Err(error) => Err(error),
+    }
+}
+
+/// Reads the edits and questions, which begin at the line of this number.
+fn read_on<R>(
+    rt: &R,
+    alloc: Global,
+    opened: Opened,
+    number: u64,
+    rest: &[u8],
+) -> Result<Script, ScriptError>
+    requires first { opened.primary.number < number }
+    requires lines { number + length rest.now < 2 ^ 64 }
+    ensures ok { IfOk result (λ s. keeping.read_on number (script_lines rest.now) (Ok opened) ≡ Ok s) }
+    ensures bad { IfErr result (λ e. IfSome (line_in e) (λ n. keeping.read_on number (script_lines rest.now) (Ok opened) ≡ Err n)) }
+{
+    let mut primary = opened.primary;
+    let opening = primary.read(rt)?;
+    let mut editing = Editing::new(alloc, primary.class());
+    let mut session = primary.write(alloc);
+    read_rest(rt, alloc, &mut session, &mut editing, number, rest)?;
+    drop(session);
+    Ok(Script {
+        key: opened.key,
+        at_primary: opened.at_primary,
+        at_secondary: opened.at_secondary,
+        opening,
+        commits: editing.commits,
+        secondary: opened.secondary,
+        queries: editing.queries,
+    })
 }

@@ -1,24 +1,27 @@
 -- What a sink takes is due, from what the parts of a run ensure.
-use Rattle.std.specs.Prelude.{◌≡◌, ◌≢◌, ◌⊎◌, ℕ, List, [], ◌++◌, take, Bool, true, false, Option, Some, None, IfSome, Ok, Err, IsTrue}
+use Rattle.std.specs.Prelude.{◌≡◌, ◌≢◌, ◌⊎◌, ◌+◌, ℕ, List, [], ◌∷◌, ◌++◌, take, Bool, true, false, Option, Some, None, IfSome, Ok, Err, IsTrue}
 use Rattle.std.proofs.Common.{refl, sym, ap, ◌∙◌, subst, append-nil, inl, inr}
 use Rattle.dns_name.specs.Names.{Name}
 use Rattle.tsig_port.specs.Tsig.{TsigKey}
-use Rattle.zone_sync.specs.SoFar.{Asking}
-use Rattle.zone_script.specs.Script as scripts
-use Rattle.zone_script.specs.Script.{script_of}
-use Rattle.zone_script.specs.ScriptReaders.{readers_so_far}
-use Rattle.zone_script.specs.Keeping.{Gives}
-use Rattle.zone_script.specs.declared.script.Script.{Script}
-use Rattle.zone_sync.specs.Notices.{bad_line, is_reported}
+use Rattle.zone_model.specs.Commits.{Commit}
+use Rattle.zone_model.specs.Difference.{Difference}
+use Rattle.zone_model.specs.Offer.{Provider}
+use Rattle.zone_model.specs.TransferText.{Mode}
+use Rattle.zone_model.specs.Version.{Version}
 use Rattle.zone_devices.specs.Links.{LinkLists}
 use Rattle.zone_devices.specs.Streams.{with_more}
 use Rattle.xfr_server.specs.Items.{Sending}
-use Rattle.zone_model.specs.Commits.{Commit}
-use Rattle.zone_model.specs.Offer.{Provider}
-use Rattle.zone_sync.specs.Reported.{Crossed, crossed, Untouched, Transferred, TransfersOn, Reports, ReportsOn, Tried, Ran, NamesLine, IsDue, Took, TookFirst, Wrote, asking_with, asking_in, provider_of, primary_version}
+use Rattle.zone_script.specs.Script as scripts
+use Rattle.zone_script.specs.Script.{script_of, committed_by}
+use Rattle.zone_script.specs.ScriptReaders.{wire_readers}
+use Rattle.zone_script.specs.Keeping.{Gives, told_commits}
+use Rattle.zone_script.specs.Words.{Form, Transfer}
+use Rattle.zone_script.specs.declared.script.Script.{Script}
+use Rattle.zone_sync.specs.SoFar.{Asking, asks_with}
+use Rattle.zone_sync.specs.Notices.{bad_line, is_reported}
+use Rattle.zone_sync.specs.Reported.{Crossed, crossed, Untouched, Transferred, TransfersOn, Reports, ReportsOn, Tried, Ran, NamesLine, IsDue, Took, TookFirst, Wrote, AreTold, versions_of, read_provider, provider_of, provider_in, asking_in}
 use Rattle.zone_sync.specs.declared.program.Status.{Status}
 use Rattle.zone_sync.specs.declared.program.Status.TheVariants as ends
-use Rattle.zone_sync.proofs.ReportLaw.{ends_reported}
 
 -- a link that is as it was
 pub untouched : {longest f : ℕ} {lists : Option LinkLists} → Untouched (crossed longest lists lists f f)
@@ -28,60 +31,87 @@ untouched = record { lists = refl; faults = refl }
 not_sink : (s : Status) → IsTrue (is_reported s) → s ≢ ends.SinkFault
 not_sink s h e = let clash : false ≡ true = ap is_reported (sym e) ∙ h in absurd cc
 
-pub report_taken : (SendsOf : Provider → TsigKey → ℕ → List ℕ → Option (List Sending) → Type 0) (script : Script) (link : Crossed) (octets shown : List ℕ) (status s : Status) (taken_old taken_new : Option (List ℕ)) → ReportsOn SendsOf script link octets status → shown ≡ octets
-    → (s ≢ ends.SinkFault → s ≡ status) → (s ≢ ends.SinkFault → taken_new ≡ with_more shown taken_old) → IsTrue (is_reported s) → Took (λ o. ReportsOn SendsOf script link o s) taken_old taken_new
-report_taken SendsOf script link octets shown status s taken_old taken_new r same done written h = record {
+pub report_taken : (SendsOf : Provider → TsigKey → ℕ → List ℕ → Option (List Sending) → Type 0) (mode : Mode) (script : Script) (link : Crossed) (octets shown : List ℕ) (status s : Status) (taken_old taken_new : Option (List ℕ)) → ReportsOn SendsOf mode script link octets status → shown ≡ octets
+    → (s ≢ ends.SinkFault → s ≡ status) → (s ≢ ends.SinkFault → taken_new ≡ with_more shown taken_old) → IsTrue (is_reported s) → Took (λ o. ReportsOn SendsOf mode script link o s) taken_old taken_new
+report_taken SendsOf mode script link octets shown status s taken_old taken_new r same done written h = record {
   octets = octets;
-  due = subst (λ t. ReportsOn SendsOf script link octets t) (sym (done (not_sink s h))) r;
+  due = subst (λ t. ReportsOn SendsOf mode script link octets t) (sym (done (not_sink s h))) r;
   taken = written (not_sink s h) ∙ ap (λ o. with_more o taken_old) same;
 }
 
 -- what a text spells, as a script that was read
 abbrev pub Spelt : List ℕ → Script → Type 0
-Spelt text k = (t : scripts.Script TsigKey) × (script_of readers_so_far text ≡ Ok t) × Gives t k
+Spelt text k = (t : scripts.Script TsigKey) × (script_of wire_readers text ≡ Ok t) × Gives t k
 
 with_nothing : (had : Option (List ℕ)) → had ≡ with_more [] had
 with_nothing None = refl
 with_nothing (Some xs) = ap Some (sym (append-nil xs))
 
--- what holds of a transfer that was asked as the script was read holds of one that is asked as it says
-asked_so : (SendsOf : Provider → TsigKey → ℕ → List ℕ → Option (List Sending) → Type 0) (Holds : (List ℕ → Option (List Sending) → Type 0) → Asking → ℕ → List (Name × ℕ) → Type 0) (text : List ℕ) (k : Script) (spelt : Spelt text k)
-    → Holds (SendsOf (provider_of k.primary.version k.key) k.key k.at_primary) (asking_with k.key k.at_secondary k.secondary) k.at_primary k.queries
-    → Holds (SendsOf (provider_of (primary_version spelt.0) k.key) k.key spelt.0.at_primary) (asking_in spelt.0 k.key) spelt.0.at_primary spelt.0.queries
-asked_so SendsOf Holds text k (t, spells, gives) r =
-    let at = subst (λ (n : ℕ). Holds (SendsOf (provider_of k.primary.version k.key) k.key n) (asking_with k.key k.at_secondary k.secondary) n k.queries) gives.at_primary r in
-    let zone = subst (λ (z : Commit). Holds (SendsOf (provider_of z.version k.key) k.key t.at_primary) (asking_with k.key k.at_secondary k.secondary) t.at_primary k.queries) gives.primary at in
-    let later = subst (λ (n : ℕ). Holds (SendsOf (provider_of (primary_version t) k.key) k.key t.at_primary) (asking_with k.key n k.secondary) t.at_primary k.queries) gives.at_secondary zone in
-    let own = subst (λ (z : Commit). Holds (SendsOf (provider_of (primary_version t) k.key) k.key t.at_primary) (asking_with k.key t.at_secondary z) t.at_primary k.queries) gives.secondary later in
-    subst (λ (q : List (Name × ℕ)). Holds (SendsOf (provider_of (primary_version t) k.key) k.key t.at_primary) (asking_in t k.key) t.at_primary q) gives.queries own
+-- the versions of the commits that a list of versions makes
+versions_told : (last : Commit) (vs : List Version) → versions_of (told_commits last vs) ≡ vs
+versions_told last [] = refl
+versions_told last (v ∷ more) = ap (λ ws. v ∷ ws) (versions_told (record { number = last.number + 1; version = v }) more)
 
--- a transfer of the script that a text spells
-tried_so : (SendsOf : Provider → TsigKey → ℕ → List ℕ → Option (List Sending) → Type 0) (text : List ℕ) (link : Crossed) (k : Script) → Spelt text k → TransfersOn SendsOf k link → Tried SendsOf (Some text) link
-tried_so SendsOf text link k spelt t = record {
+-- .. whose differences are those that there are to tell
+are_told : (last : Commit) (vs : List Version) → AreTold last.version (told_commits last vs)
+are_told last [] = tt
+are_told last (v ∷ more) = (refl, are_told (record { number = last.number + 1; version = v }) more)
+
+pub script_told : (text : List ℕ) (k : Script) → Spelt text k → AreTold k.opening.version k.commits
+script_told text k (t, spells, gives) = subst (λ (cs : List (Commit × Option Difference)). AreTold k.opening.version cs) (sym gives.commits) (are_told k.opening (committed_by k.opening.version t.changes))
+
+-- a script that was read has the primary of what it says
+same_provider : (text : List ℕ) (k : Script) (spelt : Spelt text k) → read_provider k ≡ provider_in spelt.0 k.key
+same_provider text k (t, spells, gives) =
+    ap (λ (cs : List (Commit × Option Difference)). provider_of k.opening.version (versions_of cs) k.key) gives.commits
+    ∙ ap (λ (vs : List Version). provider_of k.opening.version vs k.key) (versions_told k.opening (committed_by k.opening.version t.changes))
+    ∙ ap (λ (c : Commit). provider_of c.version (committed_by c.version t.changes) k.key) gives.opening
+
+-- what holds of a transfer that was asked as the script was read holds of one that is asked as it says
+asked_so : (SendsOf : Provider → TsigKey → ℕ → List ℕ → Option (List Sending) → Type 0) (mode : Mode) (Holds : (List ℕ → Option (List Sending) → Type 0) → Asking → ℕ → List (Name × ℕ) → Type 0) (text : List ℕ) (k : Script) (spelt : Spelt text k)
+    → Holds (SendsOf (read_provider k) k.key k.at_primary) (asks_with k.key mode k.at_secondary k.secondary) k.at_primary k.queries
+    → Holds (SendsOf (provider_in spelt.0 k.key) k.key spelt.0.at_primary) (asking_in mode spelt.0 k.key) spelt.0.at_primary spelt.0.queries
+asked_so SendsOf mode Holds text k spelt r =
+    let t = spelt.0 in
+    let gives = spelt.2 in
+    let zone = subst (λ (p : Provider). Holds (SendsOf p k.key k.at_primary) (asks_with k.key mode k.at_secondary k.secondary) k.at_primary k.queries) (same_provider text k spelt) r in
+    let at = subst (λ (n : ℕ). Holds (SendsOf (provider_in t k.key) k.key n) (asks_with k.key mode k.at_secondary k.secondary) n k.queries) gives.at_primary zone in
+    let later = subst (λ (n : ℕ). Holds (SendsOf (provider_in t k.key) k.key t.at_primary) (asks_with k.key mode n k.secondary) t.at_primary k.queries) gives.at_secondary at in
+    let own = subst (λ (z : Commit). Holds (SendsOf (provider_in t k.key) k.key t.at_primary) (asks_with k.key mode t.at_secondary z) t.at_primary k.queries) gives.secondary later in
+    subst (λ (q : List (Name × ℕ)). Holds (SendsOf (provider_in t k.key) k.key t.at_primary) (asking_in mode t k.key) t.at_primary q) gives.queries own
+
+-- a transfer of the script that a text spells, for words that ask for that kind
+tried_so : (SendsOf : Provider → TsigKey → ℕ → List ℕ → Option (List Sending) → Type 0) (mode : Mode) (text : List ℕ) (link : Crossed) (k : Script) → Spelt text k → TransfersOn SendsOf mode k link → Tried SendsOf (Some (Transfer mode 0)) (Some text) link
+tried_so SendsOf mode text link k spelt t = record {
+  mode = mode;
+  asked = refl;
   text = text;
   whole = refl;
   script = spelt.0;
   spells = spelt.1;
   key = k.key;
   keyed = spelt.2.key;
-  transfer = asked_so SendsOf (λ Sends a at queries. Transferred Sends a at link) text k spelt t;
+  transfer = asked_so SendsOf mode (λ Sends a at queries. Transferred Sends a at link) text k spelt t;
 }
 
 -- .. and its report
-ran_so : (SendsOf : Provider → TsigKey → ℕ → List ℕ → Option (List Sending) → Type 0) (text : List ℕ) (link : Crossed) (octets : List ℕ) (s : Status) (k : Script) → Spelt text k
-    → ReportsOn SendsOf k link octets s → Ran SendsOf (Some text) link octets s
-ran_so SendsOf text link octets s k spelt r =
-    let asked = asked_so SendsOf (λ Sends a at queries. (t : Transferred Sends a at link) × Reports t.answer t.handles t.session queries octets s) text k spelt (r.transfer, r.reports) in
+ran_so : (SendsOf : Provider → TsigKey → ℕ → List ℕ → Option (List Sending) → Type 0) (mode : Mode) (text : List ℕ) (link : Crossed) (octets : List ℕ) (s : Status) (k : Script) → Spelt text k
+    → ReportsOn SendsOf mode k link octets s → Ran SendsOf (Some (Transfer mode 0)) (Some text) link octets s
+ran_so SendsOf mode text link octets s k spelt r =
+    let asked = asked_so SendsOf mode (λ Sends a at queries. (t : Transferred Sends a at link) × Reports t.answer t.handles t.session queries octets s) text k spelt (r.transfer, r.reports) in
     record {
-      tried = record { text = text; whole = refl; script = spelt.0; spells = spelt.1; key = k.key; keyed = spelt.2.key; transfer = asked.0 };
+      tried = record { mode = mode; asked = refl; text = text; whole = refl; script = spelt.0; spells = spelt.1; key = k.key; keyed = spelt.2.key; transfer = asked.0 };
       reports = asked.1;
     }
 
-pub due_of_report : (SendsOf : Provider → TsigKey → ℕ → List ℕ → Option (List Sending) → Type 0) (text : List ℕ) (link : Crossed) (octets : List ℕ) (s : Status) (k : Script) → Spelt text k
-    → ReportsOn SendsOf k link octets s → IsDue SendsOf (Some text) link octets s
-due_of_report SendsOf text link octets s k spelt r = by s (ends_reported _ _ _ _ octets s r.reports) (ran_so SendsOf text link octets s k spelt r)
+pub due_of_report : (SendsOf : Provider → TsigKey → ℕ → List ℕ → Option (List Sending) → Type 0) (mode : Mode) (text : List ℕ) (link : Crossed) (octets : List ℕ) (s : Status) (k : Script) → Spelt text k
+    → ReportsOn SendsOf mode k link octets s → IsDue SendsOf (Some (Transfer mode 0)) (Some text) link octets s
+due_of_report SendsOf mode text link octets s k spelt r = by s r.known (ran_so SendsOf mode text link octets s k spelt r)
   where
-    by : (s : Status) → IsTrue (is_reported s) → Ran SendsOf (Some text) link octets s → IsDue SendsOf (Some text) link octets s
+    form : Option Form
+    form = Some (Transfer mode 0)
+
+    by : (s : Status) → IsTrue (is_reported s) → Ran SendsOf form (Some text) link octets s → IsDue SendsOf form (Some text) link octets s
     by ends.Done h r = r
     by ends.Refused h r = r
     by ends.LinkFault h r = r
@@ -92,28 +122,28 @@ due_of_report SendsOf text link octets s k spelt r = by s (ends_reported _ _ _ _
     by ends.Memory h r = cc
     by ends.TooLong h r = cc
 
-pub first_due_of_report : (SendsOf : Provider → TsigKey → ℕ → List ℕ → Option (List Sending) → Type 0) (text : List ℕ) (link : Crossed) (taken_old taken_new : Option (List ℕ)) (k : Script) → Spelt text k
-    → TookFirst (ReportsOn SendsOf k link) taken_old taken_new → TookFirst (IsDue SendsOf (Some text) link) taken_old taken_new
-first_due_of_report SendsOf text link taken_old taken_new k spelt t =
-    record { octets = t.octets; status = t.status; count = t.count; due = due_of_report SendsOf text link t.octets t.status k spelt t.due; taken = t.taken }
+pub first_due_of_report : (SendsOf : Provider → TsigKey → ℕ → List ℕ → Option (List Sending) → Type 0) (mode : Mode) (text : List ℕ) (link : Crossed) (taken_old taken_new : Option (List ℕ)) (k : Script) → Spelt text k
+    → TookFirst (ReportsOn SendsOf mode k link) taken_old taken_new → TookFirst (IsDue SendsOf (Some (Transfer mode 0)) (Some text) link) taken_old taken_new
+first_due_of_report SendsOf mode text link taken_old taken_new k spelt t =
+    record { octets = t.octets; status = t.status; count = t.count; due = due_of_report SendsOf mode text link t.octets t.status k spelt t.due; taken = t.taken }
 
-pub written_of_transfer : (SendsOf : Provider → TsigKey → ℕ → List ℕ → Option (List Sending) → Type 0) (text : List ℕ) (link : Crossed) (taken_old taken_new : Option (List ℕ)) (s : Status) (k : Script) → Spelt text k
-    → (IsTrue (is_reported s) → Took (λ octets. ReportsOn SendsOf k link octets s) taken_old taken_new)
-    → (s ≡ ends.Memory → taken_new ≡ taken_old) → Untouched link ⊎ TransfersOn SendsOf k link → (s ≢ ends.Usage) × (s ≢ ends.SourceFault) × (s ≢ ends.TooLong) × (s ≢ ends.Script) → s ≢ ends.SinkFault
-    → Took (λ octets. IsDue SendsOf (Some text) link octets s) taken_old taken_new
-written_of_transfer SendsOf text link taken_old taken_new s k spelt reported nothing over_link others no_sink = by s reported nothing others no_sink
+pub written_of_transfer : (SendsOf : Provider → TsigKey → ℕ → List ℕ → Option (List Sending) → Type 0) (mode : Mode) (text : List ℕ) (link : Crossed) (taken_old taken_new : Option (List ℕ)) (s : Status) (k : Script) → Spelt text k
+    → (IsTrue (is_reported s) → Took (λ octets. ReportsOn SendsOf mode k link octets s) taken_old taken_new)
+    → (s ≡ ends.Memory → taken_new ≡ taken_old) → Untouched link ⊎ TransfersOn SendsOf mode k link → (s ≢ ends.Usage) × (s ≢ ends.SourceFault) × (s ≢ ends.TooLong) × (s ≢ ends.Script) → s ≢ ends.SinkFault
+    → Took (λ octets. IsDue SendsOf (Some (Transfer mode 0)) (Some text) link octets s) taken_old taken_new
+written_of_transfer SendsOf mode text link taken_old taken_new s k spelt reported nothing over_link others no_sink = by s reported nothing others no_sink
   where
-    passed : Untouched link ⊎ TransfersOn SendsOf k link → Untouched link ⊎ Tried SendsOf (Some text) link
+    passed : Untouched link ⊎ TransfersOn SendsOf mode k link → Untouched link ⊎ Tried SendsOf (Some (Transfer mode 0)) (Some text) link
     passed (inl u) = inl u
-    passed (inr t) = inr (tried_so SendsOf text link k spelt t)
+    passed (inr t) = inr (tried_so SendsOf mode text link k spelt t)
 
-    as_due : (s : Status) → Took (λ octets. ReportsOn SendsOf k link octets s) taken_old taken_new
-        → Took (λ octets. IsDue SendsOf (Some text) link octets s) taken_old taken_new
-    as_due s t = record { octets = t.octets; due = due_of_report SendsOf text link t.octets s k spelt t.due; taken = t.taken }
+    as_due : (s : Status) → Took (λ octets. ReportsOn SendsOf mode k link octets s) taken_old taken_new
+        → Took (λ octets. IsDue SendsOf (Some (Transfer mode 0)) (Some text) link octets s) taken_old taken_new
+    as_due s t = record { octets = t.octets; due = due_of_report SendsOf mode text link t.octets s k spelt t.due; taken = t.taken }
 
-    by : (s : Status) → (IsTrue (is_reported s) → Took (λ octets. ReportsOn SendsOf k link octets s) taken_old taken_new)
+    by : (s : Status) → (IsTrue (is_reported s) → Took (λ octets. ReportsOn SendsOf mode k link octets s) taken_old taken_new)
         → (s ≡ ends.Memory → taken_new ≡ taken_old) → (s ≢ ends.Usage) × (s ≢ ends.SourceFault) × (s ≢ ends.TooLong) × (s ≢ ends.Script) → s ≢ ends.SinkFault
-        → Took (λ octets. IsDue SendsOf (Some text) link octets s) taken_old taken_new
+        → Took (λ octets. IsDue SendsOf (Some (Transfer mode 0)) (Some text) link octets s) taken_old taken_new
     by ends.Done reported nothing others no_sink = as_due ends.Done (reported refl)
     by ends.Refused reported nothing others no_sink = as_due ends.Refused (reported refl)
     by ends.LinkFault reported nothing others no_sink = as_due ends.LinkFault (reported refl)
@@ -125,13 +155,13 @@ written_of_transfer SendsOf text link taken_old taken_new s k spelt reported not
     by ends.Script reported nothing others no_sink = absurd (others.3 refl)
 
 -- the number of a bad line is due
-line_due : (text : List ℕ) (link : Crossed) (number : ℕ) → Untouched link → script_of readers_so_far text ≡ Err number → NamesLine (Some text) (bad_line number) × Untouched link
+line_due : (text : List ℕ) (link : Crossed) (number : ℕ) → Untouched link → script_of wire_readers text ≡ Err number → NamesLine (Some text) (bad_line number) × Untouched link
 line_due text link number idle bad = (record { text = text; whole = refl; number = number; bad = bad; is = refl }, idle)
 
 -- a first part of it
-pub first_line : (SendsOf : Provider → TsigKey → ℕ → List ℕ → Option (List Sending) → Type 0) (text : List ℕ) (link : Crossed) (number : ℕ) (taken_old taken_new : Option (List ℕ)) → Untouched link → script_of readers_so_far text ≡ Err number
-    → ((n : ℕ) × (taken_new ≡ with_more (take n (bad_line number)) taken_old)) → TookFirst (IsDue SendsOf (Some text) link) taken_old taken_new
-first_line SendsOf text link number taken_old taken_new idle bad (n, taken) = record {
+pub first_line : (SendsOf : Provider → TsigKey → ℕ → List ℕ → Option (List Sending) → Type 0) (form : Option Form) (text : List ℕ) (link : Crossed) (number : ℕ) (taken_old taken_new : Option (List ℕ)) → Untouched link → script_of wire_readers text ≡ Err number
+    → ((n : ℕ) × (taken_new ≡ with_more (take n (bad_line number)) taken_old)) → TookFirst (IsDue SendsOf form (Some text) link) taken_old taken_new
+first_line SendsOf form text link number taken_old taken_new idle bad (n, taken) = record {
   octets = bad_line number;
   status = ends.Script;
   count = n;
@@ -144,24 +174,24 @@ pub along : (left : Option (List ℕ)) (text t : List ℕ) → IfSome left (λ h
 along None text t e f = tt
 along (Some had) text t e f = f ∙ e
 
-pub due_of_source : (SendsOf : Provider → TsigKey → ℕ → List ℕ → Option (List Sending) → Type 0) (left : Option (List ℕ)) (text : List ℕ) (link : Crossed) (octets : List ℕ) (s : Status) → IfSome left (λ had. text ≡ had)
-    → IsDue SendsOf (Some text) link octets s → IsDue SendsOf left link octets s
-due_of_source SendsOf left text link octets s e = by s
+pub due_of_source : (SendsOf : Provider → TsigKey → ℕ → List ℕ → Option (List Sending) → Type 0) (form : Option Form) (left : Option (List ℕ)) (text : List ℕ) (link : Crossed) (octets : List ℕ) (s : Status) → IfSome left (λ had. text ≡ had)
+    → IsDue SendsOf form (Some text) link octets s → IsDue SendsOf form left link octets s
+due_of_source SendsOf form left text link octets s e = by s
   where
-    as_tried : Tried SendsOf (Some text) link → Tried SendsOf left link
-    as_tried r = record { text = r.text; whole = along left text r.text e r.whole; script = r.script; spells = r.spells; key = r.key; keyed = r.keyed; transfer = r.transfer }
+    as_tried : Tried SendsOf form (Some text) link → Tried SendsOf form left link
+    as_tried r = record { mode = r.mode; asked = r.asked; text = r.text; whole = along left text r.text e r.whole; script = r.script; spells = r.spells; key = r.key; keyed = r.keyed; transfer = r.transfer }
 
-    as_ran : (s : Status) → Ran SendsOf (Some text) link octets s → Ran SendsOf left link octets s
+    as_ran : (s : Status) → Ran SendsOf form (Some text) link octets s → Ran SendsOf form left link octets s
     as_ran s r =
         let k = r.tried in
-        let tried : Tried SendsOf left link = record { text = k.text; whole = along left text k.text e k.whole; script = k.script; spells = k.spells; key = k.key; keyed = k.keyed; transfer = k.transfer } in
+        let tried : Tried SendsOf form left link = record { mode = k.mode; asked = k.asked; text = k.text; whole = along left text k.text e k.whole; script = k.script; spells = k.spells; key = k.key; keyed = k.keyed; transfer = k.transfer } in
         record { tried = tried; reports = r.reports }
 
-    passed : Untouched link ⊎ Tried SendsOf (Some text) link → Untouched link ⊎ Tried SendsOf left link
+    passed : Untouched link ⊎ Tried SendsOf form (Some text) link → Untouched link ⊎ Tried SendsOf form left link
     passed (inl u) = inl u
     passed (inr t) = inr (as_tried t)
 
-    by : (s : Status) → IsDue SendsOf (Some text) link octets s → IsDue SendsOf left link octets s
+    by : (s : Status) → IsDue SendsOf form (Some text) link octets s → IsDue SendsOf form left link octets s
     by ends.Done r = as_ran ends.Done r
     by ends.Refused r = as_ran ends.Refused r
     by ends.LinkFault r = as_ran ends.LinkFault r
@@ -172,15 +202,15 @@ due_of_source SendsOf left text link octets s e = by s
     by ends.Memory r = (r.0, passed r.1)
     by ends.TooLong r = r
 
-pub written_of_source : (SendsOf : Provider → TsigKey → ℕ → List ℕ → Option (List Sending) → Type 0) (left : Option (List ℕ)) (text : List ℕ) (link : Crossed) (taken_old taken_new : Option (List ℕ)) (s : Status) → IfSome left (λ had. text ≡ had)
-    → Took (λ octets. IsDue SendsOf (Some text) link octets s) taken_old taken_new → Took (λ octets. IsDue SendsOf left link octets s) taken_old taken_new
-written_of_source SendsOf left text link taken_old taken_new s e t =
-    record { octets = t.octets; due = due_of_source SendsOf left text link t.octets s e t.due; taken = t.taken }
+pub written_of_source : (SendsOf : Provider → TsigKey → ℕ → List ℕ → Option (List Sending) → Type 0) (form : Option Form) (left : Option (List ℕ)) (text : List ℕ) (link : Crossed) (taken_old taken_new : Option (List ℕ)) (s : Status) → IfSome left (λ had. text ≡ had)
+    → Took (λ octets. IsDue SendsOf form (Some text) link octets s) taken_old taken_new → Took (λ octets. IsDue SendsOf form left link octets s) taken_old taken_new
+written_of_source SendsOf form left text link taken_old taken_new s e t =
+    record { octets = t.octets; due = due_of_source SendsOf form left text link t.octets s e t.due; taken = t.taken }
 
-pub first_of_source : (SendsOf : Provider → TsigKey → ℕ → List ℕ → Option (List Sending) → Type 0) (left : Option (List ℕ)) (text : List ℕ) (link : Crossed) (taken_old taken_new : Option (List ℕ)) → IfSome left (λ had. text ≡ had)
-    → TookFirst (IsDue SendsOf (Some text) link) taken_old taken_new → TookFirst (IsDue SendsOf left link) taken_old taken_new
-first_of_source SendsOf left text link taken_old taken_new e t =
-    record { octets = t.octets; status = t.status; count = t.count; due = due_of_source SendsOf left text link t.octets t.status e t.due; taken = t.taken }
+pub first_of_source : (SendsOf : Provider → TsigKey → ℕ → List ℕ → Option (List Sending) → Type 0) (form : Option Form) (left : Option (List ℕ)) (text : List ℕ) (link : Crossed) (taken_old taken_new : Option (List ℕ)) → IfSome left (λ had. text ≡ had)
+    → TookFirst (IsDue SendsOf form (Some text) link) taken_old taken_new → TookFirst (IsDue SendsOf form left link) taken_old taken_new
+first_of_source SendsOf form left text link taken_old taken_new e t =
+    record { octets = t.octets; status = t.status; count = t.count; due = due_of_source SendsOf form left text link t.octets t.status e t.due; taken = t.taken }
 
 -- a first part of octets that are due
 pub first_part : (Holds : List ℕ → Status → Type 0) (octets : List ℕ) (s : Status) (old new : Option (List ℕ)) → Holds octets s → ((n : ℕ) × (new ≡ with_more (take n octets) old)) → TookFirst Holds old new
@@ -202,18 +232,18 @@ wrote_nothing Holds old new due same = record {
 }
 
 -- the number of a bad line was written, or a first part of it, or nothing
-pub wrote_line : (SendsOf : Provider → TsigKey → ℕ → List ℕ → Option (List Sending) → Type 0) (text : List ℕ) (link : Crossed) (number : ℕ) (old new : Option (List ℕ)) (s : Status) → Untouched link → script_of readers_so_far text ≡ Err number
+pub wrote_line : (SendsOf : Provider → TsigKey → ℕ → List ℕ → Option (List Sending) → Type 0) (form : Option Form) (text : List ℕ) (link : Crossed) (number : ℕ) (old new : Option (List ℕ)) (s : Status) → Untouched link → script_of wire_readers text ≡ Err number
     → (s ≡ ends.Script → new ≡ with_more (bad_line number) old) → (s ≡ ends.SinkFault → (n : ℕ) × (new ≡ with_more (take n (bad_line number)) old)) → (s ≡ ends.Memory → new ≡ old)
-    → (s ≡ ends.Script) ⊎ ((s ≡ ends.SinkFault) ⊎ (s ≡ ends.Memory)) → Wrote (IsDue SendsOf (Some text) link) old new s
-wrote_line SendsOf text link number old new s idle bad written part nothing others = by others
+    → (s ≡ ends.Script) ⊎ ((s ≡ ends.SinkFault) ⊎ (s ≡ ends.Memory)) → Wrote (IsDue SendsOf form (Some text) link) old new s
+wrote_line SendsOf form text link number old new s idle bad written part nothing others = by others
   where
-    by : (s ≡ ends.Script) ⊎ ((s ≡ ends.SinkFault) ⊎ (s ≡ ends.Memory)) → Wrote (IsDue SendsOf (Some text) link) old new s
-    by (inl e) = subst (λ (t : Status). Wrote (IsDue SendsOf (Some text) link) old new t) (sym e) (record {
+    by : (s ≡ ends.Script) ⊎ ((s ≡ ends.SinkFault) ⊎ (s ≡ ends.Memory)) → Wrote (IsDue SendsOf form (Some text) link) old new s
+    by (inl e) = subst (λ (t : Status). Wrote (IsDue SendsOf form (Some text) link) old new t) (sym e) (record {
       whole = λ well. record { octets = bad_line number; due = line_due text link number idle bad; taken = written e };
       part = λ failed. cc;
     })
     by (inr (inl e)) = record {
       whole = λ well. absurd (well e);
-      part = λ failed. first_line SendsOf text link number old new idle bad (part failed);
+      part = λ failed. first_line SendsOf form text link number old new idle bad (part failed);
     }
-    by (inr (inr e)) = subst (λ (t : Status). Wrote (IsDue SendsOf (Some text) link) old new t) (sym e) (wrote_nothing (IsDue SendsOf (Some text) link) old new (refl, inl idle) (nothing e))
+    by (inr (inr e)) = subst (λ (t : Status). Wrote (IsDue SendsOf form (Some text) link) old new t) (sym e) (wrote_nothing (IsDue SendsOf form (Some text) link) old new (refl, inl idle) (nothing e))

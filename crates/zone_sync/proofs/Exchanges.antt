@@ -1,5 +1,5 @@
 -- A transfer from the request on.
-use Rattle.std.proofs.Common.{◌≡◌, ℕ, ◌<◌, ◌≤◌, Bool, true, false, ◌&&◌, List, [], ◌∷◌, ◌++◌, length, min, append-nil, refl, sym, ap, ◌∙◌, subst, arith, ◌⊎◌, inl, inr, Option, Some, None, IsSome, Result, Ok, Err}
+use Rattle.std.proofs.Common.{◌≡◌, ℕ, ◌<◌, true, false, ◌&&◌, List, [], ◌∷◌, ◌++◌, length, append-nil, refl, sym, ap, ◌∙◌, subst, arith, ◌⊎◌, inl, inr, Option, IsSome, Result, Ok, Err}
 use Rattle.std.proofs.lemmas.Bool.{lt-leb}
 use Rattle.xfr_services.specs.declared.services.ServiceError.TheVariants as service
 use Rattle.dns_wire.specs.declared.builder.PushError.TheVariants.{ShortBuf, CountOverflow}

@@ -1,6 +1,5 @@
 -- The read handles around a transfer.
-use Rattle.std.proofs.Common.{◌≡◌, ℕ, zero, suc, ◌+◌, true, ◌&&◌, ◌==◌, List, [], ◌∷◌, ◌++◌, refl, sym, ap, ◌∙◌, subst, Option, Some, None}
-use Rattle.std.specs.Prelude.{option_map, slice_get}
+use Rattle.std.proofs.Common.{◌≡◌, ℕ, zero, suc, ◌+◌, true, ◌&&◌, List, [], ◌∷◌, ◌++◌, refl, sym, ap, ◌∙◌, subst, Option, Some}
 use Rattle.std.proofs.Common.{eq-eqb}
 use Rattle.dns_name.specs.Names.{Name}
 use Rattle.zone_model.specs.Answer.{Answer}
@@ -8,7 +7,7 @@ use Rattle.zone_model.specs.Version.{Version}
 use Rattle.zone_model.specs.Commits.{Commit, are_numbered}
 use Rattle.zone_model.specs.Session.{Session, commits_after}
 use Rattle.zone_sync.specs.Steps.{HasMade}
-use Rattle.zone_sync.specs.Handles.{answer_from, asked_at, KeepsHandles}
+use Rattle.zone_sync.specs.Handles.{asked_at, KeepsHandles}
 
 -- numbers rise by one
 numbered_after : (base : Commit) (versions : List Version) → are_numbered (base ∷ commits_after base versions) ≡ true

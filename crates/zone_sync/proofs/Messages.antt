@@ -1,13 +1,12 @@
 -- All updates of one message.
-use Rattle.std.proofs.Common.{◌≡◌, ℕ, Bool, true, false, List, [], ◌∷◌, ◌++◌, refl, sym, ap, ◌∙◌, subst, Option, Some, None, Result, Ok, Err, inl, inr}
+use Rattle.std.proofs.Common.{◌≡◌, ℕ, Bool, true, false, List, [], ◌∷◌, ◌++◌, refl, sym, ap, ◌∙◌, subst, Option, Some, None, Ok, Err, inl, inr}
 use Rattle.zone_model.specs.Commits.{Commit}
 use Rattle.zone_model.specs.Session.{Session}
 use Rattle.zone_model.specs.Updates.{Update, Progress}
 use Rattle.xfr_model.specs.Read.{Fault, Unreadable, AfterEnd}
 use Rattle.xfr_model.specs.Machine.{went, then_run}
-use Rattle.xfr_model.specs.Applying.{Halt, Held, apply_within}
+use Rattle.xfr_model.specs.Applying.{Held, apply_within}
 use Rattle.xfr_client.specs.declared.update.Error.{Error}
-use Rattle.xfr_client.specs.declared.update.Error.TheVariants as errors
 use Rattle.xfr_client.specs.Rest.{Rest}
 use Rattle.xfr_client.specs.Updating.{Updating}
 use Rattle.xfr_client.specs.Rest.{NextTold}
@@ -15,7 +14,7 @@ use Rattle.xfr_client.specs.declared.protocol.IterationError.{IterationError}
 use Rattle.xfr_client.specs.declared.protocol.IterationError.TheVariants as items
 use Rattle.zone_sync.specs.Ending.{ending_error}
 use Rattle.zone_sync.specs.Refusals.{of_update}
-use Rattle.zone_sync.specs.Steps.{numbers_left, HasMade, Ahead, DoesOne, HaltsOne, TakesOne, LedOn, EndsEarly, IsCause, TakesAll}
+use Rattle.zone_sync.specs.Steps.{numbers_left, HasMade, Ahead, DoesOne, TakesOne, LedOn, EndsEarly, IsCause, TakesAll}
 use Rattle.zone_sync.specs.declared.outcome.SyncError.{SyncError}
 use Rattle.zone_sync.specs.declared.outcome.SyncError.TheVariants as why
 use Rattle.zone_sync.proofs.Steps.{led_more, led_all, halts_left}

@@ -1,5 +1,5 @@
 -- What the replies that were taken come to.
-use Rattle.std.proofs.Common.{◌≡◌, ℕ, suc, ◌+◌, ◌<◌, ◌≤◌, Bool, true, false, not, ◌&&◌, nat_le, if◌then◌else◌, List, [], ◌∷◌, ◌++◌, map, length, length-append, take, refl, sym, ap, ◌∙◌, subst, arith, le-leb, append-nil, Option, Some, None, is_some, Result, Ok, Err}
+use Rattle.std.proofs.Common.{◌≡◌, ℕ, ◌<◌, ◌≤◌, Bool, true, false, not, ◌&&◌, nat_le, if◌then◌else◌, List, [], ◌∷◌, ◌++◌, map, length, take, refl, sym, ap, ◌∙◌, arith, le-leb, append-nil, Some, None}
 use Rattle.std.specs.Prelude.{cond, unwrap_or, take_while}
 use Rattle.std.specs.List.{list_all}
 use Rattle.std.specs.Option.{option_or}
@@ -9,15 +9,12 @@ use Rattle.std.proofs.lemmas.List.Sums.{take_while-cons}
 use Rattle.std.proofs.lemmas.List.Folds.{list_all-append}
 use Rattle.tsig_port.specs.Checked.{passing, first_fault, pass_on}
 use Rattle.tsig_port.specs.declared.errors.ValidationError.{ValidationError}
-use Rattle.zone_model.specs.Version.{Version}
 use Rattle.xfr_course.specs.Outcome.{Outcome, Ended, Tsig, Short, TooManyMessages, Checked, Course, outcome, made}
 use Rattle.xfr_course.specs.Courses.{has_header, most_replies, replies_taken, stop_after}
-use Rattle.xfr_course.specs.Client.{Client, new_client, take_checked, take_course, client_of, IsPart}
+use Rattle.xfr_course.specs.Client.{Client, new_client, take_checked, take_course, client_of}
 use Rattle.xfr_course.proofs.Clients.{client_meets}
-use Rattle.xfr_course.proofs.ClientParts.{part_is_made}
 use Rattle.zone_sync.specs.SoFar.{Asking, asked_course, checked_so_far, fault_so_far, course_so_far, client_so_far}
 use Rattle.zone_sync.specs.Standing.{Passed}
-use Rattle.zone_sync.proofs.Standings.{one_passed}
 
 -- ---- the client of a course
 

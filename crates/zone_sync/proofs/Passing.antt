@@ -1,7 +1,7 @@
 -- What passes over a link, call by call.
-use Rattle.std.proofs.Common.{◌≡◌, ℕ, true, List, [], ◌∷◌, ◌++◌, append_assoc, append-nil, refl, sym, ap, ◌∙◌, subst, Option, Some, None}
+use Rattle.std.proofs.Common.{◌≡◌, ℕ, List, [], ◌∷◌, ◌++◌, append_assoc, append-nil, refl, sym, ap, ◌∙◌, subst, Option, Some, None}
 use Rattle.std.specs.Prelude.{option_map}
-use Rattle.zone_devices.specs.Links.{Way, LinkLists, with_taken, after_take, on_requests, on_replies, WentOn, BothWentOn, LinkWentOn}
+use Rattle.zone_devices.specs.Links.{Way, LinkLists, with_taken, after_take, on_requests, on_replies, WentOn, LinkWentOn}
 use Rattle.zone_sync.specs.Transfers.{RequestsEnded, RepliesEnded}
 
 pub nothing_yet : (o : Option LinkLists) → LinkWentOn o o [] [] [] []

@@ -1,5 +1,5 @@
 -- Where a transfer stands between messages, and what a reply to it says.
-use Rattle.std.proofs.Common.{◌≡◌, ℕ, Bool, true, false, not, ◌&&◌, ◌==◌, if◌then◌else◌, List, [], ◌∷◌, map, length, refl, sym, ap, ◌∙◌, subst, ◌⊎◌, inl, inr, Option, Some, None, is_some}
+use Rattle.std.proofs.Common.{◌≡◌, ℕ, Bool, true, false, not, ◌&&◌, if◌then◌else◌, List, [], ◌∷◌, map, refl, sym, ap, ◌∙◌, ◌⊎◌, inl, inr, Option, Some, None, is_some}
 use Rattle.std.proofs.Math.Bool.{and-false}
 use Rattle.dns_rdata.specs.Records.{Record}
 use Rattle.dns_rdata.specs.Soa.{serial_of}

@@ -1,9 +1,8 @@
 -- The replies of one transfer, as the secondary takes them over a link.
-use Rattle.std.proofs.Common.{◌≡◌, ℕ, ◌+◌, ◌<◌, ◌≤◌, Bool, true, false, ◌&&◌, List, [], ◌∷◌, ◌++◌, length, length-append, refl, sym, ap, ◌∙◌, subst, arith, append-nil, Option, Some, None, Result, Ok, Err}
+use Rattle.std.proofs.Common.{◌≡◌, ℕ, ◌+◌, ◌<◌, ◌≤◌, true, false, ◌&&◌, List, [], ◌∷◌, ◌++◌, length, length-append, refl, sym, ap, ◌∙◌, subst, arith, append-nil, Option, Some, None, Result, Ok, Err}
 use Rattle.std.specs.Prelude.{option_map}
 use Rattle.std.specs.List.{list_all}
 use Rattle.std.proofs.lemmas.List.Folds.{list_all-append}
-use Rattle.dns_message.specs.declared.message.ShortMessage.{ShortMessage}
 use Rattle.zone_model.specs.Commits.{Commit}
 use Rattle.zone_model.specs.Session.{Session}
 use Rattle.xfr_course.specs.Courses.{has_header, most_replies}
@@ -18,7 +17,7 @@ use Rattle.zone_sync.specs.declared.outcome.SyncOk.{SyncOk}
 use Rattle.zone_sync.specs.declared.outcome.SyncError.{SyncError}
 use Rattle.zone_sync.specs.declared.outcome.SyncError.TheVariants as why
 use Rattle.zone_sync.proofs.Replying.{no_end, comes_later, refuses, finishes, link_fails, link_ends, memory_ends, too_many}
-use Rattle.zone_sync.proofs.Passing.{nothing_yet, nothing_more, reply_handed, replies_ended, link_on}
+use Rattle.zone_sync.proofs.Passing.{nothing_yet, reply_handed, replies_ended, link_on}
 
 pub starts : (a : Asking) (o : Option LinkLists) (c : ClientState) (s : Session) (before handles : List Commit) → Stands c s a [] before handles → TakenSoFar a o o c s before handles 0
 starts a o c s before handles st = record { taken = []; count = refl; link = nothing_yet o; stands = st }

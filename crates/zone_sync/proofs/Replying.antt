@@ -1,12 +1,8 @@
 -- What replies come to, one after the other: the transfer that ends with one of them, or goes on.
-use Rattle.std.proofs.Common.{◌≡◌, ℕ, ◌<◌, ◌≤◌, Bool, true, false, ◌&&◌, ◌==◌, if◌then◌else◌, List, [], ◌∷◌, ◌++◌, map, length, append_assoc, append-nil, refl, sym, ap, ◌∙◌, subst, arith, Option, Some, None, Result, Ok, Err, inl, inr}
-use Rattle.std.specs.Prelude.{unwrap_or, option_map, ◌⊎◌}
-use Rattle.std.specs.List.{list_all}
+use Rattle.std.proofs.Common.{◌≡◌, ℕ, ◌<◌, ◌≤◌, Bool, true, false, ◌==◌, if◌then◌else◌, List, [], ◌∷◌, ◌++◌, map, length, append-nil, refl, sym, ap, ◌∙◌, subst, arith, Option, Some, None, Result, Ok, Err, inl, inr}
+use Rattle.std.specs.Prelude.{unwrap_or}
 use Rattle.std.specs.Option.{option_map_or}
 use Rattle.std.proofs.lemmas.List.{map-append}
-use Rattle.std.proofs.lemmas.List.Folds.{list_all-append}
-use Rattle.dns_message.specs.declared.message.ShortMessage.{ShortMessage}
-use Rattle.dns_wire.specs.declared.builder.PushError.{PushError}
 use Rattle.zone_model.specs.Version.{Version}
 use Rattle.zone_model.specs.Commits.{Commit}
 use Rattle.zone_model.specs.Session.{Session}
@@ -16,14 +12,13 @@ use Rattle.xfr_model.specs.Machine.{is_at_end, Run, signal_of}
 use Rattle.xfr_model.specs.Applying.{Halt, Denied, NoNumber, Held, apply_within}
 use Rattle.xfr_course.specs.Outcome.{Outcome, Updated, UpToDate, NoSoa, RequestTooLong, LinkFault, Ended, Short, Primary, TooManyMessages, Tsig, Reading, RetrySignal, VersionsExhausted, Checked, Course, outcome, made, room, base_serial}
 use Rattle.xfr_course.specs.Courses.{has_header, most_replies, stop_after}
-use Rattle.xfr_course.specs.Client.{Client, new_client, take_course, run_message, IsPart, halt_outcome, met_after}
+use Rattle.xfr_course.specs.Client.{new_client, take_course, run_message, IsPart, halt_outcome, met_after}
 use Rattle.xfr_course.proofs.ClientParts.{part_is_made}
 use Rattle.zone_sync.specs.SoFar.{Asking, asked_course, checked_so_far, fault_so_far, course_so_far, client_so_far}
 use Rattle.zone_sync.specs.Steps.{HasMade, RanOut}
 use Rattle.zone_sync.specs.Standing.{ClientState, Passed, Meets, Stands, RefusesReply, TakesReply}
 use Rattle.zone_sync.specs.Ending.{answer_of}
-use Rattle.zone_devices.specs.Links.{Way, LinkLists, after_take, on_replies, WentOn, BothWentOn, LinkWentOn}
-use Rattle.zone_sync.specs.Transfers.{given_up, course_answered, AreSpelt, AnswersCourse, Transfers, HasShort, EndsSo, TakenSoFar, ComesLater}
+use Rattle.zone_sync.specs.Transfers.{given_up, course_answered, AreSpelt, Transfers, ComesLater}
 use Rattle.zone_sync.specs.declared.outcome.SyncOk.{SyncOk}
 use Rattle.zone_sync.specs.declared.outcome.SyncError.{SyncError}
 use Rattle.zone_sync.specs.declared.outcome.SyncError.TheVariants as why

@@ -1,38 +1,36 @@
 -- The report of a transfer, from what its parts ensure.
-use Rattle.std.specs.Prelude.{◌≡◌, ◌≢◌, ◌<◌, ℕ, List, [], length, Option, Some, None, Result, Ok, Err, IsSomeAnd, IsTrue}
+use Rattle.std.specs.Prelude.{◌≡◌, ◌≢◌, ◌<◌, ℕ, List, [], length, Option, Result, Ok, Err, IsTrue}
 use Rattle.std.proofs.Common.{refl, sym, ap, ◌∙◌, subst, arith}
 use Rattle.dns_name.specs.Names.{Name}
 use Rattle.dns_rdata.specs.Records.{record_wire}
 use Rattle.tsig_port.specs.Tsig.{TsigKey}
 use Rattle.zone_model.specs.Commits.{Commit}
 use Rattle.zone_model.specs.Session.{Session}
-use Rattle.xfr_course.specs.Outcome.{Outcome}
+use Rattle.zone_model.specs.Offer.{Provider}
+use Rattle.zone_model.specs.TransferText.{Mode}
 use Rattle.zone_devices.specs.Calls.{Rose}
 use Rattle.zone_devices.specs.Links.{LinkLists}
-use Rattle.zone_sync.specs.SoFar.{Asking, asks_with}
-use Rattle.zone_sync.specs.Ending.{outcome_of}
-use Rattle.zone_sync.specs.Delivery.{Synchronizes}
 use Rattle.xfr_server.specs.Items.{Sending}
-use Rattle.zone_model.specs.Offer.{Provider}
-use Rattle.zone_model.specs.TransferText.{Axfr}
 use Rattle.zone_script.specs.declared.script.Script.{Script}
+use Rattle.zone_sync.specs.SoFar.{asks_with}
+use Rattle.zone_sync.specs.Delivery.{Synchronizes}
 use Rattle.zone_sync.specs.declared.outcome.SyncOk.{SyncOk}
 use Rattle.zone_sync.specs.declared.outcome.SyncError.{SyncError}
 use Rattle.zone_sync.specs.declared.outcome.SyncError.TheVariants as why
 use Rattle.zone_sync.specs.Report.{report}
 use Rattle.zone_sync.specs.Notices.{is_reported}
-use Rattle.zone_sync.specs.Reported.{crossed, Crossed, Transferred, TransfersOn, Reports, ReportsOn, status_by, asking_with}
+use Rattle.zone_sync.specs.Reported.{crossed, Crossed, Transferred, TransfersOn, Reports, ReportsOn, status_by}
 use Rattle.zone_sync.specs.declared.program.Status.{Status}
 use Rattle.zone_sync.specs.declared.program.Status.TheVariants.{LinkFault}
 
 -- a status that comes with a report
-pub ends_reported : (answer : Result SyncOk SyncError) (handles : List Commit) (s : Session) (queries : List (Name × ℕ)) (octets : List ℕ) (status : Status) → Reports answer handles s queries octets status → IsTrue (is_reported status)
-ends_reported answer handles s queries octets status r = subst (λ t. IsTrue (is_reported t)) (sym r.ended) (by answer r.names)
+pub ends_reported : (answer : Result SyncOk SyncError) (status : Status) → status ≡ status_by answer → answer ≢ Err why.Memory → IsTrue (is_reported status)
+ends_reported answer status e known = subst (λ t. IsTrue (is_reported t)) (sym e) (by answer known)
   where
-    by : (answer : Result SyncOk SyncError) → outcome_of answer ≡ Some r.how → IsTrue (is_reported (status_by answer))
+    by : (answer : Result SyncOk SyncError) → answer ≢ Err why.Memory → IsTrue (is_reported (status_by answer))
     by (Ok done) h = refl
     by (Err why.LinkFault) h = refl
-    by (Err why.Memory) h = cc
+    by (Err why.Memory) h = absurd (h refl)
     by (Err e) h = refl
 
 -- a status of a failed link is that of its answer
@@ -60,21 +58,21 @@ link_fails answer status old new e steady rose = e ∙ by answer steady
 
 module _ (Sends : List ℕ → Option (List Sending) → Type 0) (at longest : ℕ) (old new : Option LinkLists) (f g : ℕ) where
   -- a transfer into a new list of handles
-  pub says_of_new : (key : TsigKey) (now : ℕ) (opened base : Commit) (before handles : List Commit) (s : Session) (answer : Result SyncOk SyncError)
-      → opened ≡ base → before ≡ [] → Synchronizes Sends (asks_with key Axfr now opened) at longest old new f g before handles s answer → Synchronizes Sends (asking_with key now base) at longest old new f g [] handles s answer
-  says_of_new key now opened base before handles s answer same none says =
-      subst (λ b. Synchronizes Sends (asking_with key now b) at longest old new f g [] handles s answer) same
-      (subst (λ had. Synchronizes Sends (asking_with key now opened) at longest old new f g had handles s answer) none says)
+  pub says_of_new : (key : TsigKey) (mode : Mode) (now : ℕ) (opened base : Commit) (before handles : List Commit) (s : Session) (answer : Result SyncOk SyncError)
+      → opened ≡ base → before ≡ [] → Synchronizes Sends (asks_with key mode now opened) at longest old new f g before handles s answer → Synchronizes Sends (asks_with key mode now base) at longest old new f g [] handles s answer
+  says_of_new key mode now opened base before handles s answer same none says =
+      subst (λ b. Synchronizes Sends (asks_with key mode now b) at longest old new f g [] handles s answer) same
+      (subst (λ had. Synchronizes Sends (asks_with key mode now opened) at longest old new f g had handles s answer) none says)
 
   -- .. and its parts as one
-  abbrev pub transfer_so : (key : TsigKey) (now : ℕ) (opened base : Commit) (before handles : List Commit) (s : Session) (answer : Result SyncOk SyncError)
-      → opened ≡ base → before ≡ [] → Synchronizes Sends (asks_with key Axfr now opened) at longest old new f g before handles s answer
-      → (answer ≡ Err why.LinkFault → Rose f g) → (answer ≢ Err why.LinkFault → g ≡ f) → Transferred Sends (asking_with key now base) at (crossed longest old new f g)
-  transfer_so key now opened base before handles s answer same none says failed steady = record {
+  abbrev pub transfer_so : (key : TsigKey) (mode : Mode) (now : ℕ) (opened base : Commit) (before handles : List Commit) (s : Session) (answer : Result SyncOk SyncError)
+      → opened ≡ base → before ≡ [] → Synchronizes Sends (asks_with key mode now opened) at longest old new f g before handles s answer
+      → (answer ≡ Err why.LinkFault → Rose f g) → (answer ≢ Err why.LinkFault → g ≡ f) → Transferred Sends (asks_with key mode now base) at (crossed longest old new f g)
+  transfer_so key mode now opened base before handles s answer same none says failed steady = record {
     answer = answer;
     handles = handles;
     session = s;
-    says = says_of_new key now opened base before handles s answer same none says;
+    says = says_of_new key mode now opened base before handles s answer same none says;
     failed = failed;
     steady = steady;
   }
@@ -82,23 +80,18 @@ module _ (Sends : List ℕ → Option (List Sending) → Type 0) (at longest : �
 -- what was made of an answer is its report
 reports_so : (asked queries : List (Name × ℕ)) (handles : List Commit) (s : Session) (answer : Result SyncOk SyncError) (octets : List ℕ) (n : ℕ) (last : Commit) (status : Status)
     → n ≡ length handles → last ≡ s.current → status ≡ status_by answer → asked ≡ queries
-    → IsSomeAnd (outcome_of answer) (λ how. octets ≡ report record_wire how n last.version asked []) → Reports answer handles s queries octets status
-reports_so asked queries handles s answer octets n last status counted current ends same named = by (outcome_of answer) refl named
-  where
-    by : (o : Option Outcome) → outcome_of answer ≡ o → IsSomeAnd o (λ how. octets ≡ report record_wire how n last.version asked []) → Reports answer handles s queries octets status
-    by (Some how) e is = record {
-      ended = ends;
-      how = how;
-      names = e;
-      is = is ∙ ap (λ m. report record_wire how m last.version asked []) counted ∙ ap (λ z. report record_wire how (length handles) z.version asked []) current ∙ ap (λ q. report record_wire how (length handles) s.current.version q []) same;
-    }
-    by None e is = absurd is
+    → octets ≡ report record_wire answer n last.version asked [] → Reports answer handles s queries octets status
+reports_so asked queries handles s answer octets n last status counted current ends same is = record {
+  ended = ends;
+  is = is ∙ ap (λ m. report record_wire answer m last.version asked []) counted ∙ ap (λ z. report record_wire answer (length handles) z.version asked []) current ∙ ap (λ q. report record_wire answer (length handles) s.current.version q []) same;
+}
 
 -- .. and that of a script's transfer
-pub reported_so : (SendsOf : Provider → TsigKey → ℕ → List ℕ → Option (List Sending) → Type 0) (script : Script) (link : Crossed) (t : TransfersOn SendsOf script link) (asked : List (Name × ℕ)) (octets : List ℕ) (n : ℕ) (last : Commit) (status : Status)
-    → n ≡ length t.handles → last ≡ t.session.current → status ≡ status_by t.answer → asked ≡ script.queries
-    → IsSomeAnd (outcome_of t.answer) (λ how. octets ≡ report record_wire how n last.version asked []) → ReportsOn SendsOf script link octets status
-reported_so SendsOf script link t asked octets n last status counted current ends same named = record {
+pub reported_so : (SendsOf : Provider → TsigKey → ℕ → List ℕ → Option (List Sending) → Type 0) (mode : Mode) (script : Script) (link : Crossed) (t : TransfersOn SendsOf mode script link) (asked : List (Name × ℕ)) (octets : List ℕ) (n : ℕ) (last : Commit) (status : Status)
+    → n ≡ length t.handles → last ≡ t.session.current → status ≡ status_by t.answer → asked ≡ script.queries → t.answer ≢ Err why.Memory
+    → octets ≡ report record_wire t.answer n last.version asked [] → ReportsOn SendsOf mode script link octets status
+reported_so SendsOf mode script link t asked octets n last status counted current ends same known is = record {
   transfer = t;
-  reports = reports_so asked script.queries t.handles t.session t.answer octets n last status counted current ends same named;
+  reports = reports_so asked script.queries t.handles t.session t.answer octets n last status counted current ends same is;
+  known = ends_reported t.answer status ends known;
 }

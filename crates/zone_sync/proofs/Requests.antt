@@ -1,5 +1,5 @@
 -- The request of a secondary.
-use Rattle.std.proofs.Common.{◌≡◌, ℕ, ◌+◌, ◌^◌, ◌<◌, ◌≤◌, Bool, true, false, nat_le, List, [], ◌∷◌, ◌++◌, length, length-append, length-drop, append-nil, take, drop, replicate, min, refl, sym, ap, ◌∙◌, subst, arith, inl, inr, is_some, not, map, Option, Some, None, Result, Ok, Err}
+use Rattle.std.proofs.Common.{◌≡◌, ℕ, ◌+◌, ◌^◌, ◌<◌, ◌≤◌, false, List, [], ◌∷◌, ◌++◌, length, length-append, length-drop, append-nil, take, drop, replicate, refl, sym, ap, ◌∙◌, subst, arith, inl, inr, is_some, not, map, Option, Some, None, Result, Ok, Err}
 use Rattle.std.proofs.lemmas.List.{length-take-le}
 use Rattle.dns_name.specs.Octets.{u16_octets}
 use Rattle.dns_name.specs.Codes.{type_soa}
@@ -7,7 +7,7 @@ use Rattle.dns_rdata.specs.Records.{Field, Record, record_wire}
 use Rattle.dns_rdata.specs.Soa.{serial_of}
 use Rattle.tsig_port.specs.Tsig.{TsigKey, tsig_record, request_tsig}
 use Rattle.std.proofs.lemmas.Bool.{leb-false}
-use Rattle.dns_wire.specs.Wire.{Building, Question, Message, header_of, header_wire, question_wire, message_wire, with_item, fits, header_number, in_answer, in_authority, counts_wire, counts_of}
+use Rattle.dns_wire.specs.Wire.{Building, Question, Message, header_of, header_wire, question_wire, message_wire, with_item, fits, header_number, in_answer, counts_wire, counts_of}
 use Rattle.std.specs.List.{flat_map}
 use Rattle.std.specs.Prelude.{◌⊎◌, option_map, slice_get}
 use Rattle.std.proofs.lemmas.Grind.{flat_map-append}

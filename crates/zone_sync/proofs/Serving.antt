@@ -1,7 +1,6 @@
 -- A primary's replies, given to a link one by one.
-use Rattle.std.proofs.Common.{◌≡◌, ℕ, true, false, List, [], ◌∷◌, ◌++◌, append_assoc, append-nil, refl, sym, ap, ◌∙◌, subst, ◌⊎◌, inl, inr, Option, Some, None, Result, Ok, Err}
+use Rattle.std.proofs.Common.{◌≡◌, ℕ, true, false, List, [], ◌∷◌, ◌++◌, append_assoc, append-nil, refl, sym, ap, ◌∙◌, subst, inl, inr, Option, Some, None, Result, Ok, Err}
 use Rattle.xfr_server.specs.Items.{Sending, Sent, message_in, sent_by, NextOf, Gives, Calls}
-use Rattle.xfr_server.specs.Items.Sending.{Given, Failed}
 use Rattle.xfr_services.specs.declared.services.CallResult.{CallResult}
 use Rattle.xfr_services.specs.declared.requests.Request.{Request}
 use Rattle.xfr_services.specs.declared.requests.TransportSpecificContext.{TransportSpecificContext}

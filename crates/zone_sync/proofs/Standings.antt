@@ -1,23 +1,20 @@
 -- One reply more, of a client that stands for those before it.
-use Rattle.std.proofs.Common.{◌≡◌, ℕ, ◌+◌, ◌-◌, ◌^◌, ◌≤◌, Bool, true, false, not, ◌&&◌, if◌then◌else◌, List, [], ◌∷◌, ◌++◌, map, length, append_assoc, append-nil, refl, sym, ap, ◌∙◌, subst, arith, Option, Some, None, is_some, Result, Ok, Err}
+use Rattle.std.proofs.Common.{◌≡◌, ℕ, true, not, ◌&&◌, if◌then◌else◌, List, [], ◌∷◌, ◌++◌, map, append_assoc, refl, sym, ap, ◌∙◌, Option, Some, None, is_some}
 use Rattle.std.specs.Option.{option_or}
-use Rattle.std.specs.List.{list_all}
 use Rattle.std.proofs.lemmas.List.{map-append}
 use Rattle.std.proofs.lemmas.List.Folds.{list_all-append}
 use Rattle.tsig_port.specs.Checked.{passing, first_fault, pass_on, taken_message}
 use Rattle.tsig_port.specs.declared.errors.ValidationError.{ValidationError}
-use Rattle.zone_model.specs.Updates.{Update, Progress}
-use Rattle.xfr_model.specs.Messages.{ReadMessage}
 use Rattle.zone_model.specs.Updates.{UpdateFault}
-use Rattle.xfr_model.specs.Read.{Fault, Item, Bad, record_item, items_unless, request_fault}
-use Rattle.xfr_model.specs.Machine.{Place, is_at_end, Run, run_items, signal_of}
-use Rattle.xfr_model.specs.Applying.{Halt, Denied, Held, apply_within, DeniedEdit}
-use Rattle.xfr_course.specs.Outcome.{Outcome, Updated, Tsig, Reading, Ended, Checked, Course, room}
+use Rattle.xfr_model.specs.Read.{Fault, record_item, items_unless, request_fault}
+use Rattle.xfr_model.specs.Machine.{is_at_end, Run, run_items, signal_of}
+use Rattle.xfr_model.specs.Applying.{Denied, Held, apply_within, DeniedEdit}
+use Rattle.xfr_course.specs.Outcome.{Reading, Ended, Course, room}
 use Rattle.xfr_course.specs.Courses.{has_header}
 use Rattle.xfr_course.specs.Client.{Client, new_client, met_after, client_after, run_message, take_checked, take_course, StandsBetween}
 use Rattle.xfr_course.proofs.Between.{between_messages, updates_in_turn}
 use Rattle.xfr_course.proofs.Clients.{course_on}
-use Rattle.zone_sync.specs.SoFar.{Asking, asked_id, asked_question, asked_mac, asked_course, checked_so_far, message_so_far, fault_so_far, client_so_far}
+use Rattle.zone_sync.specs.SoFar.{Asking, asked_id, asked_question, asked_course, checked_so_far, message_so_far, client_so_far}
 use Rattle.zone_sync.specs.Standing.{Passed}
 
 -- ---- what passed

@@ -1,6 +1,6 @@
 -- Single updates, and all that a message says.
-use Rattle.std.proofs.Common.{◌≡◌, ◌≢◌, ℕ, suc, ◌+◌, ◌-◌, ◌<◌, ◌≤◌, ◌^◌, Bool, true, false, if◌then◌else◌, List, [], ◌∷◌, ◌++◌, length, length-append, append_assoc, append-nil, refl, sym, ap, ◌∙◌, subst, arith, Option, Some, None, is_some, Result, Ok, Err, inl, inr}
-use Rattle.std.specs.Prelude.{nat_lt, ◌⊎◌, ◌==◌, ◌&&◌, IsOk, IfSome}
+use Rattle.std.proofs.Common.{◌≡◌, ◌≢◌, ℕ, ◌+◌, ◌-◌, ◌<◌, ◌≤◌, ◌^◌, Bool, true, false, if◌then◌else◌, List, [], ◌∷◌, ◌++◌, length, length-append, append_assoc, append-nil, refl, sym, ap, ◌∙◌, subst, arith, Option, Some, Result, Ok, Err, inl, inr}
+use Rattle.std.specs.Prelude.{nat_lt, ◌==◌, ◌&&◌, IsOk, IfSome}
 use Rattle.std.proofs.lemmas.Bool.{le-ltb, eq-eqb}
 use Rattle.zone_model.specs.Version.{Version}
 use Rattle.zone_model.specs.Commits.{Commit}
@@ -11,12 +11,12 @@ use Rattle.zone_model.specs.Updates.{Update, Progress, UpdateFault, Edit, NotSoa
 use Rattle.xfr_client.specs.declared.update.Error.{Error}
 use Rattle.xfr_client.specs.declared.update.Error.TheVariants as errors
 use Rattle.xfr_client.specs.Causes.{update_fault_of}
-use Rattle.xfr_model.specs.Applying.{Halt, Denied, NoNumber, Held, within, apply_within, unless_halted}
+use Rattle.xfr_model.specs.Applying.{Halt, Denied, NoNumber, within, apply_within, unless_halted}
 use Rattle.xfr_model.proofs.Limits.{within-append, then_held}
 use Rattle.xfr_model.specs.Applying.{commits}
 use Rattle.xfr_model.proofs.FinerSteps.{last_number}
 use Rattle.xfr_client.specs.Updating.{Updating, progress_of, new_version, next_commit, lacks_number}
-use Rattle.zone_sync.specs.Steps.{commit_after, numbers_left, HasMade, KeepsWish, Ahead, DoesOne, HaltsOne, TakesOne, Led}
+use Rattle.zone_sync.specs.Steps.{commit_after, numbers_left, HasMade, KeepsWish, Ahead, DoesOne, TakesOne, Led}
 
 -- one version more after those committed on a base
 pub number_after : (base : Commit) (vs : List Version) → (commit_after base vs).number ≡ base.number + length vs

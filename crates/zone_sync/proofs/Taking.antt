@@ -1,18 +1,17 @@
 -- A reply whole, of an exchange that stands for those before it.
-use Rattle.std.proofs.Common.{◌≡◌, ℕ, Bool, true, false, not, ◌||◌, ◌==◌, if◌then◌else◌, List, [], ◌∷◌, ◌++◌, map, refl, sym, ap, ◌∙◌, subst, Option, Some, None, Result, Ok, Err, inl, inr}
-use Rattle.std.specs.Prelude.{◌⊎◌, option_map}
+use Rattle.std.proofs.Common.{◌≡◌, ℕ, Bool, true, false, not, ◌==◌, if◌then◌else◌, List, [], ◌∷◌, ◌++◌, map, refl, sym, ap, ◌∙◌, subst, Option, Some, None, Result, Ok, Err, inl, inr}
+use Rattle.std.specs.Prelude.{option_map}
 use Rattle.std.specs.Option.{option_map_or}
 use Rattle.dns_rdata.specs.Records.{Field}
 use Rattle.dns_rdata.specs.Soa.{serial_of}
 use Rattle.tsig_port.specs.Tsig.{TsigKey}
 use Rattle.tsig_port.specs.Checked.{taken_message}
-use Rattle.tsig_port.specs.States.{ClientStands}
 use Rattle.tsig_port.specs.declared.client.ClientSequence.{ClientSequence}
 use Rattle.zone_model.specs.Version.{apex_soa}
 use Rattle.zone_model.specs.Commits.{Commit}
 use Rattle.zone_model.specs.Session.{Session}
 use Rattle.zone_model.specs.Edits.{Refusal, OutOfZone, Incompatible, InvalidData}
-use Rattle.zone_model.specs.Updates.{Update, Progress, UpdateFault, Edit, NotSoaRecord, AfterFinish}
+use Rattle.zone_model.specs.Updates.{Progress, UpdateFault, Edit, NotSoaRecord, AfterFinish}
 use Rattle.zone_model.specs.TransferText.{Mode, Ixfr}
 use Rattle.xfr_model.specs.Read.{Fault, OtherAnswer, NotValid, Malformed, Unreadable, AfterEnd, Refused, record_item, request_fault}
 use Rattle.xfr_model.specs.Machine.{Place, is_at_end, Run, run_items, signal_of}
@@ -25,11 +24,11 @@ use Rattle.xfr_client.specs.declared.protocol.IterationError.TheVariants as item
 use Rattle.xfr_course.specs.Outcome.{Outcome, Updated, UpToDate, NoSoa, RequestTooLong, LinkFault, Ended, Short, Primary, TooManyMessages, Tsig, Reading, RetrySignal, VersionsExhausted, Course, room, base_serial, after_retry}
 use Rattle.xfr_course.specs.Courses.{has_header}
 use Rattle.xfr_course.specs.Client.{Client, met_after}
-use Rattle.zone_sync.specs.SoFar.{Asking, asked_id, asked_question, asked_mac, asked_serial, told_serial, checked_so_far, message_so_far, fault_so_far, client_so_far}
+use Rattle.zone_sync.specs.SoFar.{Asking, asked_id, asked_question, asked_serial, told_serial, checked_so_far, message_so_far, fault_so_far, client_so_far}
 use Rattle.zone_sync.specs.Refusals.{of_update}
 use Rattle.zone_sync.specs.Steps.{HasMade, Ahead, RanOut, IsCause, TakesAll}
-use Rattle.zone_sync.specs.Standing.{ExchangeStands, Meets, RunsOut}
-use Rattle.zone_sync.specs.Replies.{AnswersReply, ChecksReply, ReadsOn, TestsReply, RefusesMessage, TakesMessage}
+use Rattle.zone_sync.specs.Standing.{ExchangeStands}
+use Rattle.zone_sync.specs.Replies.{AnswersReply, ChecksReply, TestsReply, RefusesMessage, TakesMessage}
 use Rattle.zone_sync.specs.Ending.{answer_of, edit_error, fault_error, same_serial, settled}
 use Rattle.zone_sync.specs.declared.client.Exchange.{Exchange}
 use Rattle.zone_sync.specs.declared.outcome.SyncOk.{SyncOk}

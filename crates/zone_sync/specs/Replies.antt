@@ -1,5 +1,5 @@
 -- One reply, step by step: its signature, what it answers, what it says (RFC 8945, 5.3; RFC 5936, 2.2).
-use Rattle.std.specs.Prelude.{◌≡◌, ℕ, Bool, true, false, not, ◌⊎◌, List, [], ◌∷◌, ◌++◌, map, Option, Some, None, Result, Ok, Err}
+use Rattle.std.specs.Prelude.{◌≡◌, ℕ, Bool, true, false, not, List, [], ◌∷◌, ◌++◌, map, Option, Some, None, Result, Ok, Err}
 use Rattle.tsig_port.specs.Checked.{taken_message}
 use Rattle.tsig_port.specs.States.{ClientStands}
 use Rattle.tsig_port.specs.declared.client.ClientSequence.{ClientSequence}
@@ -12,7 +12,7 @@ use Rattle.xfr_model.specs.Machine.{Place, Run, run_items}
 use Rattle.xfr_client.specs.Rest.{Rest, asks_again}
 use Rattle.xfr_client.specs.Interpreting.{Interpreting}
 use Rattle.xfr_course.specs.Courses.{has_header}
-use Rattle.zone_sync.specs.SoFar.{Asking, asked_mac, asked_id, asked_question, fault_so_far, message_so_far, client_so_far}
+use Rattle.zone_sync.specs.SoFar.{Asking, asked_mac, asked_id, asked_question, fault_so_far, client_so_far}
 use Rattle.zone_sync.specs.Steps.{HasMade}
 use Rattle.zone_sync.specs.Standing.{ExchangeStands, Meets, RunsOut}
 use Rattle.zone_sync.specs.Ending.{fault_error}

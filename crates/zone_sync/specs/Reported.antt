@@ -1,33 +1,35 @@
 -- What a run of the program writes, and what passes over its link: the report of the transfer that a script asks for, the number of a bad line, or a notice.
-use Rattle.std.specs.Prelude.{◌≡◌, ◌≢◌, ◌⊎◌, ℕ, List, [], length, take, Option, Some, IfSome, Result, Ok, Err, ◌≤◌, ◌∷◌, min, false}
+use Rattle.std.specs.Prelude.{◌≡◌, ◌≢◌, ◌⊎◌, ℕ, ◌<◌, ◌≤◌, ◌^◌, List, [], ◌∷◌, length, map, take, min, false, Option, Some, IfSome, IsTrue, Result, Ok, Err}
 use Rattle.dns_name.specs.Names.{Name}
 use Rattle.dns_rdata.specs.Records.{record_wire}
 use Rattle.tsig_port.specs.Tsig.{TsigKey}
 use Rattle.zone_model.specs.Commits.{Commit}
 use Rattle.zone_model.specs.Session.{Session}
-use Rattle.zone_model.specs.TransferText.{Axfr}
-use Rattle.xfr_course.specs.Outcome.{Outcome}
-use Rattle.zone_devices.specs.Calls.{Rose}
-use Rattle.zone_devices.specs.Links.{LinkLists}
-use Rattle.zone_sync.specs.SoFar.{Asking, asked_octets}
-use Rattle.zone_sync.specs.Ending.{outcome_of}
-use Rattle.zone_sync.specs.Fitting.{Fits}
-use Rattle.zone_sync.specs.Delivery.{Synchronizes}
-use Rattle.xfr_server.specs.Items.{Sending}
-use Rattle.xfr_server.specs.Offers.{key_id}
-use Rattle.zone_model.specs.Offer.{Provider}
 use Rattle.zone_model.specs.Version.{Version}
 use Rattle.zone_model.specs.Edits.{close}
 use Rattle.zone_model.specs.Classify.{opened}
+use Rattle.zone_model.specs.Difference.{Difference}
+use Rattle.zone_model.specs.TransferText.{Mode, OnIxfr}
+use Rattle.zone_model.specs.Spells.{spelling}
+use Rattle.zone_model.specs.Offer.{Offer, Provider, after_push, difference_if}
+use Rattle.zone_devices.specs.Calls.{Rose}
+use Rattle.zone_devices.specs.Links.{LinkLists}
+use Rattle.zone_devices.specs.Streams.{with_more}
+use Rattle.xfr_server.specs.Items.{Sending}
+use Rattle.xfr_server.specs.Offers.{key_id}
+use Rattle.zone_script.specs.Words.{Form, Transfer}
+use Rattle.zone_script.specs.Script.{Script, script_of, committed_by, secondary_version}
+use Rattle.zone_script.specs.declared.script.Script as read_scripts
+use Rattle.zone_script.specs.ScriptReaders.{wire_readers}
+use Rattle.zone_sync.specs.SoFar.{Asking, asks_with, asked_octets}
+use Rattle.zone_sync.specs.Fitting.{AreClose, ArePublished, RecordsFit, BaseMatches, sent_text}
+use Rattle.zone_sync.specs.Grants.{history_offer}
+use Rattle.zone_sync.specs.Delivery.{Synchronizes}
+use Rattle.zone_sync.specs.Report.{report}
+use Rattle.zone_sync.specs.Notices.{usage_line, fault_line, long_line, bad_line, is_reported}
 use Rattle.zone_sync.specs.declared.outcome.SyncOk.{SyncOk}
 use Rattle.zone_sync.specs.declared.outcome.SyncError.{SyncError}
 use Rattle.zone_sync.specs.declared.outcome.SyncError.TheVariants as why
-use Rattle.zone_script.specs.Script.{Script, script_of, secondary_version}
-use Rattle.zone_script.specs.declared.script.Script as read_scripts
-use Rattle.zone_script.specs.ScriptReaders.{readers_so_far}
-use Rattle.zone_sync.specs.Report.{report}
-use Rattle.zone_devices.specs.Streams.{with_more}
-use Rattle.zone_sync.specs.Notices.{usage_line, fault_line, long_line, bad_line}
 use Rattle.zone_sync.specs.declared.program.Status.{Status}
 use Rattle.zone_sync.specs.declared.program.Status.TheVariants as ends
 
@@ -49,10 +51,6 @@ status_by (Err why.LinkFault) = ends.LinkFault
 status_by (Err why.Memory) = ends.Memory
 status_by (Err _) = ends.Refused
 
--- a secondary asks for the whole zone, with a key, at a moment, and at this commit of its own zone
-abbrev pub asking_with : TsigKey → ℕ → Commit → Asking
-asking_with key at base = record { key = key; mode = Axfr; at = at; base = base }
-
 -- nothing passed over the link, and its count of faults is as before
 pub record Untouched (link : Crossed) : Type 0 where
   pub lists : link.lists_new ≡ link.lists_old
@@ -68,73 +66,113 @@ pub record Transferred (Sends : List ℕ → Option (List Sending) → Type 0) (
   pub failed : answer ≡ Err why.LinkFault → Rose link.faults_old link.faults_new
   pub steady : answer ≢ Err why.LinkFault → link.faults_new ≡ link.faults_old
 
--- a transfer that was answered so ends with that status, and octets are its report: outcome, count of versions made, the records of the last one, and what it answers to the questions
+-- a transfer that was answered so ends with that status, and octets are its report: the answer, the count of versions made, the records of the last one, and what it answers to the questions
 pub record Reports (answer : Result SyncOk SyncError) (handles : List Commit) (s : Session) (queries : List (Name × ℕ)) (octets : List ℕ) (status : Status) : Type 0 where
   pub ended : status ≡ status_by answer
-  pub how : Outcome
-  pub names : outcome_of answer ≡ Some how
-  pub is : octets ≡ report record_wire how (length handles) s.current.version queries []
+  pub is : octets ≡ report record_wire answer (length handles) s.current.version queries []
 
--- the primary of a script: it keeps this version, without differences, and grants it to the key
-abbrev pub provider_of : Version → TsigKey → Provider
-provider_of v key = record { kept = v; differences = []; grants = key_id key ∷ []; compatibility = false }
+-- ---- the primary and the secondary of a script
 
-abbrev pub primary_version : Script TsigKey → Version
-primary_version script = close (opened script.primary)
+-- a provider, after these versions were pushed to it, each with its difference from the one before, where there is one to tell (RFC 1995, 5)
+abbrev pub pushed_all : Provider → List Version → Provider
+pushed_all p [] = p
+pushed_all p (v ∷ more) = pushed_all (after_push p v (difference_if p.kept v)) more
 
--- the secondary of a script asks with the script's key, at its own moment, with its own zone, whose number is 0
-abbrev pub asking_in : Script TsigKey → TsigKey → Asking
-asking_in script key = asking_with key script.at_secondary (record { number = 0; version = secondary_version script })
+-- a primary that opened with a version, committed these after it, and grants them to a key
+abbrev pub provider_of : Version → List Version → TsigKey → Provider
+provider_of first commits key = pushed_all (record { kept = first; differences = []; grants = key_id key ∷ []; compatibility = false }) commits
 
--- the transfer of a script that was read, from a primary of its zone and key that sends so
-abbrev pub TransfersOn : (Provider → TsigKey → ℕ → List ℕ → Option (List Sending) → Type 0) → read_scripts.Script → Crossed → Type 0
-TransfersOn SendsOf script link =
-    Transferred (SendsOf (provider_of script.primary.version script.key) script.key script.at_primary) (asking_with script.key script.at_secondary script.secondary) script.at_primary link
+-- the primary's history is that of the script
+abbrev pub primary_opening : Script TsigKey → Version
+primary_opening script = close (opened script.primary)
+
+abbrev pub primary_commits : Script TsigKey → List Version
+primary_commits script = committed_by (primary_opening script) script.changes
+
+abbrev pub provider_in : Script TsigKey → TsigKey → Provider
+provider_in script key = provider_of (primary_opening script) (primary_commits script) key
+
+-- the secondary asks with the script's key, at its own moment, with its own zone, whose number is 0
+abbrev pub asking_in : Mode → Script TsigKey → TsigKey → Asking
+asking_in mode script key = asks_with key mode script.at_secondary (record { number = 0; version = secondary_version script })
+
+-- what the primary offers to it
+abbrev pub offer_in : Mode → Script TsigKey → TsigKey → Offer
+offer_in mode script key = history_offer (provider_in script key) (asking_in mode script key)
+
+-- .. of a script that was read: the versions of its commits
+abbrev pub versions_of : List (Commit × Option Difference) → List Version
+versions_of commits = map (λ (c : Commit × Option Difference). c.0.version) commits
+
+-- each commit has the difference from the version before it, where there is one to tell
+abbrev pub AreTold : Version → List (Commit × Option Difference) → Type 0
+AreTold v [] = Unit {0}
+AreTold v (c ∷ more) = (c.1 ≡ difference_if v c.0.version) × AreTold c.0.version more
+
+abbrev pub read_provider : read_scripts.Script → Provider
+read_provider script = provider_of script.opening.version (versions_of script.commits) script.key
+
+-- ---- a run
+
+-- the transfer of a script that was read, from a primary of its history and key that sends so
+abbrev pub TransfersOn : (Provider → TsigKey → ℕ → List ℕ → Option (List Sending) → Type 0) → Mode → read_scripts.Script → Crossed → Type 0
+TransfersOn SendsOf mode script link =
+    Transferred (SendsOf (read_provider script) script.key script.at_primary) (asks_with script.key mode script.at_secondary script.secondary) script.at_primary link
 
 -- .. and octets are its report
-pub record ReportsOn (SendsOf : Provider → TsigKey → ℕ → List ℕ → Option (List Sending) → Type 0) (script : read_scripts.Script) (link : Crossed) (octets : List ℕ) (status : Status) : Type 0 where
-  pub transfer : TransfersOn SendsOf script link
+pub record ReportsOn (SendsOf : Provider → TsigKey → ℕ → List ℕ → Option (List Sending) → Type 0) (mode : Mode) (script : read_scripts.Script) (link : Crossed) (octets : List ℕ) (status : Status) : Type 0 where
+  pub transfer : TransfersOn SendsOf mode script link
   pub reports : Reports transfer.answer transfer.handles transfer.session script.queries octets status
+  pub known : IsTrue (is_reported status)
 
--- what the source had, where it tells it, spells a script, and the script's transfer was made, from a primary of its zone and key that sends so
-pub record Tried (SendsOf : Provider → TsigKey → ℕ → List ℕ → Option (List Sending) → Type 0) (left : Option (List ℕ)) (link : Crossed) : Type 0 where
+-- the words ask for a transfer, what the source had, where it tells it, spells a script, and the script's transfer was made, from a primary of its history and key that sends so
+pub record Tried (SendsOf : Provider → TsigKey → ℕ → List ℕ → Option (List Sending) → Type 0) (form : Option Form) (left : Option (List ℕ)) (link : Crossed) : Type 0 where
+  pub mode : Mode
+  pub asked : form ≡ Some (Transfer mode 0)
   pub text : List ℕ
   pub whole : IfSome left (λ had. text ≡ had)
   pub script : Script TsigKey
-  pub spells : script_of readers_so_far text ≡ Ok script
+  pub spells : script_of wire_readers text ≡ Ok script
   pub key : TsigKey
   pub keyed : script.key ≡ Some key
-  pub transfer : Transferred (SendsOf (provider_of (primary_version script) key) key script.at_primary) (asking_in script key) script.at_primary link
+  pub transfer : Transferred (SendsOf (provider_in script key) key script.at_primary) (asking_in mode script key) script.at_primary link
 
 -- .. and octets are its report
-pub record Ran (SendsOf : Provider → TsigKey → ℕ → List ℕ → Option (List Sending) → Type 0) (left : Option (List ℕ)) (link : Crossed) (octets : List ℕ) (status : Status) : Type 0 where
-  pub tried : Tried SendsOf left link
+pub record Ran (SendsOf : Provider → TsigKey → ℕ → List ℕ → Option (List Sending) → Type 0) (form : Option Form) (left : Option (List ℕ)) (link : Crossed) (octets : List ℕ) (status : Status) : Type 0 where
+  pub tried : Tried SendsOf form left link
   pub reports : Reports tried.transfer.answer tried.transfer.handles tried.transfer.session tried.script.queries octets status
 
--- a script whose zones, key and moments fit each other, and whose request fits the link
-pub record FitsLink (script : Script TsigKey) (key : TsigKey) (longest : ℕ) : Type 0 where
+-- A script whose zones, key and moments fit each other, and whose request fits the link: what is left of the premises of success. The others hold of every
+-- script: its primary grants the one key of both sides, and both zones are one.
+pub record FitsLink (mode : Mode) (script : Script TsigKey) (key : TsigKey) (longest : ℕ) : Type 0 where
   pub keyed : script.key ≡ Some key
-  pub fits : Fits (asking_in script key) script.at_primary false (primary_version script)
-  pub request_fits : length (asked_octets (asking_in script key)) ≤ min longest 65535
+  -- a side's MACs are as long as the other takes them
+  pub lengths : key.min_mac_len ≤ key.signing_len
+  pub close_moments : AreClose script.at_primary script.at_secondary
+  pub one_soa : ArePublished (asking_in mode script key).base.version.apex (offer_in mode script key)
+  pub records_fit : RecordsFit (asking_in mode script key) (offer_in mode script key)
+  pub base_matches : OnIxfr mode (BaseMatches (secondary_version script) (offer_in mode script key) one_soa.history)
+  pub room : length (spelling mode (sent_text (asking_in mode script key) (offer_in mode script key)) (secondary_version script)).versions < 2 ^ 64
+  pub request_fits : length (asked_octets (asking_in mode script key)) ≤ min longest 65535
 
 -- what the source had is no script, and octets name its first bad line
 pub record NamesLine (left : Option (List ℕ)) (octets : List ℕ) : Type 0 where
   pub text : List ℕ
   pub whole : IfSome left (λ had. text ≡ had)
   pub number : ℕ
-  pub bad : script_of readers_so_far text ≡ Err number
+  pub bad : script_of wire_readers text ≡ Err number
   pub is : octets ≡ bad_line number
 
 -- What there is to write with a status, and what passed over the link: the script's transfer with a report and nothing without one; where memory ran out,
 -- nothing or that transfer. With the status of a failed sink nothing is due, and a first part of what another status would have written was taken.
-abbrev pub IsDue : (Provider → TsigKey → ℕ → List ℕ → Option (List Sending) → Type 0) → Option (List ℕ) → Crossed → List ℕ → Status → Type 0
-IsDue SendsOf left link octets ends.Usage = (octets ≡ usage_line) × Untouched link
-IsDue SendsOf left link octets ends.Script = NamesLine left octets × Untouched link
-IsDue SendsOf left link octets ends.SourceFault = (octets ≡ fault_line) × Untouched link
-IsDue SendsOf left link octets ends.TooLong = (octets ≡ long_line) × Untouched link
-IsDue SendsOf left link octets ends.Memory = (octets ≡ []) × (Untouched link ⊎ Tried SendsOf left link)
-IsDue SendsOf left link octets ends.SinkFault = ⊥
-IsDue SendsOf left link octets status = Ran SendsOf left link octets status
+abbrev pub IsDue : (Provider → TsigKey → ℕ → List ℕ → Option (List Sending) → Type 0) → Option Form → Option (List ℕ) → Crossed → List ℕ → Status → Type 0
+IsDue SendsOf form left link octets ends.Usage = (octets ≡ usage_line) × Untouched link
+IsDue SendsOf form left link octets ends.Script = NamesLine left octets × Untouched link
+IsDue SendsOf form left link octets ends.SourceFault = (octets ≡ fault_line) × Untouched link
+IsDue SendsOf form left link octets ends.TooLong = (octets ≡ long_line) × Untouched link
+IsDue SendsOf form left link octets ends.Memory = (octets ≡ []) × (Untouched link ⊎ Tried SendsOf form left link)
+IsDue SendsOf form left link octets ends.SinkFault = ⊥
+IsDue SendsOf form left link octets status = Ran SendsOf form left link octets status
 
 -- a sink took octets of which this holds
 pub record Took (Holds : List ℕ → Type 0) (old new : Option (List ℕ)) : Type 0 where

@@ -1,5 +1,5 @@
 -- A transfer as far as it is built: what is asked, what is checked of the replies, and the course that they make (RFC 8945, 5.3; RFC 5936, 2.2).
-use Rattle.std.specs.Prelude.{◌≡◌, ℕ, ◌<◌, ◌≤◌, min, length, ◌%◌, ◌^◌, Bool, true, false, not, List, [], ◌∷◌, map, Option, Some, None, option_map, unwrap_or, Result, Ok, Err}
+use Rattle.std.specs.Prelude.{◌≡◌, ℕ, ◌<◌, ◌≤◌, min, length, ◌%◌, ◌^◌, Bool, true, false, not, List, [], ◌∷◌, map, Option, None, option_map, unwrap_or, Result, Ok, Err}
 use Rattle.dns_rdata.specs.Records.{Record}
 use Rattle.dns_rdata.specs.Soa.{serial_of}
 use Rattle.dns_wire.specs.Wire.{header_in, header_of, Building, Question, same_question, Message, message_wire}

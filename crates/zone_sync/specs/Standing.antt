@@ -1,5 +1,5 @@
 -- What a client of a transfer stands for: the replies that it has taken, one fact for each thing that it keeps.
-use Rattle.std.specs.Prelude.{◌≡◌, ◌⊎◌, ℕ, Bool, true, false, List, [], ◌∷◌, ◌++◌, Option, Some, None, Result, Ok, Err}
+use Rattle.std.specs.Prelude.{◌≡◌, ◌⊎◌, ℕ, true, false, List, [], ◌∷◌, ◌++◌, Option, Some, None, Result, Ok, Err}
 use Rattle.std.specs.List.{list_all}
 use Rattle.tsig_port.specs.Tsig.{TsigKey}
 use Rattle.tsig_port.specs.Checked.{passing, first_fault}
@@ -7,7 +7,6 @@ use Rattle.tsig_port.specs.States.{ClientStands}
 use Rattle.tsig_port.specs.declared.errors.ValidationError.{ValidationError}
 use Rattle.zone_model.specs.Commits.{Commit}
 use Rattle.zone_model.specs.Session.{Session}
-use Rattle.zone_model.specs.Updates.{Update, Progress}
 use Rattle.zone_model.specs.TransferText.{Mode, Axfr}
 use Rattle.xfr_model.specs.Machine.{Place, InWhole}
 use Rattle.xfr_course.specs.Outcome.{Outcome, Ended}

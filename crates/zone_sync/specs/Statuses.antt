@@ -1,11 +1,11 @@
 -- Which status of a run comes when, and what it tells (docs/SCRIPT.md).
 use Rattle.std.specs.Prelude.{◌≡◌, ◌≢◌, ◌⊎◌, ◌<◌, ◌≤◌, ℕ, List, length, Option, Some, Ok, Err, IsTrue}
 use Rattle.tsig_port.specs.Tsig.{TsigKey}
-use Rattle.zone_model.specs.TransferText.{Axfr}
+use Rattle.zone_model.specs.TransferText.{Mode}
 use Rattle.zone_devices.specs.Calls.{Rose}
 use Rattle.zone_script.specs.Script as scripts
 use Rattle.zone_script.specs.Script.{script_of}
-use Rattle.zone_script.specs.ScriptReaders.{readers_so_far}
+use Rattle.zone_script.specs.ScriptReaders.{wire_readers}
 use Rattle.zone_script.specs.Words.{Form, Transfer}
 use Rattle.zone_sync.specs.Delivery.{WasHonest}
 use Rattle.zone_sync.specs.Notices.{is_fault}
@@ -13,12 +13,16 @@ use Rattle.zone_sync.specs.Reported.{Crossed, FitsLink}
 use Rattle.zone_sync.specs.declared.program.Status.{Status}
 use Rattle.zone_sync.specs.declared.program.Status.TheVariants as ends
 
+-- words that don't ask for a transfer without reader threads
+abbrev pub IsOther : Option Form → Type 0
+IsOther form = (mode : Mode) → form ≢ Some (Transfer mode 0)
+
 -- the form of the program's words, and the status
 pub record TellsWords (form : Option Form) (status : Status) : Type 0 where
-  -- words that ask for a full transfer aren't answered by the usage line
-  pub usage : status ≡ ends.Usage → form ≢ Some (Transfer Axfr 0)
+  -- words that ask for a transfer aren't answered by the usage line
+  pub usage : status ≡ ends.Usage → IsOther form
   -- any others are, unless the sink fails
-  pub no_form : form ≢ Some (Transfer Axfr 0) → (status ≡ ends.Usage) ⊎ (status ≡ ends.SinkFault)
+  pub no_form : IsOther form → (status ≡ ends.Usage) ⊎ (status ≡ ends.SinkFault)
 
 -- how often the source had failed, before and after, and the status
 pub record TellsSource (old new : ℕ) (status : Status) : Type 0 where
@@ -41,17 +45,17 @@ pub record TellsLink (old new : ℕ) (status : Status) : Type 0 where
   -- one that came is told, unless the sink fails or memory runs out
   pub told : old < new → (status ≡ ends.LinkFault) ⊎ ((status ≡ ends.SinkFault) ⊎ (status ≡ ends.Memory))
 
--- the octets that a source told, of words that ask for a full transfer, and the status; how often source and sink had failed, and the link, before and after
-pub record TellsScript (text : List ℕ) (source_old source_new sink_old sink_new : ℕ) (link : Crossed) (status : Status) : Type 0 where
+-- the octets that a source told, of words that ask for a transfer of this kind, and the status; how often source and sink had failed, and the link, before and after
+pub record TellsScript (mode : Mode) (text : List ℕ) (source_old source_new sink_old sink_new : ℕ) (link : Crossed) (status : Status) : Type 0 where
   -- more octets than a script may have are too long, up to faults
   pub too_long : 16777216 < length text → (status ≡ ends.TooLong) ⊎ IsTrue (is_fault status)
   -- the first bad line of others is told, up to faults
-  pub bad_line : (n : ℕ) → length text ≤ 16777216 → script_of readers_so_far text ≡ Err n → (status ≡ ends.Script) ⊎ IsTrue (is_fault status)
+  pub bad_line : (n : ℕ) → length text ≤ 16777216 → script_of wire_readers text ≡ Err n → (status ≡ ends.Script) ⊎ IsTrue (is_fault status)
   -- where a script is spelt and no call failed, the transfer is answered, or memory ran out
-  pub completes : (script : scripts.Script TsigKey) → length text ≤ 16777216 → script_of readers_so_far text ≡ Ok script
+  pub completes : (script : scripts.Script TsigKey) → length text ≤ 16777216 → script_of wire_readers text ≡ Ok script
       → ¬ Rose source_old source_new → ¬ Rose sink_old sink_new → ¬ Rose link.faults_old link.faults_new
       → (status ≡ ends.Done) ⊎ ((status ≡ ends.Refused) ⊎ (status ≡ ends.Memory))
   -- where besides its parts fit each other and the link was honest, the transfer ends well, or memory ran out
-  pub delivers : (script : scripts.Script TsigKey) (key : TsigKey) → length text ≤ 16777216 → script_of readers_so_far text ≡ Ok script
-      → FitsLink script key link.longest → WasHonest link.lists_old link.lists_new link.faults_old link.faults_new
+  pub delivers : (script : scripts.Script TsigKey) (key : TsigKey) → length text ≤ 16777216 → script_of wire_readers text ≡ Ok script
+      → FitsLink mode script key link.longest → WasHonest link.lists_old link.lists_new link.faults_old link.faults_new
       → ¬ Rose source_old source_new → ¬ Rose sink_old sink_new → (status ≡ ends.Done) ⊎ (status ≡ ends.Memory)

@@ -5,7 +5,7 @@ use Rattle.zone_model.specs.Commits.{Commit}
 use Rattle.zone_model.specs.Session.{Session, commits_after}
 use Rattle.zone_model.specs.Updates.{Update, Progress, apply_update}
 use Rattle.xfr_model.specs.Read.{Fault}
-use Rattle.xfr_model.specs.Applying.{Halt, Denied, NoNumber, Held, within, apply_within}
+use Rattle.xfr_model.specs.Applying.{Halt, within, apply_within}
 use Rattle.xfr_client.specs.Updating.{Updating, progress_of}
 use Rattle.xfr_client.specs.Rest.{Rest}
 use Rattle.xfr_client.specs.declared.update.Error.{Error}

@@ -1,5 +1,5 @@
 -- A transfer whole: what it commits and answers, whatever octets the link hands back (RFC 5936, 6; RFC 8945, 5.3).
-use Rattle.std.specs.Prelude.{◌≡◌, ℕ, ◌<◌, ◌⊎◌, true, false, List, [], ◌∷◌, ◌++◌, Option, Some, None, Result, Ok, Err, length, min}
+use Rattle.std.specs.Prelude.{◌≡◌, ◌≢◌, ◌↔◌, ℕ, ◌<◌, ◌⊎◌, true, false, List, [], ◌∷◌, ◌++◌, Option, Some, None, Result, Err, length, min}
 use Rattle.std.specs.List.{list_all}
 use Rattle.dns_wire.specs.declared.builder.PushError.TheVariants.{ShortBuf}
 use Rattle.dns_message.specs.declared.message.ShortMessage.{ShortMessage}
@@ -134,6 +134,14 @@ abbrev pub Asks : Asking → ℕ → List (List ℕ) → List (List ℕ) → Res
 Asks a longest asked heard answer =
     (CanAsk a longest × ComesAfter answer × (asked ≡ asked_octets a ∷ []))
     ⊎ (NotAsked a longest answer × (asked ≡ []) × (heard ≡ []))
+
+-- the law of requests that can't be made: but for want of memory each such answer comes exactly for its cause
+pub record RefusedExactly (a : Asking) (longest : ℕ) (answer : Result SyncOk SyncError) : Type 0 where
+  pub soa : (answer ≡ Err why.NoSoa) ↔ (lacks_soa a ≡ true)
+  pub too_long : lacks_soa a ≡ false → (answer ≡ Err (why.Request ShortBuf)) ↔ (min longest 65535 < length (asked_octets a))
+
+abbrev pub RefusesExactly : Type 0
+RefusesExactly = (a : Asking) (longest : ℕ) (asked heard : List (List ℕ)) (answer : Result SyncOk SyncError) → Asks a longest asked heard answer → answer ≢ Err why.Memory → RefusedExactly a longest answer
 
 -- What passed and what was done, from the request on, where a primary sends so.
 pub record SyncSays (Sends : List ℕ → Option (List Sending) → Type 0) (a : Asking) (longest : ℕ) (old new : Option LinkLists) (before handles : List Commit) (s : Session) (answer : Result SyncOk SyncError) : Type 0 where

@@ -1,12 +1,12 @@
 //! The first line of a report: how the transfer ended.
-ghost use Rattle.std.specs.Prelude.{◌≡◌, ◌++◌, ◌∷◌, [], codes, decimal, ℕ, OnOk, IsSomeAnd};
-ghost use Rattle.zone_sync.specs.Report.{line, outcome_words, signature_words};
-ghost use Rattle.zone_sync.specs.Ending.{outcome_of, refusal_outcome, message_outcome, item_outcome, update_outcome};
+ghost use Rattle.std.specs.Prelude.{◌≡◌, ◌++◌, ◌∷◌, codes, OnOk};
+ghost use Rattle.zone_sync.specs.Report.{line, answer_words, refusal_words, signature_words, message_words, item_words, update_words};
 
 use crate::outcome::{SyncError, SyncOk};
 use std::alloc::{AllocError, Global};
 use tsig_port::ValidationError;
 use xfr_client::{protocol, update};
+use zone_report::append_number;
 
 /// The outcome line at the end of `out`; it has the number of versions made where the transfer brought one. Want of memory isn't
 /// reported.
@@ -16,7 +16,7 @@ pub(crate) fn append_outcome(
     outcome: &Result<SyncOk, SyncError>,
     made: usize,
 ) -> Result<(), AllocError>
-    ensures { OnOk result (IsSomeAnd (outcome_of outcome.now) (λ how. out.new.items ≡ out.old.items ++ line (outcome_words how made))) }
+    ensures { OnOk result (out.new.items ≡ out.old.items ++ line (answer_words outcome.now made)) }
 {
     match outcome {
         Ok(SyncOk::Updated) => {
@@ -66,7 +66,7 @@ fn append_signature(
 
 /// The line of another refusal; want of memory has none.
 fn append_refusal(out: &mut Vec<u8>, error: &SyncError) -> Result<(), AllocError>
-    ensures { (n : ℕ) → OnOk result (IsSomeAnd (refusal_outcome error.now) (λ how. out.new.items ≡ out.old.items ++ line (outcome_words how n))) }
+    ensures { OnOk result (out.new.items ≡ out.old.items ++ line (codes "refused" ∷ refusal_words error.now)) }
 {
     match error {
         SyncError::NoSoa => out.extend_from_slice(b"refused no-soa\n"),
@@ -87,7 +87,7 @@ fn append_refusal(out: &mut Vec<u8>, error: &SyncError) -> Result<(), AllocError
 
 /// The line of a reply that isn't one of a transfer.
 fn append_message(out: &mut Vec<u8>, why: protocol::Error) -> Result<(), AllocError>
-    ensures { (n : ℕ) → OnOk result (out.new.items ≡ out.old.items ++ line (outcome_words (message_outcome why) n)) }
+    ensures { OnOk result (out.new.items ≡ out.old.items ++ line (codes "refused" ∷ message_words why)) }
 {
     match why {
         protocol::Error::NotValidXfrResponse => out.extend_from_slice(b"refused not-valid\n"),
@@ -99,7 +99,7 @@ fn append_message(out: &mut Vec<u8>, why: protocol::Error) -> Result<(), AllocEr
 
 /// The line of a record that can't be read where it stands.
 fn append_record(out: &mut Vec<u8>, why: protocol::IterationError) -> Result<(), AllocError>
-    ensures { (n : ℕ) → OnOk result (out.new.items ≡ out.old.items ++ line (outcome_words (item_outcome why) n)) }
+    ensures { OnOk result (out.new.items ≡ out.old.items ++ line (codes "refused" ∷ item_words why)) }
 {
     match why {
         protocol::IterationError::ParseError => {
@@ -117,7 +117,7 @@ fn append_record(out: &mut Vec<u8>, why: protocol::IterationError) -> Result<(),
 
 /// The line of an update that doesn't fit; want of memory has none.
 fn append_update(out: &mut Vec<u8>, why: update::Error) -> Result<(), AllocError>
-    ensures { (n : ℕ) → OnOk result (IsSomeAnd (update_outcome why) (λ how. out.new.items ≡ out.old.items ++ line (outcome_words how n))) }
+    ensures { OnOk result (out.new.items ≡ out.old.items ++ line (codes "refused" ∷ update_words why)) }
 {
     match why {
         update::Error::IncompatibleUpdate => out.extend_from_slice(b"refused incompatible\n"),
@@ -130,12 +130,4 @@ fn append_update(out: &mut Vec<u8>, why: update::Error) -> Result<(), AllocError
         }
         update::Error::Memory => Err(AllocError),
     }
-}
-
-/// A number in decimal digits at the end of `out`.
-pub(crate) fn append_number(alloc: Global, out: &mut Vec<u8>, number: u64) -> Result<(), AllocError>
-    ensures { OnOk result (out.new.items ≡ out.old.items ++ decimal number) }
-{
-    let text = format!(in alloc; "{number}")?;
-    out.extend_from_slice(text.as_bytes())
 }

@@ -1,10 +1,10 @@
 //! The program over its streams and its link.
-ghost use Rattle.std.specs.Prelude.{◌≡◌, ◌≢◌, ◌⊎◌, ◌<◌, ◌≤◌, ℕ, List, Some, Ok, Err, map, length, take, string_bytes, IfOk, IfSome, IsTrue};
-ghost use Rattle.zone_model.specs.TransferText.{Axfr};
+ghost use Rattle.std.specs.Prelude.{◌≡◌, ◌≢◌, ◌⊎◌, ◌<◌, ◌≤◌, ℕ, List, Some, Ok, Err, map, length, take, string_bytes, IfOk, OnOk, IfSome, IsTrue};
+ghost use Rattle.zone_model.specs.TransferText.{Mode};
 ghost use Rattle.zone_devices.specs.Calls.{Rose};
 ghost use Rattle.zone_devices.specs.Streams.{with_more, emptied};
-ghost use Rattle.zone_sync.specs.Reported.{ReportsOn, TransfersOn, Untouched, FitsLink, provider_of, IsDue, Took, TookFirst, Wrote, crossed, status_by};
-ghost use Rattle.zone_sync.specs.Statuses.{TellsLink, TellsScript, TellsSink, TellsSource, TellsWords};
+ghost use Rattle.zone_sync.specs.Reported.{ReportsOn, TransfersOn, Untouched, FitsLink, AreTold, versions_of, pushed_all, provider_of, IsDue, Took, TookFirst, Wrote, crossed, status_by};
+ghost use Rattle.zone_sync.specs.Statuses.{IsOther, TellsLink, TellsScript, TellsSink, TellsSource, TellsWords};
 ghost use Rattle.zone_sync.specs.Primaries.{refuser};
 ghost use Rattle.zone_sync.specs.Serving.{request_at};
 ghost use Rattle.zone_sync.specs.Delivery.{WasHonest};
@@ -12,8 +12,9 @@ ghost use Rattle.zone_sync.specs.Notices.{bad_line, is_fault, is_reported, is_re
 ghost use Rattle.zone_script.specs.Script as scripts;
 ghost use Rattle.zone_script.specs.Script.{script_of};
 ghost use Rattle.tsig_port.specs.Tsig.{TsigKey};
-ghost use Rattle.zone_script.specs.ScriptReaders.{readers_so_far};
+ghost use Rattle.zone_script.specs.ScriptReaders.{wire_readers};
 ghost use Rattle.zone_script.specs.Words.{form_of, Transfer};
+ghost use Rattle.zone_sync.specs.Modes.{mode_of};
 
 use crate::laws::history_primaries_grant;
 use crate::outcome::{SyncError, SyncOk};
@@ -30,9 +31,10 @@ use zone_devices::links::Link;
 use zone_devices::read_to_end::{MOST_OCTETS, ReadError, read_whole};
 use zone_devices::sinks::{Sink, write_all};
 use zone_devices::sources::Source;
+use zone_script::commits::Commits;
 use zone_script::script::{Script, ScriptError, parse};
-use zone_script::words::is_axfr;
-use zone_sessions::ZoneApex;
+use zone_script::words::transfer_of;
+use zone_sessions::ReadZone;
 
 /// The usage line.
 const USAGE: &[u8] = b"usage: zonesync axfr [K] / ixfr [K] / gen N SEED\n";
@@ -102,34 +104,63 @@ pub fn run<R, S: Source, K: Sink, L: Link>(
     link: &mut L,
 ) -> Status
     // What is written with each status, with status 5 a first part of it; and what went over the link: one transfer
-    // of the script with a report, nothing with any other line, and where memory ran out nothing or that transfer.
+    // of the script, of the kind that the words ask for, with a report, nothing with any other line, and where memory ran
+    // out nothing or that transfer.
     ensures wrote { Wrote
         (IsDue (λ p key at m. ⟦<Primary as Service<()>>⟧.Sends ((refuser, p), key) (request_at m at))
-        (S.remaining src.old) (crossed (L.longest link.old) (L.lists link.old) (L.lists link.new)
+        (form_of (map string_bytes words.now)) (S.remaining src.old) (crossed (L.longest link.old) (L.lists link.old) (L.lists link.new)
         (L.faults link.old) (L.faults link.new)))
         (K.taken out.old) (K.taken out.new) result }
     // Other words are answered by status 2 alone, or by 5, and nothing is read.
     ensures by_words { TellsWords (form_of (map string_bytes words.now)) result }
-    ensures unread { form_of (map string_bytes words.now) ≢ Some (Transfer Axfr 0) → src.new ≡ src.old }
+    ensures unread { IsOther (form_of (map string_bytes words.now)) → src.new ≡ src.old }
     // The statuses of faults come where a count of faults rose; only want of memory and a later fault hide one.
     ensures source_faults { TellsSource (S.faults src.old) (S.faults src.new) result }
     ensures sink_faults { TellsSink (K.faults out.old) (K.faults out.new) result }
     ensures link_faults { TellsLink (L.faults link.old) (L.faults link.new) result }
     // A script is too long only where it has more octets, and what one says decides the status.
     ensures long { result ≡ Status.TooLong → IfSome (S.remaining src.old) (λ xs. MOST_OCTETS < length xs) }
-    ensures by_script { (text : List ℕ) → form_of (map string_bytes words.now) ≡ Some (Transfer Axfr 0)
+    ensures by_script { (mode : Mode) (text : List ℕ) → form_of (map string_bytes words.now) ≡ Some (Transfer mode 0)
         → S.remaining src.old ≡ Some text
-        → TellsScript text (S.faults src.old) (S.faults src.new) (K.faults out.old) (K.faults out.new)
+        → TellsScript mode text (S.faults src.old) (S.faults src.new) (K.faults out.old) (K.faults out.new)
         (crossed (L.longest link.old) (L.lists link.old) (L.lists link.new)
         (L.faults link.old) (L.faults link.new)) result }
     // With a report or the number of a line, the source was read to its end.
     ensures none_left { IsTrue (is_read result) → S.remaining src.new ≡ emptied (S.remaining src.old) }
 {
-    if !is_axfr(words) {
-        return write_last(out, USAGE, Status::Usage);
+    match transfer_of(words) {
+        Some(mode) => run_mode(rt, alloc, mode, src, out, link),
+        None => write_last(out, USAGE, Status::Usage),
     }
+}
+
+/// Reads the script, makes the transfer of this kind, and writes the report.
+fn run_mode<R, S: Source, K: Sink, L: Link>(
+    rt: &R,
+    alloc: Global,
+    mode: XfrMode,
+    src: &mut S,
+    out: &mut K,
+    link: &mut L,
+) -> Status
+    ensures wrote { Wrote
+        (IsDue (λ p key at m. ⟦<Primary as Service<()>>⟧.Sends ((refuser, p), key) (request_at m at))
+        (Some (Transfer (mode_of mode) 0)) (S.remaining src.old) (crossed (L.longest link.old) (L.lists link.old) (L.lists link.new)
+        (L.faults link.old) (L.faults link.new)))
+        (K.taken out.old) (K.taken out.new) result }
+    ensures source_faults { TellsSource (S.faults src.old) (S.faults src.new) result }
+    ensures sink_faults { TellsSink (K.faults out.old) (K.faults out.new) result }
+    ensures link_faults { TellsLink (L.faults link.old) (L.faults link.new) result }
+    ensures long { result ≡ Status.TooLong → IfSome (S.remaining src.old) (λ xs. MOST_OCTETS < length xs) }
+    ensures by_script { (text : List ℕ) → S.remaining src.old ≡ Some text
+        → TellsScript (mode_of mode) text (S.faults src.old) (S.faults src.new) (K.faults out.old) (K.faults out.new)
+        (crossed (L.longest link.old) (L.lists link.old) (L.lists link.new)
+        (L.faults link.old) (L.faults link.new)) result }
+    ensures none_left { IsTrue (is_read result) → S.remaining src.new ≡ emptied (S.remaining src.old) }
+    ensures others { result ≢ Status.Usage }
+{
     match read_whole(alloc, src) {
-        Ok(text) => run_script(rt, alloc, text.as_slice(), out, link),
+        Ok(text) => run_script(rt, alloc, mode, text.as_slice(), out, link),
         Err(ReadError::Failed) => write_last(out, b"read fault\n", Status::SourceFault),
         Err(ReadError::TooLong) => write_last(out, b"too long\n", Status::TooLong),
         Err(ReadError::Memory) => Status::Memory,
@@ -154,31 +185,32 @@ fn write_last<K: Sink>(out: &mut K, octets: &[u8], status: Status) -> Status
 fn run_script<R, K: Sink, L: Link>(
     rt: &R,
     alloc: Global,
+    mode: XfrMode,
     text: &[u8],
     out: &mut K,
     link: &mut L,
 ) -> Status
     ensures wrote { Wrote
         (IsDue (λ p key at m. ⟦<Primary as Service<()>>⟧.Sends ((refuser, p), key) (request_at m at))
-        (Some text.now) (crossed (L.longest link.old) (L.lists link.old) (L.lists link.new)
+        (Some (Transfer (mode_of mode) 0)) (Some text.now) (crossed (L.longest link.old) (L.lists link.old) (L.lists link.new)
         (L.faults link.old) (L.faults link.new)))
         (K.taken out.old) (K.taken out.new) result }
     ensures sink_faults { TellsSink (K.faults out.old) (K.faults out.new) result }
     ensures link_faults { TellsLink (L.faults link.old) (L.faults link.new) result }
     ensures delivers { (script : scripts.Script TsigKey) (key : TsigKey)
-        → script_of readers_so_far text.now ≡ Ok script → FitsLink script key (L.longest link.old)
+        → script_of wire_readers text.now ≡ Ok script → FitsLink (mode_of mode) script key (L.longest link.old)
         → WasHonest (L.lists link.old) (L.lists link.new) (L.faults link.old) (L.faults link.new)
         → ¬ Rose (K.faults out.old) (K.faults out.new) → (result ≡ Status.Done) ⊎ (result ≡ Status.Memory) }
-    ensures script { (s : scripts.Script TsigKey) → script_of readers_so_far text.now ≡ Ok s
+    ensures script { (s : scripts.Script TsigKey) → script_of wire_readers text.now ≡ Ok s
         → result ≢ Status.Script }
-    ensures bad_script { (n : ℕ) → script_of readers_so_far text.now ≡ Err n
+    ensures bad_script { (n : ℕ) → script_of wire_readers text.now ≡ Err n
         → (result ≡ Status.Script) ⊎ IsTrue (is_fault result) }
     ensures others { (result ≢ Status.Usage) × (result ≢ Status.SourceFault) × (result ≢ Status.TooLong) }
 {
     // For the proof: such a primary grants.
     history_primaries_grant();
-    match parse(alloc, text) {
-        Ok(script) => run_transfer(rt, alloc, script, out, link),
+    match parse(rt, alloc, text) {
+        Ok(script) => run_transfer(rt, alloc, mode, script, out, link),
         Err(ScriptError::Line(number)) => write_bad_line(alloc, out, number),
         Err(ScriptError::Memory) => Status::Memory,
     }
@@ -203,21 +235,25 @@ fn write_bad_line<K: Sink>(alloc: Global, out: &mut K, number: u64) -> Status
 fn run_transfer<R, K: Sink, L: Link>(
     rt: &R,
     alloc: Global,
+    mode: XfrMode,
     script: Script,
     out: &mut K,
     link: &mut L,
 ) -> Status
+    requires told { AreTold script.opening.version script.commits }
     ensures sink_faults { TellsSink (K.faults out.old) (K.faults out.new) result }
     ensures link_faults { TellsLink (L.faults link.old) (L.faults link.new) result }
     ensures written { IsTrue (is_reported result)
         → Took (λ octets. ReportsOn
-        (λ p key at m. ⟦<Primary as Service<()>>⟧.Sends ((refuser, p), key) (request_at m at)) script
+        (λ p key at m. ⟦<Primary as Service<()>>⟧.Sends ((refuser, p), key) (request_at m at))
+        (mode_of mode) script
         (crossed (L.longest link.old) (L.lists link.old) (L.lists link.new)
         (L.faults link.old) (L.faults link.new)) octets result)
         (K.taken out.old) (K.taken out.new) }
     ensures part { result ≡ Status.SinkFault
         → TookFirst (ReportsOn
-        (λ p key at m. ⟦<Primary as Service<()>>⟧.Sends ((refuser, p), key) (request_at m at)) script
+        (λ p key at m. ⟦<Primary as Service<()>>⟧.Sends ((refuser, p), key) (request_at m at))
+        (mode_of mode) script
         (crossed (L.longest link.old) (L.lists link.old) (L.lists link.new)
         (L.faults link.old) (L.faults link.new)))
         (K.taken out.old) (K.taken out.new) }
@@ -225,13 +261,14 @@ fn run_transfer<R, K: Sink, L: Link>(
     ensures over_link { Untouched (crossed (L.longest link.old) (L.lists link.old) (L.lists link.new)
         (L.faults link.old) (L.faults link.new))
         ⊎ TransfersOn
-        (λ p key at m. ⟦<Primary as Service<()>>⟧.Sends ((refuser, p), key) (request_at m at)) script
+        (λ p key at m. ⟦<Primary as Service<()>>⟧.Sends ((refuser, p), key) (request_at m at))
+        (mode_of mode) script
         (crossed (L.longest link.old) (L.lists link.old) (L.lists link.new)
         (L.faults link.old) (L.faults link.new)) }
     ensures others { (result ≢ Status.Usage) × (result ≢ Status.SourceFault) × (result ≢ Status.TooLong)
         × (result ≢ Status.Script) }
 {
-    match transfer(rt, alloc, script, link) {
+    match transfer(rt, alloc, mode, script, link) {
         Ok((report, status)) => write_last(out, report.as_slice(), status),
         Err(_) => Status::Memory,
     }
@@ -240,61 +277,91 @@ fn run_transfer<R, K: Sink, L: Link>(
 /// The primary of a zone, which grants it to one key.
 type Primary = PrimaryStack<RefuseSvc, HistoryProvider, Key>;
 
-/// The primary that offers a zone's current version to a key.
-fn primary_of<R>(rt: &R, alloc: Global, zone: &ZoneApex, key: &Key) -> Result<Primary, AllocError>
-    ensures { IfOk result (λ p. p ≡ ((refuser, provider_of zone.now.version key.now), key.now)) }
+/// The primary that opened with a version, committed these after it, and grants them to a key.
+fn primary_of(
+    alloc: Global,
+    opening: ReadZone,
+    commits: Commits,
+    key: &Key,
+) -> Result<Primary, AllocError>
+    requires { AreTold opening.version commits }
+    ensures { IfOk result (λ p. p ≡ ((refuser, provider_of opening.version (versions_of commits) key.now), key.now)) }
 {
-    let mut provider = HistoryProvider::new(alloc, zone.read(rt)?);
+    let mut provider = HistoryProvider::new(alloc, opening);
     provider.grant(key.name().duplicate(), key.algorithm())?;
+    push_all(&mut provider, commits)?;
     let transfers = XfrMiddlewareSvc::new(RefuseSvc, provider);
     Ok(TsigMiddlewareSvc::new(transfers, key.duplicate()))
+}
+
+/// Pushes commits to a provider, each with its difference.
+fn push_all(provider: &mut HistoryProvider, commits: Commits) -> Result<(), AllocError>
+    requires { AreTold provider.old.kept commits }
+    ensures { OnOk result (provider.new ≡ pushed_all provider.old (versions_of commits)) }
+{
+    for (handle, difference) in commits.into_entries() {
+        provider.push(handle, difference)?;
+    }
+    Ok(())
 }
 
 /// Transfers the zone; what is to be written, and the status.
 fn transfer<R, L: Link>(
     rt: &R,
     alloc: Global,
+    mode: XfrMode,
     script: Script,
     link: &mut L,
 ) -> Result<(Vec<u8>, Status), AllocError>
+    requires told { AreTold script.opening.version script.commits }
     ensures report { IfOk result (λ r. ReportsOn
-        (λ p key at m. ⟦<Primary as Service<()>>⟧.Sends ((refuser, p), key) (request_at m at)) script
+        (λ p key at m. ⟦<Primary as Service<()>>⟧.Sends ((refuser, p), key) (request_at m at))
+        (mode_of mode) script
         (crossed (L.longest link.old) (L.lists link.old) (L.lists link.new)
         (L.faults link.old) (L.faults link.new)) r.0.items r.1) }
     ensures over_link { Untouched (crossed (L.longest link.old) (L.lists link.old) (L.lists link.new)
         (L.faults link.old) (L.faults link.new))
         ⊎ TransfersOn
-        (λ p key at m. ⟦<Primary as Service<()>>⟧.Sends ((refuser, p), key) (request_at m at)) script
+        (λ p key at m. ⟦<Primary as Service<()>>⟧.Sends ((refuser, p), key) (request_at m at))
+        (mode_of mode) script
         (crossed (L.longest link.old) (L.lists link.old) (L.lists link.new)
         (L.faults link.old) (L.faults link.new)) }
     ensures link_fault { IfOk result (λ r. r.1 ≡ Status.LinkFault → Rose (L.faults link.old) (L.faults link.new)) }
     ensures link_fails { IfOk result (λ r. L.faults link.old < L.faults link.new → r.1 ≡ Status.LinkFault) }
     ensures others { IfOk result (λ r. IsTrue (is_reported r.1)) }
 {
-    let mut script = script;
-    let primary = primary_of(rt, alloc, &script.primary, &script.key)?;
+    let Script {
+        key,
+        at_primary,
+        at_secondary,
+        opening,
+        commits,
+        secondary,
+        queries,
+    } = script;
+    let primary = primary_of(alloc, opening, commits, &key)?;
     let moments = Moments {
-        at_primary: script.at_primary,
-        at_secondary: script.at_secondary,
+        at_primary,
+        at_secondary,
     };
     let mut made = Vec::new(alloc);
-    let mut session = script.secondary.write(alloc);
+    let mut zone = secondary;
+    let mut session = zone.write(alloc);
     let outcome = sync_zone(
         rt,
         alloc,
         &primary,
         &mut session,
-        &script.key,
-        XfrMode::Axfr,
+        &key,
+        mode,
         link,
         moments,
         &mut made,
     );
-    let zone = session.handle()?;
+    let last = session.handle()?;
     if outcome == Err(SyncError::Memory) {
         return Err(AllocError);
     }
-    let queries = script.queries.as_slice();
-    let report = report_octets(alloc, &outcome, made.len(), &zone, queries)?;
+    let report = report_octets(alloc, &outcome, made.len(), &last, queries.as_slice())?;
     Ok((report, status_of(&outcome)))
 }

@@ -1,22 +1,16 @@
 //! The report of a transfer.
-ghost use Rattle.std.specs.Prelude.{◌≡◌, ◌++◌, [], All, IfOk, IsSomeAnd, OnOk, flat_map, map};
+ghost use Rattle.std.specs.Prelude.{◌≡◌, [], IfOk};
 ghost use Rattle.dns_rdata.specs.Records.{record_wire};
-ghost use Rattle.dns_rdata.specs.ZoneData.{rtype_of, data_fields};
-ghost use Rattle.zone_model.specs.Walk.{walk};
-ghost use Rattle.zone_sync.specs.Report.{stop_lines, report};
-ghost use Rattle.zone_sync.specs.Ending.{outcome_of};
-ghost use Rattle.zone_sync.specs.Lines.{set_record, item_line};
+ghost use Rattle.zone_sync.specs.Report.{report};
 
-use crate::answers::append_answers;
 use crate::outcome::{SyncError, SyncOk};
 use crate::outcome_line::append_outcome;
-use dns_name::Class;
-use dns_rdata::{ComposeRecord, Record, StoredRecordData};
 use std::alloc::{AllocError, Global};
+use zone_report::{append_answers, append_walk};
 use zone_script::queries::Query;
-use zone_sessions::{ReadZone, WalkItem};
+use zone_sessions::ReadZone;
 
-/// The report of a transfer: the outcome line, with the number of versions made where it ended well, and a line `rr F HEX` for
+/// The report of a transfer: the answer's line, with the number of versions made where it ended well, and a line `rr F HEX` for
 /// each record of a version, owners in canonical order, types ascending; F is 1 at or below a zone cut. Then what the version answers to the
 /// questions.
 pub fn report_octets(
@@ -26,91 +20,11 @@ pub fn report_octets(
     zone: &ReadZone,
     queries: &[Query],
 ) -> Result<Vec<u8>, AllocError>
-    ensures { IfOk result (λ v. IsSomeAnd (outcome_of outcome.now) (λ how. v.items ≡ report record_wire how made zone.now.version queries.now [])) }
+    ensures { IfOk result (λ v. v.items ≡ report record_wire outcome.now made zone.now.version queries.now []) }
 {
     let mut out = Vec::new(alloc);
     append_outcome(alloc, &mut out, outcome, made)?;
     append_walk(alloc, &mut out, zone)?;
     append_answers(alloc, &mut out, zone, queries)?;
-    Ok(out)
-}
-
-/// A line for each record of a version.
-fn append_walk(alloc: Global, out: &mut Vec<u8>, zone: &ReadZone) -> Result<(), AllocError>
-    ensures { OnOk result (out.new.items ≡ out.old.items ++ flat_map (stop_lines record_wire zone.now.version) (walk zone.now.version)) }
-{
-    for stop in zone.iter_rrsets() {
-        append_stop(alloc, out, zone, &stop)?;
-    }
-    Ok(())
-}
-
-/// A line for each record of a set.
-#[tactic(auto, using(crate::proofs::ReportSteps::stop_lines_of_items))]
-fn append_stop(
-    alloc: Global,
-    out: &mut Vec<u8>,
-    zone: &ReadZone,
-    stop: &WalkItem<'_>,
-) -> Result<(), AllocError>
-    ensures { OnOk result (out.new.items ≡ out.old.items ++ stop_lines record_wire zone.now.version stop.now) }
-{
-    append_items(alloc, out, zone.class(), stop, stop.items())
-}
-
-/// A line for each of these data of a set.
-fn append_items(
-    alloc: Global,
-    out: &mut Vec<u8>,
-    class: Class,
-    stop: &WalkItem<'_>,
-    items: &[StoredRecordData],
-) -> Result<(), AllocError>
-    requires { All (λ d. rtype_of d ≡ stop.now.rtype) items.now }
-    ensures { OnOk result (out.new.items ≡ out.old.items ++ flat_map (item_line class stop.now) (map data_fields items.now)) }
-{
-    let mut rest = items;
-    'lines: while let Some((item, behind)) = rest.split_first() {
-        append_item(alloc, out, class, stop, item)?;
-        rest = behind;
-    }
-    Ok(())
-}
-
-/// The line of one record.
-fn append_item(
-    alloc: Global,
-    out: &mut Vec<u8>,
-    class: Class,
-    stop: &WalkItem<'_>,
-    item: &StoredRecordData,
-) -> Result<(), AllocError>
-    requires { rtype_of item.now ≡ stop.now.rtype }
-    ensures { OnOk result (out.new.items ≡ out.old.items ++ item_line class stop.now (data_fields item.now)) }
-{
-    let wire = record_octets(alloc, class, stop, item)?;
-    let text = hex::encode(alloc, wire.as_slice())?;
-    if stop.below_cut() {
-        out.extend_from_slice(b"rr 1 ")?;
-    } else {
-        out.extend_from_slice(b"rr 0 ")?;
-    }
-    out.extend_from_slice(text.as_bytes())?;
-    out.extend_from_slice(b"\n")
-}
-
-/// A record in wire form (RFC 1035, 3.2.1), written out.
-fn record_octets(
-    alloc: Global,
-    class: Class,
-    stop: &WalkItem<'_>,
-    item: &StoredRecordData,
-) -> Result<Vec<u8>, AllocError>
-    requires { rtype_of item.now ≡ stop.now.rtype }
-    ensures { IfOk result (λ v. v.items ≡ record_wire (set_record class stop.now (data_fields item.now))) }
-{
-    let record = Record::new(stop.owner().borrowed(), class, stop.ttl(), item);
-    let mut out = Vec::new(alloc);
-    record.compose_record(&mut out)?;
     Ok(out)
 }

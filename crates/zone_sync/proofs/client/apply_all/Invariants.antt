@@ -1,7 +1,7 @@
 use Rattle.std.proofs.Common.{List, length}
 use Rattle.zone_model.specs.Commits.{Commit}
 use Rattle.zone_model.specs.Updates.{Progress}
-use Rattle.zone_sync.specs.Steps.{Ahead, KeepsWish, LedOn, numbers_left}
+use Rattle.zone_sync.specs.Steps.{Ahead, KeepsWish, LedOn}
 use Rattle.zone_sync.proofs.client.apply_all.Given as goal
 
 abbrev pub invariant-updates : goal.invariant-updates

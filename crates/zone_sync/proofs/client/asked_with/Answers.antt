@@ -1,4 +1,4 @@
-use Rattle.std.proofs.Common.{◌≡◌, sym, ◌∙◌, subst, Some, None, Ok, Err}
+use Rattle.std.proofs.Common.{sym, ◌∙◌, subst, Some, Ok, Err}
 use Rattle.zone_sync.specs.Modes.{mode_of}
 use Rattle.zone_sync.specs.SoFar.{AsksWith}
 use Rattle.zone_sync.specs.declared.outcome.SyncError.TheVariants.{NoSoa}

@@ -1,4 +1,4 @@
-use Rattle.std.proofs.Common.{◌≡◌, refl, List, [], ◌∷◌, ◌++◌, sym, ap, ◌∙◌, subst, inl, inr, Option, Some, None, Ok, Err}
+use Rattle.std.proofs.Common.{refl, [], ◌∷◌, ap, ◌∙◌, subst, inl, inr, Some, None}
 use Rattle.std.proofs.lemmas.Result.{err_from_is_err_and}
 use Rattle.zone_devices.specs.Calls.{Rose}
 use Rattle.zone_sync.specs.Serving.{request_at}

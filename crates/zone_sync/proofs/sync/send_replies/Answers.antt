@@ -1,4 +1,4 @@
-use Rattle.std.proofs.Common.{◌≡◌, List, [], ◌∷◌, ◌++◌, refl, sym, ap, ◌∙◌}
+use Rattle.std.proofs.Common.{refl, sym, ◌∙◌}
 use Rattle.std.proofs.lemmas.Result.{err_from_is_err_and}
 use Rattle.zone_sync.proofs.Serving.{begins, passes, sends_on, all_sent, not_made, not_carried}
 use Rattle.zone_sync.proofs.sync.send_replies.Goals as goal

@@ -1,4 +1,3 @@
-use Rattle.std.proofs.Common.{◌≡◌}
 use Rattle.std.proofs.lemmas.Result.{err_from_is_err_and}
 use Rattle.zone_sync.specs.Serving.{request_at}
 use Rattle.zone_sync.proofs.Serving.{not_asked, serves, is_request}

@@ -1,4 +1,4 @@
-use Rattle.std.proofs.Common.{◌≡◌, ℕ, List, Option}
+use Rattle.std.proofs.Common.{ℕ, List, Option}
 use Rattle.xfr_server.specs.Items.{Sending}
 use Rattle.zone_sync.specs.Modes.{mode_of}
 use Rattle.zone_sync.specs.SoFar.{asks_with}

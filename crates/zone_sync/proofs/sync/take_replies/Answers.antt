@@ -1,7 +1,7 @@
-use Rattle.std.proofs.Common.{◌≡◌, ℕ, ◌+◌, ◌<◌, ◌≤◌, refl, sym, ap, ◌∙◌, subst, arith, length, Option, Some, None, Ok, Err}
+use Rattle.std.proofs.Common.{ap, ◌∙◌, arith, Ok, Err}
 use Rattle.std.proofs.lemmas.Result.{err_from_is_err_and}
 use Rattle.zone_sync.proofs.Replying.{no_link_fault}
-use Rattle.zone_sync.proofs.Replies.{starts, reply_takes, no_reply, no_more, all_came, ends_refused, ends_well, takes_on, err_same}
+use Rattle.zone_sync.proofs.Replies.{reply_takes, no_reply, no_more, all_came, ends_refused, ends_well, takes_on, err_same}
 use Rattle.zone_sync.specs.declared.outcome.SyncError.TheVariants as why
 use Rattle.zone_sync.proofs.sync.take_replies.Goals as goal
 

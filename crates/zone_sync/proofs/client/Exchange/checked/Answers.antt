@@ -1,4 +1,3 @@
-use Rattle.std.proofs.Common.{◌≡◌}
 use Rattle.std.proofs.lemmas.Result.{err_from_is_err_and}
 use Rattle.zone_sync.specs.SoFar.{asked_mac}
 use Rattle.zone_sync.proofs.Checking.{answer_refused, answer_checked}

@@ -1,10 +1,9 @@
-use Rattle.std.proofs.Common.{◌≡◌, [], ℕ, ◌%◌, ◌^◌, ◌≤◌, ◌<◌, length, min, refl, sym, ap, ◌∙◌, subst, arith}
+use Rattle.std.proofs.Common.{◌≡◌, [], ◌%◌, ◌^◌, ◌<◌, length, refl, ap, ◌∙◌, subst, arith}
 use Rattle.std.proofs.lemmas.Result.{err_from_is_err_and}
-use Rattle.zone_model.specs.TransferText.{Mode}
 use Rattle.zone_model.specs.Commits.{Commit}
 use Rattle.zone_sync.specs.Modes.{mode_of}
 use Rattle.dns_wire.specs.Wire.{message_wire}
-use Rattle.zone_sync.specs.SoFar.{Asking, asking, authority_of, asked_octets}
+use Rattle.zone_sync.specs.SoFar.{asking, authority_of, asked_octets}
 use Rattle.zone_sync.specs.Standing.{asking_of}
 use Rattle.zone_sync.proofs.Requests.{question_is, built_is, soa_there, soa_lacks, asked_is, too_long_signed, sign_refused, sign_added, same_mac, begins}
 use Rattle.tsig_port.specs.States.{ClientStands}

@@ -1,6 +1,5 @@
-use Rattle.std.proofs.Common.{◌≡◌, sym, ap, ◌∙◌, refl, Some, None, Ok, Err}
+use Rattle.std.proofs.Common.{sym, ap, ◌∙◌, refl, Ok}
 use Rattle.zone_sync.specs.Standing.{asking_of}
-use Rattle.zone_sync.specs.Replies.{TakesMessage}
 use Rattle.zone_sync.proofs.Clients.{stands_by, takes_outcome, takes_refusal}
 use Rattle.zone_sync.proofs.Unended.{stays_still}
 use Rattle.zone_sync.proofs.client.XfrClient.take.Goals as goal

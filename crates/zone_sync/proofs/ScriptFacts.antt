@@ -1,0 +1,297 @@
+-- What holds of every script that is spelt: its key is one to sign with, and both its zones are of one apex and class.
+use Rattle.std.specs.Prelude.{◌≡◌, ℕ, ◌+◌, ◌^◌, suc, Bool, true, false, not, nat_lt, nat_le, ◌&&◌, ◌==◌, if◌then◌else◌, List, [], ◌∷◌, length, Option, Some, None, is_some, option_map, option_and_then, unwrap_or, Result, Ok, Err, IsTrue, codes, bytes_eq, filter, fold as fold_list}
+use Rattle.std.specs.Result.{result_ok, result_unwrap_or}
+use Rattle.std.specs.List.{AllByRecursion, list_all, slice_split}
+use Rattle.std.proofs.Common.{refl, sym, ap, ◌∙◌, subst, lt-ltb}
+use Rattle.hex.specs.Hex as hex
+use Rattle.hex.specs.declared.error.FromHexError.{FromHexError}
+use Rattle.hex.proofs.HexLemmas.{decode_of-ok}
+use Rattle.dns_name.specs.Names.{Name, fold, name_wire, is_name, same_name, under}
+use Rattle.dns_name.specs.Octets.{◌>>=◌}
+use Rattle.dns_name.specs.Compression.{name_in, name_at}
+use Rattle.dns_name.proofs.NameBounds.{read_is_name}
+use Rattle.dns_rdata.specs.Records.{Record}
+use Rattle.tsig_keys.specs.Hmac.{native_len}
+use Rattle.tsig_keys.specs.declared.errors.NewKeyError.{NewKeyError}
+use Rattle.tsig_keys.specs.declared.algorithms.Algorithm.{Algorithm}
+use Rattle.tsig_port.specs.Tsig.{TsigKey, new_key, is_mac_len}
+use Rattle.zone_model.specs.Version.{Sets, Version}
+use Rattle.zone_model.specs.Edits.{Refusal, with_sets, has_data, second_alias, add, delete, close}
+use Rattle.zone_model.specs.Classify.{ZoneFile, RecordVerdict, Accepted, Rejected, classify, opened, opened_with}
+use Rattle.zone_model.specs.Offer.{Provider, after_push, difference_if}
+use Rattle.zone_model.specs.TransferText.{Mode}
+use Rattle.zone_model.proofs.Folded.{same_name-Decides}
+use Rattle.zone_script.specs.Script as scripts
+use Rattle.zone_script.specs.Script.{script_of, hex_of, changed, committed_by}
+use Rattle.zone_script.specs.ScriptReaders.{wire_readers, key_of, algorithm_word, or_none, length_field}
+use Rattle.zone_sync.specs.Fitting.{Fits}
+use Rattle.zone_sync.specs.Reported.{FitsLink, asking_in, offer_in, provider_in, pushed_all, primary_opening, primary_commits}
+
+-- ---- options
+
+-- what an option has, if anything, is so
+Holds : {A : Type 0} → (A → Type 0) → Option A → Type 0
+Holds P None = Unit {0}
+Holds P (Some x) = P x
+
+some_is : {A : Type 0} (x y : A) → Some x ≡ Some y → x ≡ y
+some_is x y e = ap (λ o. unwrap_or o x) e
+
+map_holds : {A B : Type 0} (P : B → Type 0) (f : A → B) (o : Option A) → ((x : A) → P (f x)) → Holds P (option_map f o)
+map_holds P f None all = tt
+map_holds P f (Some x) all = all x
+
+then_holds : {A B : Type 0} (Q : A → Type 0) (P : B → Type 0) (f : A → Option B) (o : Option A) → Holds Q o → ((x : A) → Q x → Holds P (f x)) → Holds P (option_and_then f o)
+then_holds Q P f None is all = tt
+then_holds Q P f (Some x) is all = all x is
+
+any_holds : {A B : Type 0} (P : B → Type 0) (f : A → Option B) (o : Option A) → ((x : A) → Holds P (f x)) → Holds P (option_and_then f o)
+any_holds P f None all = tt
+any_holds P f (Some x) all = all x
+
+if_holds : {A : Type 0} (P : A → Type 0) (b : Bool) (x y : Option A) → Holds P x → Holds P y → Holds P (if b then x else y)
+if_holds P true x y hx hy = hx
+if_holds P false x y hx hy = hy
+
+holds_at : {A : Type 0} (P : A → Type 0) (o : Option A) (x : A) → Holds P o → o ≡ Some x → P x
+holds_at P o x h e = subst (λ q. Holds P q) e h
+
+mapped : {A B : Type 0} (Q : A → Type 0) (P : B → Type 0) (f : A → B) (o : Option A) → Holds Q o → ((x : A) → Q x → P (f x)) → Holds P (option_map f o)
+mapped Q P f None is all = tt
+mapped Q P f (Some x) is all = all x is
+
+bind_holds : {A B : Type 0} (Q : A → Type 0) (P : B → Type 0) (o : Option A) (f : A → Option B) → Holds Q o → ((x : A) → Q x → Holds P (f x)) → Holds P (o >>= f)
+bind_holds Q P None f is all = tt
+bind_holds Q P (Some x) f is all = all x is
+
+bind_any : {A B : Type 0} (P : B → Type 0) (o : Option A) (f : A → Option B) → ((x : A) → Holds P (f x)) → Holds P (o >>= f)
+bind_any P None f all = tt
+bind_any P (Some x) f all = all x
+
+self_holds : {A : Type 0} (o : Option A) → Holds (λ x. o ≡ Some x) o
+self_holds None = tt
+self_holds (Some x) = refl
+
+-- ---- a key
+
+-- a name, and MACs of a length that the algorithm allows
+abbrev pub IsSigner : TsigKey → Type 0
+IsSigner k = IsTrue (is_name k.name) × IsTrue (is_mac_len k.algorithm k.signing_len)
+
+AreOctets : List ℕ → Type 0
+AreOctets xs = IsTrue (list_all (λ c. nat_lt c 256) xs)
+
+bytes_below : (xs : List ℕ) → hex.IsBytes xs → AreOctets xs
+bytes_below [] h = refl
+bytes_below (x ∷ xs) h = rw (lt-ltb x 256 (h 0), bytes_below xs (λ i. h (suc i))) refl
+
+hex_holds : (text : List ℕ) → Holds AreOctets (hex_of text)
+hex_holds text = if_holds AreOctets (length text == 0) None (result_ok (hex.decode_of text)) tt (decoded (hex.decode_of text) refl)
+  where
+    decoded : (r : Result (List ℕ) FromHexError) → hex.decode_of text ≡ r → Holds AreOctets (result_ok r)
+    decoded (Ok bytes) e = bytes_below bytes ((decode_of-ok text bytes e).3)
+    decoded (Err e) f = tt
+
+IsName : Name → Type 0
+IsName n = IsTrue (is_name n)
+
+in_holds : (octets : List ℕ) → AreOctets octets → Holds IsName (name_in octets)
+in_holds octets fit =
+    bind_holds (λ (r : Name × ℕ). name_at octets 0 ≡ Some r) IsName (name_at octets 0) _ (self_holds (name_at octets 0))
+    (λ r e. if_holds IsName (bytes_eq (name_wire r.0) octets) (Some r.0) None (read_is_name octets 0 r.0 r.1 e fit) tt)
+
+name_holds : (text : List ℕ) → Holds IsName (option_and_then name_in (hex_of text))
+name_holds text = then_holds AreOctets IsName name_in (hex_of text) (hex_holds text) in_holds
+
+made_by : (least signing : Bool) (k : TsigKey) (x y : NewKeyError) → (signing ≡ true → IsSigner k) → Holds IsSigner (result_ok (if not least then Err x else if not signing then Err y else Ok k))
+made_by false signing k x y h = tt
+made_by true false k x y h = tt
+made_by true true k x y h = h refl
+
+made_holds : (a : Algorithm) (secret : List ℕ) (n : Name) (least signing : Option ℕ) → IsName n → Holds IsSigner (result_ok (new_key a secret n least signing))
+made_holds a secret n least signing is =
+    made_by (is_mac_len a (unwrap_or least (native_len a))) (is_mac_len a (unwrap_or signing (native_len a))) _ _ _ (λ e. (is, e))
+
+key_holds : (fields : List (List ℕ)) → Holds IsSigner (key_of fields)
+key_holds [] = tt
+key_holds (a ∷ []) = tt
+key_holds (a ∷ b ∷ []) = tt
+key_holds (a ∷ b ∷ c ∷ []) = tt
+key_holds (a ∷ b ∷ c ∷ d ∷ []) = tt
+key_holds (name ∷ algorithm ∷ secret ∷ signing ∷ least ∷ []) =
+    bind_holds IsName IsSigner (option_and_then name_in (hex_of name)) _ (name_holds name)
+    (λ n is. bind_any IsSigner (algorithm_word algorithm) _ (λ a. bind_any IsSigner (or_none [] hex_of secret) _ (λ s. bind_any IsSigner (length_field signing) _ (λ long. bind_any IsSigner (length_field least) _ (λ short. made_holds a s n short long is)))))
+key_holds (a ∷ b ∷ c ∷ d ∷ e ∷ f ∷ more) = tt
+
+-- ---- a line
+
+LineSound : scripts.Line TsigKey → Type 0
+LineSound (scripts.KeyLine k) = IsSigner k
+LineSound _ = Unit {0}
+
+two_hold : (P : scripts.Line TsigKey → Type 0) (read : List ℕ → List ℕ → Option (scripts.Line TsigKey)) (fields : List (List ℕ)) → ((x y : List ℕ) → Holds P (read x y)) → Holds P (scripts.two_fields read fields)
+two_hold P read [] all = tt
+two_hold P read (x ∷ []) all = tt
+two_hold P read (x ∷ y ∷ []) all = all x y
+two_hold P read (x ∷ y ∷ z ∷ more) all = tt
+
+one_holds : (P : scripts.Line TsigKey → Type 0) (read : List ℕ → Option (scripts.Line TsigKey)) (fields : List (List ℕ)) → ((x : List ℕ) → Holds P (read x)) → Holds P (scripts.one_field read fields)
+one_holds P read [] all = tt
+one_holds P read (x ∷ []) all = all x
+one_holds P read (x ∷ y ∷ more) all = tt
+
+none_holds : (P : scripts.Line TsigKey → Type 0) (line : scripts.Line TsigKey) (fields : List (List ℕ)) → P line → Holds P (scripts.no_fields line fields)
+none_holds P line [] is = is
+none_holds P line (x ∷ more) is = tt
+
+record_holds : (line : Record → scripts.Line TsigKey) → ((r : Record) → LineSound (line r)) → (fields : List (List ℕ)) → Holds LineSound (scripts.one_field (scripts.record_line wire_readers line) fields)
+record_holds line all fields = one_holds LineSound (scripts.record_line wire_readers line) fields (λ x. map_holds LineSound line (scripts.record_field wire_readers x) all)
+
+word_holds : (word : List ℕ) (fields : List (List ℕ)) → Holds LineSound (scripts.read_word wire_readers word fields)
+word_holds word fields =
+    if_holds LineSound (bytes_eq word (codes "zone")) _ _ (two_hold LineSound (scripts.zone_line wire_readers) fields (λ x y. any_holds LineSound _ (scripts.name_field wire_readers x) (λ n. map_holds LineSound (scripts.ZoneLine n) (scripts.number_below (2 ^ 16) y) (λ c. tt))))
+    (if_holds LineSound (bytes_eq word (codes "key")) _ _ (mapped IsSigner LineSound scripts.KeyLine (key_of fields) (key_holds fields) (λ k is. is))
+    (if_holds LineSound (bytes_eq word (codes "at")) _ _ (two_hold LineSound scripts.at_line fields (λ x y. any_holds LineSound _ (scripts.number_below (2 ^ 48) x) (λ p. map_holds LineSound (scripts.AtLine p) (scripts.number_below (2 ^ 48) y) (λ s. tt))))
+    (if_holds LineSound (bytes_eq word (codes "p")) _ _ (record_holds scripts.PrimaryLine (λ r. tt) fields)
+    (if_holds LineSound (bytes_eq word (codes "s")) _ _ (record_holds scripts.SecondaryLine (λ r. tt) fields)
+    (if_holds LineSound (bytes_eq word (codes "-")) _ _ (record_holds (λ r. scripts.ChangeLine (scripts.Minus r)) (λ r. tt) fields)
+    (if_holds LineSound (bytes_eq word (codes "+")) _ _ (record_holds (λ r. scripts.ChangeLine (scripts.Plus r)) (λ r. tt) fields)
+    (if_holds LineSound (bytes_eq word (codes "commit")) _ _ (none_holds LineSound (scripts.ChangeLine scripts.Commit) fields tt)
+    (if_holds LineSound (bytes_eq word (codes "query")) _ None (two_hold LineSound (scripts.query_line wire_readers) fields (λ x y. any_holds LineSound _ (scripts.name_field wire_readers x) (λ n. map_holds LineSound (scripts.QueryLine n) (scripts.number_below (2 ^ 16) y) (λ c. tt)))) tt))))))))
+
+fields_hold : (fields : List (List ℕ)) → Holds LineSound (scripts.read_fields wire_readers fields)
+fields_hold [] = tt
+fields_hold (word ∷ fields) = word_holds word fields
+
+-- ---- a script
+
+pub record Sound (s : scripts.Script TsigKey) : Type 0 where
+  pub apex : s.secondary.apex ≡ s.primary.apex
+  pub class : s.secondary.class ≡ s.primary.class
+  pub key : (k : TsigKey) → s.key ≡ Some k → IsSigner k
+
+Sounds : Result (scripts.Script TsigKey) ℕ → Type 0
+Sounds (Ok s) = Sound s
+Sounds (Err n) = Unit {0}
+
+either : (b : Bool) (x y : Result (scripts.Script TsigKey) ℕ) → Sounds x → Sounds y → Sounds (if b then x else y)
+either true x y hx hy = hx
+either false x y hx hy = hy
+
+accept_holds : (f : ZoneFile) (r : Record) → Holds (λ (g : ZoneFile). (g.apex ≡ f.apex) × (g.class ≡ f.class)) (scripts.accept f r)
+accept_holds f r = by (classify f r)
+  where
+    by : (v : RecordVerdict) → Holds (λ (g : ZoneFile). (g.apex ≡ f.apex) × (g.class ≡ f.class)) (scripts.accept_if f r v)
+    by (Accepted kind) = (refl, refl)
+    by (Rejected why) = tt
+
+take_sound : (s : scripts.Script TsigKey) (n : ℕ) (line : scripts.Line TsigKey) → LineSound line → Sound s → Holds Sound (scripts.take_line s n line)
+take_sound s n (scripts.ZoneLine apex class) l h = record { apex = refl; class = refl; key = h.key }
+take_sound s n (scripts.KeyLine k) l h = record { apex = h.apex; class = h.class; key = λ j e. subst (λ (x : TsigKey). IsSigner x) (some_is k j e) l }
+take_sound s n (scripts.AtLine p q) l h = record { apex = h.apex; class = h.class; key = h.key }
+take_sound s n (scripts.PrimaryLine r) l h = mapped (λ (g : ZoneFile). (g.apex ≡ s.primary.apex) × (g.class ≡ s.primary.class)) Sound _ (scripts.accept s.primary r) (accept_holds s.primary r) (λ g is. record { apex = h.apex ∙ sym is.0; class = h.class ∙ sym is.1; key = h.key })
+take_sound s n (scripts.SecondaryLine r) l h = mapped (λ (g : ZoneFile). (g.apex ≡ s.secondary.apex) × (g.class ≡ s.secondary.class)) Sound _ (scripts.accept s.secondary r) (accept_holds s.secondary r) (λ g is. record { apex = is.0 ∙ h.apex; class = is.1 ∙ h.class; key = h.key })
+take_sound s n (scripts.ChangeLine c) l h = map_holds Sound _ (scripts.edited s c) (λ v. record { apex = h.apex; class = h.class; key = h.key })
+take_sound s n (scripts.QueryLine name rtype) l h = record { apex = h.apex; class = h.class; key = h.key }
+
+begun_sound : (s : scripts.Script TsigKey) (o : Option ℕ) → Sound s → Sounds (scripts.begun s o)
+begun_sound s None h = record { apex = h.apex; class = h.class; key = h.key }
+begun_sound s (Some n) h = tt
+
+opened_sound : (s : scripts.Script TsigKey) (stage : ℕ) → Sound s → Sounds (scripts.opened_before s stage)
+opened_sound s stage h = either (nat_le 6 stage && nat_lt s.stage 6) (scripts.begun s (scripts.opening_fault s)) (Ok s) (begun_sound s (scripts.opening_fault s) h) h
+
+or_sound : (n : ℕ) (o : Option (scripts.Script TsigKey)) → Holds Sound o → Sounds (scripts.or_line n o)
+or_sound n None h = tt
+or_sound n (Some s) h = h
+
+from_sound : (n : ℕ) (line : scripts.Line TsigKey) → LineSound line → (r : Result (scripts.Script TsigKey) ℕ) → Sounds r → Sounds (scripts.take_from n line r)
+from_sound n line l (Ok s) h = or_sound n (scripts.take_line s n line) (take_sound s n line l h)
+from_sound n line l (Err k) h = tt
+
+next_sound : (s : scripts.Script TsigKey) (n : ℕ) (o : Option (scripts.Line TsigKey)) → Holds LineSound o → Sound s → Sounds (scripts.read_next s n o)
+next_sound s n None l h = tt
+next_sound s n (Some line) l h =
+    either (scripts.may_come s (scripts.stage_of line) && scripts.is_of_class s line) (scripts.take_from n line (scripts.opened_before s (scripts.stage_of line))) (Err n)
+    (from_sound n line l (scripts.opened_before s (scripts.stage_of line)) (opened_sound s (scripts.stage_of line) h)) tt
+
+lines_sound : (r : Result (scripts.Script TsigKey) ℕ) (n : ℕ) (lines : List (List ℕ)) → Sounds r → Sounds (scripts.read_lines wire_readers r n lines)
+lines_sound (Err k) n lines h = tt
+lines_sound (Ok s) n [] h = either (is_some s.key) (scripts.opened_before s 7) (Err n) (opened_sound s 7 h) tt
+lines_sound (Ok s) n (l ∷ more) h =
+    lines_sound (if scripts.is_skipped l then Ok s else scripts.read_next s n (scripts.read_line wire_readers l)) (n + 1) more
+    (either (scripts.is_skipped l) (Ok s) (scripts.read_next s n (scripts.read_line wire_readers l)) h (next_sound s n (scripts.read_line wire_readers l) (fields_hold (slice_split (λ o. o == 32) l)) h))
+
+nothing_sound : Sound (scripts.no_script {TsigKey})
+nothing_sound = record { apex = refl; class = refl; key = λ k e. cc e }
+
+pub script_sound : (text : List ℕ) (s : scripts.Script TsigKey) → script_of wire_readers text ≡ Ok s → Sound s
+script_sound text s e = subst (λ (r : Result (scripts.Script TsigKey) ℕ). Sounds r) e (lines_sound (Ok scripts.no_script) 1 (scripts.script_lines text) nothing_sound)
+
+-- ---- the versions that edits commit are of one zone
+
+-- a version of this apex and class
+abbrev pub IsOf : Name → ℕ → Version → Type 0
+IsOf apex class v = (v.apex ≡ apex) × (v.class ≡ class)
+
+module _ (apex : Name) (class : ℕ) (v : Version) (h : IsOf apex class v) where
+  refused_or : (b : Bool) (e : Refusal) (next : Result Version Refusal) → IsOf apex class (result_unwrap_or next v) → IsOf apex class (result_unwrap_or (if b then Err e else next) v)
+  refused_or true e next n = h
+  refused_or false e next n = n
+
+  one_of : (b : Bool) (x y : Sets) → IsOf apex class (if b then with_sets v x else with_sets v y)
+  one_of true x y = h
+  one_of false x y = h
+
+  put_of : (b : Bool) (x y : Sets) → IsOf apex class (result_unwrap_or (Ok {E = Refusal} (if b then with_sets v x else with_sets v y)) v)
+  put_of b x y = one_of b x y
+
+  added_of : (r : Record) → IsOf apex class (changed v (scripts.Plus r))
+  added_of r = refused_or (not (under r.owner v.apex)) _ _ (refused_or (has_data v r) _ _ (refused_or (second_alias v r) _ _ (put_of _ _ _)))
+
+  deleted_of : (r : Record) → IsOf apex class (changed v (scripts.Minus r))
+  deleted_of r = refused_or (not (under r.owner v.apex)) _ _ (refused_or (not (has_data v r)) _ _ (put_of _ _ _))
+
+opened_from : (apex : Name) (class : ℕ) (v : Version) (rs : List Record) → IsOf apex class v → IsOf apex class (fold_list opened_with v rs)
+opened_from apex class v [] h = h
+opened_from apex class v (r ∷ more) h = opened_from apex class (opened_with v r) more (one_of apex class v h _ _ _)
+
+opened_of : (f : ZoneFile) → IsOf f.apex f.class (opened f)
+opened_of f = opened_from f.apex f.class (record { apex = f.apex; class = f.class; sets = [] }) (filter (λ r. under r.owner f.apex) f.accepted) (refl, refl)
+
+commits_of : (apex : Name) (class : ℕ) (v : Version) (changes : List scripts.Change) → IsOf apex class v → AllByRecursion (IsOf apex class) (committed_by v changes)
+commits_of apex class v [] h = tt
+commits_of apex class v (scripts.Commit ∷ more) h = (h, commits_of apex class (close v) more h)
+commits_of apex class v (scripts.Plus r ∷ more) h = commits_of apex class (changed v (scripts.Plus r)) more (added_of apex class v h r)
+commits_of apex class v (scripts.Minus r ∷ more) h = commits_of apex class (changed v (scripts.Minus r)) more (deleted_of apex class v h r)
+
+kept_of : (apex : Name) (class : ℕ) (p : Provider) (vs : List Version) → IsOf apex class p.kept → AllByRecursion (IsOf apex class) vs → IsOf apex class (pushed_all p vs).kept
+kept_of apex class p [] h all = h
+kept_of apex class p (v ∷ more) h all = kept_of apex class (after_push p v (difference_if p.kept v)) more all.0 all.1
+
+-- what is granted stays so
+pub grants_kept : (p : Provider) (vs : List Version) → ((pushed_all p vs).grants ≡ p.grants) × ((pushed_all p vs).compatibility ≡ p.compatibility)
+grants_kept p [] = (refl, refl)
+grants_kept p (v ∷ more) = grants_kept (after_push p v (difference_if p.kept v)) more
+
+pub kept_in : (s : scripts.Script TsigKey) (key : TsigKey) → IsOf s.primary.apex s.primary.class (provider_in s key).kept
+kept_in s key =
+    kept_of s.primary.apex s.primary.class _ (primary_commits s) (opened_of s.primary) (commits_of s.primary.apex s.primary.class (primary_opening s) s.changes (opened_of s.primary))
+
+-- ---- the premises of success that hold of every script
+
+pub script_fits : (mode : Mode) (text : List ℕ) (s : scripts.Script TsigKey) (key : TsigKey) (longest : ℕ) → script_of wire_readers text ≡ Ok s → FitsLink mode s key longest → Fits (asking_in mode s key) s.at_primary (offer_in mode s key)
+script_fits mode text s key longest spelt f =
+    let sound = script_sound text s spelt in
+    let signs = sound.key key f.keyed in
+    let kept = kept_in s key in
+    let base = opened_of s.secondary in
+    record {
+      one_key = record { name = signs.0; signing = signs.1; taken = f.lengths };
+      close_moments = f.close_moments;
+      one_soa = f.one_soa;
+      records_fit = f.records_fit;
+      base_matches = f.base_matches;
+      same_zone = record { apex = (same_name-Decides (opened s.secondary).apex (provider_in s key).kept.apex).1 (ap fold (base.0 ∙ sound.apex ∙ sym kept.0)); class = base.1 ∙ sound.class ∙ sym kept.1 };
+      room = f.room;
+    }
