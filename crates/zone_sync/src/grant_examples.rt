@@ -12,16 +12,19 @@ use crate::laws::history_primaries_grant;
 use tsig_port::Key;
 use xfr_server::{HistoryProvider, PrimaryStack, RefuseSvc, Service};
 
-/// What is sent of a history of three versions: to one who asks for the whole zone its last version, to one who has the first the two
-/// differences, and to one who has the last its SOA alone.
+/// What is sent of a history of three versions: to one who asks for the whole zone its last version, to one
+/// who has the first the two differences, and to one who has the last its SOA alone.
 pub fn sent_row()
-    ensures whole { sent_text (grants.asks Axfr rows.empty_zone) (grants.offered Axfr rows.empty_zone) ≡ grants.whole }
-    ensures changes { sent_text (grants.asks Ixfr rows.history_1) (grants.offered Ixfr rows.history_1) ≡ rows.history_text }
-    ensures nothing_newer { sent_text (grants.asks Ixfr rows.history_3) (grants.offered Ixfr rows.history_3) ≡ rows.soa 3 ∷ [] }
+    ensures whole { sent_text (grants.asks Axfr rows.empty_zone) (grants.offered Axfr rows.empty_zone)
+        ≡ grants.whole }
+    ensures changes { sent_text (grants.asks Ixfr rows.history_1) (grants.offered Ixfr rows.history_1)
+        ≡ rows.history_text }
+    ensures nothing_newer { sent_text (grants.asks Ixfr rows.history_3)
+        (grants.offered Ixfr rows.history_3) ≡ rows.soa 3 ∷ [] }
 {}
 
-/// The premises of success can be met together, in either mode: that primary grants the request of each of these, over a link that
-/// takes 65,535 octets. Here the whole zone is asked for.
+/// The premises of success can be met together, in either mode: that primary grants the request of each of
+/// these, over a link that takes 65,535 octets. Here the whole zone is asked for.
 pub fn whole_row()
     ensures fits { Fits (grants.asks Axfr rows.empty_zone) 1000 (grants.offered Axfr rows.empty_zone) }
     ensures granted { IsGranted
@@ -57,12 +60,16 @@ pub fn caught_up_row()
     history_primaries_grant();
 }
 
-/// They aren't met where the moments are 301 seconds apart, or where no further version can be numbered; nor where the base isn't what the
-/// differences start at, is ahead of the offered version, or has its serial and not its content.
+/// They aren't met where the moments are 301 seconds apart, or where no further version can be numbered; nor
+/// where the base isn't what the differences start at, is ahead of the offered version, or has its serial
+/// and not its content.
 pub fn unmet_row()
     ensures late { Fits (grants.asks Ixfr rows.history_1) 1301 (grants.offered Ixfr rows.history_1) → ⊥ }
     ensures no_number { Fits grants.asks_last 1000 (grants.offered Axfr rows.empty_zone) → ⊥ }
-    ensures not_first { BaseMatches (rows.zone (rows.soa 1 ∷ [])) (grants.offered Ixfr rows.history_1) (rows.history_1 ∷ rows.history_2 ∷ rows.history_3 ∷ []) → ⊥ }
-    ensures ahead { BaseMatches (rows.zone (rows.soa 4 ∷ [])) (grants.offered Ixfr rows.history_3) (rows.history_3 ∷ []) → ⊥ }
-    ensures other_content { BaseMatches (rows.zone (rows.soa 3 ∷ [])) (grants.offered Ixfr rows.history_3) (rows.history_3 ∷ []) → ⊥ }
+    ensures not_first { BaseMatches (rows.zone (rows.soa 1 ∷ [])) (grants.offered Ixfr rows.history_1)
+        (rows.history_1 ∷ rows.history_2 ∷ rows.history_3 ∷ []) → ⊥ }
+    ensures ahead { BaseMatches (rows.zone (rows.soa 4 ∷ [])) (grants.offered Ixfr rows.history_3)
+        (rows.history_3 ∷ []) → ⊥ }
+    ensures other_content { BaseMatches (rows.zone (rows.soa 3 ∷ []))
+        (grants.offered Ixfr rows.history_3) (rows.history_3 ∷ []) → ⊥ }
 {}
