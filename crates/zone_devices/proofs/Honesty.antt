@@ -1,6 +1,5 @@
 -- A way that hands on from its beginning hands on from where nothing was left.
 use Rattle.std.proofs.Common.{◌≡◌, ℕ, ◌≤◌, List, ◌++◌, length, drop, sym, ap, ◌∙◌, arith}
-use Rattle.std.specs.Prelude.{IsTrue}
 use Rattle.std.proofs.lemmas.List.{drop-append-le, length-append}
 use Rattle.zone_devices.specs.Links.{Way, WentOn, HandsOn, no_way}
 

@@ -1,3 +1,4 @@
+mod EditSteps
 mod Honesty
 mod QueueSteps
 mod StreamSteps

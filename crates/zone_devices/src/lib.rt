@@ -2,6 +2,7 @@
 //! fail, and raises a count of faults then; of those in memory a list says which calls fail.
 #![tactic(auto)]
 
+mod edited_queue;
 pub mod examples;
 pub mod failures;
 pub mod links;
@@ -9,5 +10,6 @@ pub mod loop_link;
 pub mod memory_link;
 mod queue;
 pub mod read_to_end;
+pub mod reply_edits;
 pub mod sinks;
 pub mod sources;

@@ -1,4 +1,3 @@
-use Rattle.std.proofs.Common.{◌≡◌}
 use Rattle.zone_devices.proofs.QueueSteps.{honest_queue}
 use Rattle.zone_devices.proofs.queue.Queue.honesty.Goals as goal
 
