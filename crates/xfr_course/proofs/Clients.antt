@@ -5,33 +5,46 @@ use Rattle.std.specs.Option.{option_or, option_map}
 use Rattle.zone_model.specs.Edits.{Refusal}
 use Rattle.zone_model.specs.TransferText.{Mode, Axfr, Ixfr}
 use Rattle.zone_model.specs.Spells.{Spelling, spelling}
-use Rattle.zone_model.specs.Updates.{Update, Edit, begin}
+use Rattle.zone_model.specs.Updates.{Update, UpdateFault, Edit, begin}
 use Rattle.xfr_model.specs.Interpreter.{updates_in}
-use Rattle.xfr_model.specs.Applying.{Halt, Denied, NoNumber, Held, apply_within}
+use Rattle.xfr_model.specs.Applying.{Halt, Denied, NoNumber, Held, apply_within, DeniedEdit}
 use Rattle.xfr_course.specs.Client.{MetDecides, UnmetStops, CourseOn, Client, new_client, halt_outcome, met_after, client_after, run_message, take_checked, take_course, client_of, ClientMeets}
 use Rattle.xfr_model.specs.Messages.{ReadMessage}
-use Rattle.xfr_model.specs.Read.{Fault, Item, items_of, good_records, first_fault, ReadText, read_items, read_by, request_fault, fault_of_all, retry}
+use Rattle.xfr_model.specs.Read.{Fault, Refused, Item, items_of, good_records, first_fault, ReadText, read_items, read_by, request_fault, fault_of_all, retry}
 use Rattle.xfr_model.specs.Machine.{AtStart, is_at_end, Run, run_items, signal_of}
 use Rattle.xfr_course.specs.Outcome.{Outcome, Updated, Reading, VersionsExhausted, Checked, Course, room, messages_of, after_retry, after_fault, made, made_unless, unless_retry, outcome}
 use Rattle.xfr_model.proofs.Readers.{run_reads, run-append, run-stopped, fault_is, ends, later, read_behind, behind_end, behind_more, behind_nothing, signal_is, retry_is}
 use Rattle.xfr_model.proofs.InTurn.{items_begin, retry_tells_nothing}
 use Rattle.xfr_model.proofs.Limits.{within-append, commits_within}
+use Rattle.xfr_model.proofs.FinerSteps.{denies_edits}
 
 -- The client.
 
-abbrev ask : Course → Bool → ReadMessage → Option Fault
+abbrev pub ask : Course → Bool → ReadMessage → Option Fault
 ask c = request_fault c.id c.question
 
 -- what the updates of some items make
-abbrev held : Course → List Item → Held
+abbrev pub held : Course → List Item → Held
 held c xs = apply_within (room c) (begin c.base) (run_items c.mode AtStart xs).updates
 
 -- the client that has taken these items
-abbrev client_at : Course → Run → Held → Client
+abbrev pub client_at : Course → Run → Held → Client
 client_at c a h = record { begun = true; place = a.place; progress = h.progress; met = met_after c h.halt a.fault None (is_at_end a.place) }
 
-abbrev client_with : Course → List Item → Client
+abbrev pub client_with : Course → List Item → Client
 client_with c xs = client_at c (run_items c.mode AtStart xs) (held c xs)
+
+-- no update comes out of turn, so each halt has an outcome
+pub held_denies : (c : Course) (xs : List Item) (f : UpdateFault) → (held c xs).halt ≡ Some (Denied f) → DeniedEdit f
+held_denies c xs f h = denies_edits c.mode (room c) c.base (good_records xs) f (sym (ap (λ us. (apply_within (room c) (begin c.base) us).halt) (run_reads c.mode xs).updates) ∙ h)
+
+pub record HasOutcome (h : Halt) : Type 0 where
+  pub what : Outcome
+  pub is : halt_outcome h ≡ Some what
+
+pub held_outcome : (c : Course) (xs : List Item) (h : Halt) → (held c xs).halt ≡ Some h → HasOutcome h
+held_outcome c xs NoNumber e = record { what = VersionsExhausted; is = refl }
+held_outcome c xs (Denied f) e = let d = held_denies c xs f e in record { what = Reading (Refused d.why); is = ap (λ x. halt_outcome (Denied x)) d.is }
 
 -- items after a halt change no more than the run
 held_stays : (c : Course) (xs ys : List Item) (e : Halt) → (held c xs).halt ≡ Some e → held c (xs ++ ys) ≡ held c xs
@@ -48,7 +61,7 @@ held_stays c xs ys e h = by (first_fault xs) refl
         ∙ within-append (room c) us more (begin c.base)
         ∙ ap (λ o. if is_some o then held c xs else apply_within (room c) (held c xs).progress more) h
 
-held_more : (c : Course) (xs ys : List Item) → first_fault xs ≡ None → (held c xs).halt ≡ None → apply_within (room c) (held c xs).progress (run_items c.mode (run_items c.mode AtStart xs).place ys).updates ≡ held c (xs ++ ys)
+pub held_more : (c : Course) (xs ys : List Item) → first_fault xs ≡ None → (held c xs).halt ≡ None → apply_within (room c) (held c xs).progress (run_items c.mode (run_items c.mode AtStart xs).place ys).updates ≡ held c (xs ++ ys)
 held_more c xs ys g h =
     let us : List Update = (run_items c.mode AtStart xs).updates in
     let more : List Update = (run_items c.mode (run_items c.mode AtStart xs).place ys).updates in
@@ -57,13 +70,13 @@ held_more c xs ys g h =
     ∙ ap (λ o. if is_some o then held c xs else apply_within (room c) (held c xs).progress more) h)
 
 -- a client that met an outcome takes no message
-met_stays : (c : Course) (cl : Client) (ks : List Checked) (o : Outcome) → cl.met ≡ Some o → take_course c cl ks ≡ cl
+pub met_stays : (c : Course) (cl : Client) (ks : List Checked) (o : Outcome) → cl.met ≡ Some o → take_course c cl ks ≡ cl
 met_stays c cl [] o h = refl
 met_stays c cl (k ∷ more) o h =
     ap (λ m. take_course c (if is_some m then cl else client_after c cl.begun (run_message c cl k) (apply_within (room c) cl.progress (run_message c cl k).updates)) more) h ∙ met_stays c cl more o h
 
 -- the next message, where no outcome is met
-next_client : (c : Course) (xs : List Item) (k : Checked) → (held c xs).halt ≡ None → ends c.mode xs ≡ false → first_fault xs ≡ None
+pub next_client : (c : Course) (xs : List Item) (k : Checked) → (held c xs).halt ≡ None → ends c.mode xs ≡ false → first_fault xs ≡ None
     → take_checked c (client_with c xs) k ≡ client_with c (xs ++ items_of (ask c false) k.message)
 next_client c xs k h e f =
     let its : List Item = items_of (ask c false) k.message in
@@ -166,8 +179,9 @@ takes_behind c (k ∷ more) xs = by (held c xs).halt (ends c.mode xs) (first_fau
         → Final c (take_course c (client_with c (xs ++ its)) more) ((xs ++ its) ++ later (ask c) (read_of c (xs ++ its) more))
         → Final c (take_course c cl (k ∷ more)) (xs ++ ys)
     by (Some x) e f h i g ih =
+        let t = held_outcome c xs x h in
         same_client c (take_course c cl (k ∷ more)) cl (xs ++ ys)
-        (met_stays c cl (k ∷ more) (halt_outcome x) (ap (λ o. met_after c o (run_items c.mode AtStart xs).fault None (is_at_end (run_items c.mode AtStart xs).place)) h))
+        (met_stays c cl (k ∷ more) t.what (ap (λ o. met_after c o (run_items c.mode AtStart xs).fault None (is_at_end (run_items c.mode AtStart xs).place)) h ∙ t.is))
         (halt_final c xs ys x h)
     by None true f h i g ih =
         let m = end_met c xs h i in

@@ -1,11 +1,12 @@
 -- A client that reads message by message and applies updates one by one: what it has committed, and how it ends (RFC 5936, 6; RFC 1995, 4).
 use Rattle.std.specs.Prelude.{◌≡◌, ℕ, Bool, true, false, ◌++◌, if◌then◌else◌, List, [], ◌∷◌, Option, Some, None, is_some, unwrap_or}
 use Rattle.zone_model.specs.Version.{Version}
-use Rattle.zone_model.specs.Updates.{Update, Progress, Edit, NotSoaRecord, AfterFinish, begin}
-use Rattle.xfr_model.specs.Read.{Fault, Malformed, AfterEnd, Refused, request_fault}
+use Rattle.zone_model.specs.TransferText.{Mode, Ixfr}
+use Rattle.zone_model.specs.Updates.{Update, Progress, UpdateFault, Edit, NotSoaRecord, AfterFinish, begin}
+use Rattle.xfr_model.specs.Read.{Fault, Refused, request_fault}
 use Rattle.xfr_course.specs.Outcome.{Outcome, Updated, Reading, VersionsExhausted, Checked, Course, room, after_retry, made, outcome}
-use Rattle.xfr_model.specs.Machine.{Place, AtStart, is_at_end, Run, run_items, next_items, signal_of}
-use Rattle.xfr_model.specs.Applying.{Halt, Denied, NoNumber, Held, apply_within}
+use Rattle.xfr_model.specs.Machine.{Place, AtStart, InWhole, InDeletes, InAdds, is_at_end, Run, run_items, next_items, signal_of}
+use Rattle.xfr_model.specs.Applying.{Halt, Denied, NoNumber, Held, apply_within, DeniedEdit}
 
 -- what a client keeps: whether a message was taken, the interpreter's place, the updater's progress, and the outcome once it is met
 pub record Client : Type 0 where
@@ -17,16 +18,16 @@ pub record Client : Type 0 where
 abbrev pub new_client : Course → Client
 new_client c = record { begun = false; place = AtStart; progress = begin c.base; met = None }
 
--- the outcome of an update that isn't done; the last two never come
-abbrev pub halt_outcome : Halt → Outcome
-halt_outcome NoNumber = VersionsExhausted
-halt_outcome (Denied (Edit e)) = Reading (Refused e)
-halt_outcome (Denied NotSoaRecord) = Reading Malformed
-halt_outcome (Denied AfterFinish) = Reading AfterEnd
+-- the outcome of an update that isn't done; one that comes out of turn has none, and there is never such a one (UpdatesInTurn)
+abbrev pub halt_outcome : Halt → Option Outcome
+halt_outcome NoNumber = Some VersionsExhausted
+halt_outcome (Denied (Edit e)) = Some (Reading (Refused e))
+halt_outcome (Denied NotSoaRecord) = None
+halt_outcome (Denied AfterFinish) = None
 
 -- the outcome that a message brings, by its updates, its fault, its retry signal, and whether it ends the text
 abbrev pub met_after : Course → Option Halt → Option Fault → Option ℕ → Bool → Option Outcome
-met_after c (Some h) f n ended = Some (halt_outcome h)
+met_after c (Some h) f n ended = halt_outcome h
 met_after c None (Some f) n ended = Some (Reading f)
 met_after c None None (Some n) ended = Some (after_retry c n)
 met_after c None None None ended = if ended then Some Updated else None
@@ -71,6 +72,28 @@ UnmetStops = (c : Course) (ks : List Checked) → (take_course c (new_client c) 
 -- checked messages may be taken in two lots
 abbrev pub CourseOn : Type 0
 CourseOn = (c : Course) (cl : Client) (ks more : List Checked) → take_course c cl (ks ++ more) ≡ take_course c (take_course c cl ks) more
+
+-- Between messages.
+
+-- where a client that has met nothing stands: before the first message; or in a text, which is in IXFR form only where changes were asked for
+abbrev pub IsBetween : Bool → Place → Mode → Type 0
+IsBetween false AtStart mode = Unit {0}
+IsBetween true (InWhole first) mode = Unit {0}
+IsBetween true (InDeletes first) Ixfr = Unit {0}
+IsBetween true (InAdds first) Ixfr = Unit {0}
+IsBetween _ _ _ = ⊥
+
+pub record StandsBetween (c : Course) (cl : Client) : Type 0 where
+  pub place : IsBetween cl.begun cl.place c.mode
+  pub before_end : is_at_end cl.place ≡ false
+
+abbrev pub BetweenMessages : Type 0
+BetweenMessages = (c : Course) (ks : List Checked) → (take_course c (new_client c) ks).met ≡ None → StandsBetween c (take_course c (new_client c) ks)
+
+-- .. and what is denied of a next message's updates is an edit: none names a record that is no SOA, and none comes after the end
+abbrev pub UpdatesInTurn : Type 0
+UpdatesInTurn = (c : Course) (ks : List Checked) (k : Checked) (f : UpdateFault) → (take_course c (new_client c) ks).met ≡ None
+    → (apply_within (room c) (take_course c (new_client c) ks).progress (run_message c (take_course c (new_client c) ks) k).updates).halt ≡ Some (Denied f) → DeniedEdit f
 
 -- Want of memory.
 

@@ -79,6 +79,10 @@ single_ends = record small_ends {
   question = asked 252;
 }
 
+-- .. and of a history by a primary that sends a record to a message where the whole zone is asked for
+abbrev pub compatible_ends : Ends
+compatible_ends = record small_ends { offer = record { version = history_3; differences = successive (history_1 ∷ history_2 ∷ history_3 ∷ []); compatibility = true } }
+
 -- a whole text, in answer to an incremental question, that is two SOAs
 abbrev pub two_soas_ends : Ends
 two_soas_ends = record small_ends { offer = record { version = zone_rows.zone (zone_rows.soa 2 ∷ []); differences = []; compatibility = false } }

@@ -1,5 +1,5 @@
 // Laws of a transfer, each the contract of a function with an empty body.
-ghost use Rattle.xfr_course.specs.Client.{ClientMeets, MetDecides, UnmetStops, CourseOn, PartIsMade};
+ghost use Rattle.xfr_course.specs.Client.{ClientMeets, MetDecides, UnmetStops, CourseOn, BetweenMessages, UpdatesInTurn, PartIsMade};
 ghost use Rattle.xfr_course.specs.Granting as granting;
 ghost use Rattle.xfr_course.specs.Joining.{SignedAreTheCourse};
 ghost use Rattle.xfr_course.specs.Success.{GrantedSucceeds};
@@ -15,6 +15,13 @@ pub fn met_decides()
     ensures met { MetDecides }
     ensures unmet { UnmetStops }
     ensures on { CourseOn }
+{}
+
+/// Between messages a client that has met nothing stands at the start or in a text, so that a next message isn't one after the end;
+/// and none of that message's updates comes out of turn.
+pub fn updates_come_in_turn()
+    ensures between { BetweenMessages }
+    ensures turn { UpdatesInTurn }
 {}
 
 /// A client that gives up anywhere has committed a first part of the versions made.

@@ -83,8 +83,9 @@ pub fn end_row()
 /// What the ends of a transfer come to: the room of a message, whether its second record comes in the first, and whether there is one between SOAs.
 pub fn ends_row()
     ensures room { granting.message_room examples.small_ends ≡ 65434 }
-    ensures together { map granting.begins_together (examples.small_ends ∷ examples.edge_ends ∷ examples.caught_up_ends ∷ []) ≡ true ∷ true ∷ true ∷ [] }
-    ensures apart { map granting.begins_together (examples.single_ends ∷ record examples.small_ends { signature_len = 65460 } ∷ []) ≡ false ∷ false ∷ [] }
+    ensures together { map granting.begins_together (examples.small_ends ∷ examples.edge_ends ∷ examples.caught_up_ends ∷ examples.compatible_ends ∷ []) ≡ true ∷ true ∷ true ∷ true ∷ [] }
+    ensures apart { granting.begins_together (record examples.small_ends { signature_len = 65460 }) ≡ false }
+    ensures singles { map (λ m. granting.in_singles m true) (Axfr ∷ Ixfr ∷ []) ≡ true ∷ false ∷ [] }
     ensures lone { granting.begins_together (record examples.caught_up_ends { signature_len = 65535 }) ≡ true }
     ensures more { map granting.has_more (examples.small_ends ∷ examples.caught_up_ends ∷ examples.two_soas_ends ∷ []) ≡ true ∷ true ∷ false ∷ [] }
 {}
@@ -95,6 +96,7 @@ pub fn granting_row()
     ensures edge { granting.IsGranting examples.edge_ends }
     ensures caught_up { granting.IsGranting examples.caught_up_ends }
     ensures single { granting.IsGranting examples.single_ends }
+    ensures compatible { granting.IsGranting examples.compatible_ends }
     ensures spelt { (spelling Ixfr (granting.sent_text examples.small_ends) rows.history_1).versions ≡ rows.history_1 ∷ rows.history_2 ∷ rows.history_3 ∷ [] }
     ensures whole { same_version rows.cut_zone rows.cut_zone ≡ true }
 {}

@@ -24,8 +24,8 @@ use Rattle.xfr_batch.specs.XfrBatches.{axfr_header}
 use Rattle.xfr_replies.specs.TransferPages.{page_answer}
 use Rattle.xfr_server.specs.Transfers.{transfer_mode, mode_of_type}
 use Rattle.xfr_server.specs.FullTransfer.{WholeIsTaken, TransferIsMessage}
-use Rattle.xfr_server.specs.declared.transfer.XfrMode.{XfrMode}
-use Rattle.xfr_server.specs.declared.transfer.XfrMode.TheVariants.{Axfr, Ixfr}
+use Rattle.xfr_services.specs.declared.modes.XfrMode.{XfrMode}
+use Rattle.xfr_services.specs.declared.modes.XfrMode.TheVariants.{Axfr, Ixfr}
 use Rattle.xfr_server.proofs.Pages.{IsPage, each_page}
 
 -- ---- the request

@@ -18,7 +18,7 @@ use Rattle.xfr_server.specs.declared.transfer.Short.TheVariants.{Error, SoaAlone
 use Rattle.xfr_services.specs.declared.services.CallResult.{CallResult}
 use Rattle.xfr_services.specs.declared.services.ServiceError.{ServiceError}
 use Rattle.xfr_server.specs.declared.providers.XfrDataProviderError.{XfrDataProviderError}
-use Rattle.xfr_server.specs.declared.transfer.XfrMode.{XfrMode}
+use Rattle.xfr_services.specs.declared.modes.XfrMode.{XfrMode}
 
 here : (told : Option ℕ → Result Offer XfrDataProviderError) (mode : XfrMode) (udp : Bool) (message : List ℕ) (offer : Offer)
     → (is_ixfr mode && not (is_some (asked_serial message))) ≡ false → told (asked_serial message) ≡ Ok offer

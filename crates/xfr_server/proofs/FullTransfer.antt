@@ -32,8 +32,8 @@ use Rattle.xfr_services.specs.declared.requests.TransportSpecificContext.{Transp
 use Rattle.xfr_services.specs.declared.requests.TransportSpecificContext.TheVariants.{NonUdp}
 use Rattle.xfr_services.specs.declared.services.ServiceFeedback.TheVariants.{BeginTransaction, EndTransaction}
 use Rattle.xfr_services.specs.declared.signing.Signing.TheVariants.{First, All}
-use Rattle.xfr_server.specs.declared.transfer.XfrMode.{XfrMode}
-use Rattle.xfr_server.specs.declared.transfer.XfrMode.TheVariants.{Axfr}
+use Rattle.xfr_services.specs.declared.modes.XfrMode.{XfrMode}
+use Rattle.xfr_services.specs.declared.modes.XfrMode.TheVariants.{Axfr}
 use Rattle.xfr_server.proofs.Answers.{wire_length, records_long}
 use Rattle.xfr_server.proofs.Pages.{IsPage, each_page}
 use Rattle.xfr_services.proofs.Puts.{has_both}

@@ -27,7 +27,7 @@ use Rattle.xfr_server.specs.Transfers.{Choice, transfer_mode, soa_reply, udp_rep
 use Rattle.xfr_server.specs.Transfers.Choice.{Refuse, SoaAlone, Text}
 use Rattle.xfr_server.specs.Serving.{SendsIn, SendsTransfer}
 use Rattle.xfr_server.specs.declared.providers.XfrDataProviderError.{XfrDataProviderError}
-use Rattle.xfr_server.specs.declared.transfer.XfrMode.{XfrMode}
+use Rattle.xfr_services.specs.declared.modes.XfrMode.{XfrMode}
 
 -- ---- one reply
 

@@ -20,7 +20,7 @@ use Rattle.xfr_server.specs.Transfers.{transfer_mode, asked_serial, asks_for_ape
 use Rattle.xfr_server.specs.declared.providers.XfrDataProviderError.{XfrDataProviderError}
 use Rattle.xfr_services.specs.declared.requests.Request.{Request}
 use Rattle.xfr_services.specs.declared.requests.TransportSpecificContext.TheVariants.{NonUdp}
-use Rattle.xfr_server.specs.declared.transfer.XfrMode.TheVariants.{Axfr}
+use Rattle.xfr_services.specs.declared.modes.XfrMode.TheVariants.{Axfr}
 
 -- a signed request for a full transfer by a stream that the server accepts and the provider grants, and the pages of its answer: there is room
 -- for each record

@@ -6,7 +6,7 @@ use Rattle.xfr_server.specs.Requests.{with_metadata}
 use Rattle.xfr_server.specs.Transfers.{transfer_mode, SendsAnswer}
 use Rattle.xfr_services.specs.declared.requests.Request.{Request}
 use Rattle.xfr_server.specs.declared.providers.XfrDataProviderError.{XfrDataProviderError}
-use Rattle.xfr_server.specs.declared.transfer.XfrMode.{XfrMode}
+use Rattle.xfr_services.specs.declared.modes.XfrMode.{XfrMode}
 
 -- what the next service sends to the request with default metadata
 pub record SendsOn {M : Type 0} (IsDefault : M → Type 0) (Next : Request M → Option (List Sending) → Type 0) (r : Request M) (sent : Option (List Sending)) : Type 0 where

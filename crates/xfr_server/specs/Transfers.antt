@@ -1,9 +1,9 @@
 -- What is sent in answer to a transfer request (RFC 5936, 2.2; RFC 1995, 2 and 4).
-use Rattle.std.specs.Prelude.{◌≡◌, ℕ, codes, ◌-◌, Bool, true, false, ◌&&◌, ◌||◌, not, ◌==◌, List, [], ◌∷◌, length, Option, Some, None, is_some, option_map, option_and_then, unwrap_or, Result, Ok, Err, if◌then◌else◌}
+use Rattle.std.specs.Prelude.{◌≡◌, ℕ, ◌-◌, Bool, true, false, ◌&&◌, ◌||◌, not, ◌==◌, List, [], ◌∷◌, length, Option, Some, None, is_some, option_map, option_and_then, unwrap_or, Result, Ok, Err, if◌then◌else◌}
 use Rattle.std.specs.List.{list_all}
 use Rattle.dns_name.specs.Names.{same_name}
 use Rattle.dns_name.specs.Serial.{serial_upto}
-use Rattle.dns_name.specs.Codes.{formerr, servfail, notauth, type_soa, type_axfr, type_ixfr}
+use Rattle.dns_name.specs.Codes.{formerr, servfail, notauth, type_soa}
 use Rattle.dns_rdata.specs.Heads.{RawRecord, readable}
 use Rattle.dns_rdata.specs.Records.{Record}
 use Rattle.dns_rdata.specs.Soa.{serial_of}
@@ -22,29 +22,16 @@ use Rattle.xfr_services.specs.declared.requests.TransportSpecificContext.{Transp
 use Rattle.xfr_services.specs.declared.requests.TransportSpecificContext.TheVariants.{Udp, NonUdp}
 use Rattle.xfr_server.specs.declared.providers.XfrDataProviderError.{XfrDataProviderError}
 use Rattle.xfr_server.specs.declared.providers.XfrDataProviderError.TheVariants.{ParseError, UnknownZone, Refused, TemporarilyUnavailable, Memory}
-use Rattle.xfr_server.specs.declared.transfer.XfrMode.{XfrMode}
-use Rattle.xfr_server.specs.declared.transfer.XfrMode.TheVariants.{Axfr, Ixfr}
+use Rattle.xfr_services.specs.declared.modes.XfrMode.{XfrMode}
+pub use Rattle.xfr_services.specs.Modes.{mode_of_type, is_ixfr}
 
 -- ---- the request
-
--- the kind of transfer that a type of question asks for (RFC 5936, 2.1; RFC 1995, 3)
-abbrev pub mode_of_type : ℕ → Option XfrMode
-mode_of_type qtype = if qtype == type_axfr then Some Axfr else if qtype == type_ixfr then Some Ixfr else None
 
 -- the kind that a request asks for: a query with a sole readable question of such a type
 abbrev pub transfer_mode : List ℕ → Option XfrMode
 transfer_mode message =
     if (header_in message).qr || not ((header_in message).opcode == 0) then None
     else option_and_then (λ (q : Question). mode_of_type q.qtype) (sole_question_in message)
-
--- a kind as it is shown: its type's name
-abbrev pub mode_text : XfrMode → List ℕ
-mode_text Axfr = codes "AXFR"
-mode_text Ixfr = codes "IXFR"
-
-abbrev pub is_ixfr : XfrMode → Bool
-is_ixfr Axfr = false
-is_ixfr Ixfr = true
 
 -- the serial of the first SOA record, None where that is missing or unreadable (RFC 1995, 3)
 abbrev pub first_serial : List ℕ → List (Option RawRecord) → Option ℕ

@@ -8,7 +8,7 @@ ghost use Rattle.xfr_model.specs.ReplyRows as replies;
 ghost use Rattle.xfr_server.specs.Offers.{offer_alone};
 ghost use Rattle.xfr_server.specs.Transfers as transfers;
 ghost use Rattle.xfr_server.specs.Transfers.Choice.{Refuse, SoaAlone, Text};
-ghost use Rattle.xfr_server.specs.declared.transfer.XfrMode.TheVariants.{Axfr, Ixfr};
+ghost use Rattle.xfr_services.specs.declared.modes.XfrMode.TheVariants.{Axfr, Ixfr};
 ghost use Rattle.xfr_services.specs.declared.requests.TransportSpecificContext.TheVariants.{Udp, NonUdp};
 ghost use Rattle.xfr_server.specs.declared.providers.XfrDataProviderError.TheVariants.{ParseError, UnknownZone, Refused, TemporarilyUnavailable};
 

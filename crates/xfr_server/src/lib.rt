@@ -15,7 +15,7 @@ mod transfer_message;
 pub use laws::commits_may_be_pushed;
 pub use providers::{HistoryProvider, XfrData, XfrDataProvider, XfrDataProviderError};
 pub use stored_zones::{StoredZone, current_data};
-pub use transfer::{XfrMiddlewareStream, XfrMiddlewareSvc, XfrMode};
+pub use transfer::{XfrMiddlewareStream, XfrMiddlewareSvc};
 pub use xfr_batch::{
     BatchReadyError, CallbackBatcher, Callbacks, PushResult, ReadyMessages, ResourceRecordBatcher,
     XfrRrBatcher, start_batch,
@@ -24,7 +24,7 @@ pub use xfr_replies::TransferReplies;
 pub use xfr_services::{
     CallResult, PostprocessingState, RefuseSvc, Replies, ReplyStream, Request, Service,
     ServiceError, ServiceFeedback, TransportSpecificContext, TsigMiddlewareSvc, TsigStream,
-    requests, services, signing,
+    XfrMode, modes, requests, services, signing,
 };
 pub use xfr_text::{TransferText, are_sendable};
 

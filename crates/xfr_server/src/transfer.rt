@@ -19,12 +19,11 @@ use dns_rdata::{ParsedRecord, ZoneRecordData};
 use dns_wire::{Message, MessageBuf, PushError, RecordSection};
 use std::alloc::Global;
 use std::cmp::Ordering;
-use std::fmt;
 use std::marker::Model;
 use xfr_replies::TransferReplies;
 use xfr_services::{
     CallResult, Replies, ReplyStream, Request, Service, ServiceError, TransportSpecificContext,
-    replies,
+    XfrMode, replies,
 };
 use xfr_text::{TransferText, are_sendable};
 use zone_sessions::ReadZone;
@@ -34,51 +33,6 @@ const MAX_UDP_LEN: u16 = 512;
 
 /// The most octets of a message by a stream (RFC 1035, 4.2.2).
 const MAX_STREAM_LEN: u16 = 65535;
-
-/// Which kind of transfer is asked for.
-#[derive(Clone, Copy, Debug, PartialEq, Eq)]
-pub enum XfrMode {
-    /// The whole zone (RFC 5936).
-    Axfr,
-    /// What is newer than a serial (RFC 1995).
-    Ixfr,
-}
-
-impl XfrMode {
-    /// The mode that a type of question asks for.
-    fn from_rtype(rtype: Rtype) -> Option<XfrMode>
-        ensures { result ≡ transfers.mode_of_type rtype }
-    {
-        if rtype == Rtype::AXFR {
-            Some(XfrMode::Axfr)
-        } else if rtype == Rtype::IXFR {
-            Some(XfrMode::Ixfr)
-        } else {
-            None
-        }
-    }
-
-    /// Whether it is an incremental transfer.
-    fn is_ixfr(self) -> bool
-        ensures { result ≡ transfers.is_ixfr self }
-    {
-        matches!(self, XfrMode::Ixfr)
-    }
-}
-
-impl fmt::Display for XfrMode {
-    ghost use Rattle.std.specs.Prelude.{Some};
-    ghost use Rattle.xfr_server.specs.Transfers.{mode_text};
-
-    ghost output = { λ m. Some (mode_text m) };
-
-    fn fmt<W: fmt::Write>(&self, f: &mut fmt::Formatter<W>) -> fmt::Result {
-        match self {
-            XfrMode::Axfr => write!(f, "AXFR"),
-            XfrMode::Ixfr => write!(f, "IXFR"),
-        }
-    }
-}
 
 /// Answers transfer requests from a provider's zones, and hands others on. Contracts see the next service and the provider.
 #[derive(Drop)]

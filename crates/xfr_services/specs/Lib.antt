@@ -1,3 +1,4 @@
+pub mod Modes
 pub mod Requests
 pub mod Items
 pub mod Replying

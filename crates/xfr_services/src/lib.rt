@@ -7,11 +7,13 @@
 
 mod examples;
 mod laws;
+pub mod modes;
 pub mod replies;
 pub mod requests;
 pub mod services;
 pub mod signing;
 
+pub use modes::XfrMode;
 pub use requests::{Request, TransportSpecificContext};
 pub use services::{
     CallResult, RefuseSvc, Replies, ReplyStream, Service, ServiceError, ServiceFeedback,

@@ -23,7 +23,7 @@ use Rattle.tsig_port.proofs.SignedExchange.{signer_tsig, signer_short, without_a
 use Rattle.xfr_model.specs.Messages.{type_of}
 use Rattle.zone_model.specs.TransferText.{Mode, Axfr, Ixfr}
 use Rattle.xfr_server.specs.Transfers.{transfer_mode, mode_of_type}
-use Rattle.xfr_server.specs.declared.transfer.XfrMode.TheVariants as modes
+use Rattle.xfr_services.specs.declared.modes.XfrMode.TheVariants as modes
 use Rattle.xfr_server.proofs.Answers.{wire_length}
 use Rattle.xfr_course.specs.Courses.{has_header}
 use Rattle.zone_sync.specs.SoFar.{Asking, asked_id, asked_question, request_message, asked_octets, asked_mac}

@@ -1,60 +1,78 @@
--- What an answer of a transfer says of its outcome; want of memory says nothing.
-use Rattle.std.specs.Prelude.{Option, Some, None, Result, Ok, Err}
+-- How a transfer answers each outcome: one answer for each (RFC 5936, 6; RFC 1995, 2).
+use Rattle.std.specs.Prelude.{Bool, true, false, ◌==◌, if◌then◌else◌, ℕ, Option, Some, None, Result, Ok, Err}
 use Rattle.zone_model.specs.Edits as edits
+use Rattle.zone_model.specs.Updates as updates
 use Rattle.xfr_model.specs.Read as faults
+use Rattle.xfr_model.specs.Applying as halts
 use Rattle.xfr_course.specs.Outcome as outcomes
+use Rattle.dns_message.specs.declared.message.ShortMessage.{ShortMessage}
+use Rattle.dns_wire.specs.declared.builder.PushError.TheVariants as push
+use Rattle.xfr_services.specs.declared.services.ServiceError.TheVariants as service
+use Rattle.zone_sync.specs.Refusals.{of_update}
 use Rattle.zone_sync.specs.declared.outcome.SyncOk.{SyncOk}
 use Rattle.zone_sync.specs.declared.outcome.SyncOk.TheVariants as done
 use Rattle.zone_sync.specs.declared.outcome.SyncError.{SyncError}
 use Rattle.zone_sync.specs.declared.outcome.SyncError.TheVariants as why
-use Rattle.xfr_client.specs.declared.protocol.Error.{Error}
 use Rattle.xfr_client.specs.declared.protocol.Error.TheVariants as message
-use Rattle.xfr_client.specs.declared.protocol.IterationError.{IterationError}
 use Rattle.xfr_client.specs.declared.protocol.IterationError.TheVariants as item
-use Rattle.xfr_client.specs.declared.update.Error as updates
+use Rattle.xfr_client.specs.declared.update.Error as errors
 use Rattle.xfr_client.specs.declared.update.Error.TheVariants as update
 
--- a reply that isn't one of a transfer
-abbrev pub message_outcome : Error → outcomes.Outcome
-message_outcome message.ParseError = outcomes.Reading faults.Malformed
-message_outcome message.NotValidXfrResponse = outcomes.Reading faults.NotValid
-message_outcome message.Malformed = outcomes.Reading faults.Malformed
-message_outcome message.Finished = outcomes.Reading faults.AfterEnd
+-- an edit that doesn't fit the zone
+abbrev pub edit_error : edits.Refusal → errors.Error
+edit_error edits.OutOfZone = update.OutOfZone
+edit_error edits.Incompatible = update.IncompatibleUpdate
+edit_error edits.InvalidData = update.InvalidData
 
--- a record that can't be read where it stands
-abbrev pub item_outcome : IterationError → outcomes.Outcome
-item_outcome item.ParseError = outcomes.Reading faults.Unreadable
-item_outcome item.AlreadyFinished = outcomes.Reading faults.AfterEnd
-item_outcome item.SingleSoaIxfrTcpRetrySignal = outcomes.RetrySignal
-item_outcome item.MissingInitialSoa = outcomes.Reading faults.NotValid
+-- what can't be read of the checked messages, or doesn't fit
+abbrev pub fault_error : faults.Fault → SyncError
+fault_error faults.OtherAnswer = why.OtherAnswer
+fault_error faults.NotValid = why.Xfr message.NotValidXfrResponse
+fault_error faults.Malformed = why.Xfr message.Malformed
+fault_error faults.Unreadable = why.Iteration item.ParseError
+fault_error faults.AfterEnd = why.Iteration item.AlreadyFinished
+fault_error (faults.Refused x) = why.Update (edit_error x)
 
--- an update that doesn't fit
-abbrev pub update_outcome : updates.Error → Option outcomes.Outcome
-update_outcome update.OutOfZone = Some (outcomes.Reading (faults.Refused edits.OutOfZone))
-update_outcome update.NotSoaRecord = Some (outcomes.Reading faults.Malformed)
-update_outcome update.IncompatibleUpdate = Some (outcomes.Reading (faults.Refused edits.Incompatible))
-update_outcome update.InvalidData = Some (outcomes.Reading (faults.Refused edits.InvalidData))
-update_outcome update.VersionsExhausted = Some outcomes.VersionsExhausted
-update_outcome update.Finished = Some (outcomes.Reading faults.AfterEnd)
-update_outcome update.Memory = None
+-- the answer of each outcome
+abbrev pub answer_of : outcomes.Outcome → Result SyncOk SyncError
+answer_of outcomes.Updated = Ok done.Updated
+answer_of outcomes.UpToDate = Ok done.UpToDate
+answer_of outcomes.NoSoa = Err why.NoSoa
+answer_of outcomes.RequestTooLong = Err (why.Request push.ShortBuf)
+answer_of outcomes.LinkFault = Err why.LinkFault
+answer_of outcomes.Ended = Err why.Ended
+answer_of outcomes.Short = Err (why.Short (record {}))
+answer_of outcomes.Primary = Err (why.Primary service.InternalError)
+answer_of outcomes.TooManyMessages = Err why.TooManyMessages
+answer_of (outcomes.Tsig e) = Err (why.Tsig e)
+answer_of (outcomes.Reading f) = Err (fault_error f)
+answer_of outcomes.RetrySignal = Err (why.Iteration item.SingleSoaIxfrTcpRetrySignal)
+answer_of outcomes.VersionsExhausted = Err why.VersionsExhausted
 
-abbrev pub refusal_outcome : SyncError → Option outcomes.Outcome
-refusal_outcome why.NoSoa = Some outcomes.NoSoa
-refusal_outcome (why.Request e) = Some outcomes.RequestTooLong
-refusal_outcome why.LinkFault = Some outcomes.LinkFault
-refusal_outcome why.Ended = Some outcomes.Ended
-refusal_outcome (why.Short e) = Some outcomes.Short
-refusal_outcome (why.Primary e) = Some outcomes.Primary
-refusal_outcome why.TooManyMessages = Some outcomes.TooManyMessages
-refusal_outcome (why.Tsig e) = Some (outcomes.Tsig e)
-refusal_outcome why.OtherAnswer = Some (outcomes.Reading faults.OtherAnswer)
-refusal_outcome (why.Xfr e) = Some (message_outcome e)
-refusal_outcome (why.Iteration e) = Some (item_outcome e)
-refusal_outcome (why.Update e) = update_outcome e
-refusal_outcome why.VersionsExhausted = Some outcomes.VersionsExhausted
-refusal_outcome why.Memory = None
+-- ---- by the parts of a message
 
-abbrev pub outcome_of : Result SyncOk SyncError → Option outcomes.Outcome
-outcome_of (Ok done.Updated) = Some outcomes.Updated
-outcome_of (Ok done.UpToDate) = Some outcomes.UpToDate
-outcome_of (Err e) = refusal_outcome e
+-- the error of an update that isn't done
+abbrev pub update_error : updates.UpdateFault → errors.Error
+update_error (updates.Edit x) = edit_error x
+update_error updates.NotSoaRecord = update.NotSoaRecord
+update_error updates.AfterFinish = update.Finished
+
+abbrev pub halt_error : halts.Halt → errors.Error
+halt_error halts.NoNumber = update.VersionsExhausted
+halt_error (halts.Denied f) = update_error f
+
+-- the error that ends a message's updates early: an update that isn't done, a fault after them, or else the retry signal
+abbrev pub ending_error : Option halts.Halt → Option faults.Fault → SyncError
+ending_error (Some h) f = of_update (halt_error h)
+ending_error None (Some f) = fault_error f
+ending_error None None = why.Iteration item.SingleSoaIxfrTcpRetrySignal
+
+-- whether the serial found is the one that was asked with
+abbrev pub same_serial : Option ℕ → Option ℕ → Bool
+same_serial (Some found) (Some asked) = asked == found
+same_serial found asked = false
+
+-- what that error is answered as: the retry signal with the serial that was asked with says that nothing is newer (RFC 1995, 2)
+abbrev pub settled : Option ℕ → Option ℕ → SyncError → Result (Option SyncOk) SyncError
+settled found asked (why.Iteration item.SingleSoaIxfrTcpRetrySignal) = if same_serial found asked then Ok (Some done.UpToDate) else Err (why.Iteration item.SingleSoaIxfrTcpRetrySignal)
+settled found asked e = Err e

@@ -3,6 +3,7 @@ use Rattle.std.specs.Prelude.{◌≡◌, ℕ, ◌⊎◌, Bool, true, false, List
 use Rattle.xfr_server.specs.Items.{Sending, sent_by}
 use Rattle.xfr_services.specs.declared.requests.Request.{Request}
 use Rattle.xfr_services.specs.declared.requests.TransportSpecificContext.TheVariants.{NonUdp}
+use Rattle.xfr_services.specs.declared.services.ServiceError.TheVariants.{InternalError}
 use Rattle.xfr_course.specs.Courses.{has_header}
 use Rattle.zone_sync.specs.declared.outcome.SyncOk.{SyncOk}
 use Rattle.zone_sync.specs.declared.outcome.SyncError.{SyncError}
@@ -51,7 +52,7 @@ pub record IsFront (items : List Sending) (sent : List (List ℕ)) : Type 0 wher
 -- One case for each answer of a call that has a primary reply.
 abbrev pub ServedBy : (Option (List Sending) → Type 0) → List (List ℕ) → Result (Unit {0}) SyncError → Type 0
 ServedBy Sends sent (Ok u) = SendsAll Sends sent
-ServedBy Sends sent (Err (why.Primary e)) = FailsAfter Sends sent
+ServedBy Sends sent (Err (why.Primary InternalError)) = FailsAfter Sends sent
 ServedBy Sends sent (Err why.LinkFault) = HasBegun Sends sent
 ServedBy Sends sent (Err why.Memory) = HasBegun Sends sent
 ServedBy Sends sent (Err _) = ⊥
@@ -59,7 +60,7 @@ ServedBy Sends sent (Err _) = ⊥
 -- One case for each answer of a call that sends items: all messages, those in front of an error, or a first part.
 abbrev pub SentOf : List Sending → List (List ℕ) → Result (Unit {0}) SyncError → Type 0
 SentOf items sent (Ok u) = sent_by items ≡ record { messages = sent; fails = false }
-SentOf items sent (Err (why.Primary e)) = sent_by items ≡ record { messages = sent; fails = true }
+SentOf items sent (Err (why.Primary InternalError)) = sent_by items ≡ record { messages = sent; fails = true }
 SentOf items sent (Err why.LinkFault) = IsFront items sent
 SentOf items sent (Err why.Memory) = IsFront items sent
 SentOf items sent (Err _) = ⊥

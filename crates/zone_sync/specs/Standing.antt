@@ -1,5 +1,5 @@
 -- What a client of a transfer stands for: the replies that it has taken, one fact for each thing that it keeps.
-use Rattle.std.specs.Prelude.{◌≡◌, ℕ, Bool, true, false, List, [], ◌∷◌, ◌++◌, Option, Some, None, Result, Ok, Err}
+use Rattle.std.specs.Prelude.{◌≡◌, ◌⊎◌, ℕ, Bool, true, false, List, [], ◌∷◌, ◌++◌, Option, Some, None, Result, Ok, Err}
 use Rattle.std.specs.List.{list_all}
 use Rattle.tsig_port.specs.Tsig.{TsigKey}
 use Rattle.tsig_port.specs.Checked.{passing, first_fault}
@@ -8,14 +8,14 @@ use Rattle.tsig_port.specs.declared.errors.ValidationError.{ValidationError}
 use Rattle.zone_model.specs.Commits.{Commit}
 use Rattle.zone_model.specs.Session.{Session}
 use Rattle.zone_model.specs.Updates.{Update, Progress}
-use Rattle.zone_model.specs.TransferText.{Mode}
-use Rattle.xfr_model.specs.Machine.{Place, AtStart, InWhole}
-use Rattle.xfr_course.specs.Outcome.{Outcome, Updated, UpToDate, Ended, Tsig, Short}
+use Rattle.zone_model.specs.TransferText.{Mode, Axfr, Ixfr}
+use Rattle.xfr_model.specs.Machine.{Place, AtStart, InWhole, InDeletes, InAdds}
+use Rattle.xfr_course.specs.Outcome.{Outcome, Ended}
 use Rattle.xfr_course.specs.Client.{run_message}
 use Rattle.xfr_course.specs.Courses.{has_header}
-use Rattle.zone_sync.specs.SoFar.{Asking, asked_mac, asked_id, asked_question, asked_course, checked_so_far, fault_so_far, client_so_far}
+use Rattle.zone_sync.specs.SoFar.{Asking, asked_mac, asked_id, asked_question, asked_serial, asked_course, checked_so_far, fault_so_far, client_so_far}
 use Rattle.zone_sync.specs.Steps.{HasMade, Ahead, RanOut}
-use Rattle.zone_sync.specs.Ending.{outcome_of}
+use Rattle.zone_sync.specs.Ending.{answer_of}
 use Rattle.zone_sync.specs.declared.client.Exchange.{Exchange}
 use Rattle.zone_sync.specs.declared.outcome.SyncOk.{SyncOk}
 use Rattle.zone_sync.specs.declared.outcome.SyncError.{SyncError}
@@ -38,11 +38,13 @@ pub record Passed (fault : List (List ℕ) → List ℕ → Option ValidationErr
   pub faults : (more : List (List ℕ)) → first_fault fault [] (taken ++ more) ≡ first_fault fault taken more
   pub headed : list_all has_header taken ≡ true
 
--- where a whole transfer stands before its first message, and after it
-abbrev pub IsUnderWay : Bool → Place → Type 0
-IsUnderWay false AtStart = Unit {0}
-IsUnderWay true (InWhole first) = Unit {0}
-IsUnderWay _ _ = ⊥
+-- where a transfer stands before its first message, and between messages: in a whole text, or in a batch
+abbrev pub IsUnderWay : Mode → Bool → Place → Type 0
+IsUnderWay mode false AtStart = Unit {0}
+IsUnderWay mode true (InWhole first) = Unit {0}
+IsUnderWay Ixfr true (InDeletes first) = Unit {0}
+IsUnderWay Ixfr true (InAdds first) = Unit {0}
+IsUnderWay mode begun place = ⊥
 
 -- an exchange stands for the replies taken so far: signatures, place in the text, and updates done
 pub record ExchangeStands (e : Exchange) (s : Session) (a : Asking) (taken : List (List ℕ)) (before handles : List Commit) : Type 0 where
@@ -50,8 +52,9 @@ pub record ExchangeStands (e : Exchange) (s : Session) (a : Asking) (taken : Lis
   pub sequence : ClientStands (λ k. k) e.sequence (asked_mac a) taken
   pub id : e.id ≡ asked_id a
   pub question : e.question ≡ asked_question a
+  pub serial : e.serial ≡ asked_serial a
   pub interpreter : e.interpreter ≡ record { begun = (client_so_far a taken).begun; place = (client_so_far a taken).place; signalled = false }
-  pub under_way : IsUnderWay (client_so_far a taken).begun (client_so_far a taken).place
+  pub under_way : IsUnderWay a.mode (client_so_far a taken).begun (client_so_far a taken).place
   pub unmet : (client_so_far a taken).met ≡ None
   pub ahead : Ahead a.base before e.updater s handles (client_so_far a taken).progress
   pub passed : Passed (fault_so_far a) taken
@@ -63,6 +66,14 @@ pub record Stands (c : ClientState) (s : Session) (a : Asking) (taken : List (Li
   pub under_way : c.exchange ≡ Some exchange
   pub stands : ExchangeStands exchange s a taken before handles
 
+-- after these replies the client is in a whole text: where the whole zone is asked for it always is between them
+abbrev pub IsInWhole : Place → Type 0
+IsInWhole (InWhole first) = Unit {0}
+IsInWhole place = ⊥
+
+abbrev pub ReadsWhole : Asking → List (List ℕ) → Type 0
+ReadsWhole a taken = (a.mode ≡ Axfr) ⊎ IsInWhole (client_so_far a taken).place
+
 -- One reply more.
 
 -- nothing is pending, and the handles are those of versions committed since the request
@@ -70,11 +81,13 @@ pub record Settled (a : Asking) (s : Session) (before handles : List Commit) (ta
   pub made : HasMade a.base before s handles (client_so_far a taken).progress.committed
   pub pending : s.pending ≡ s.current.version
 
--- a reply that passed the tests, and meets an outcome
-pub record Meets (a : Asking) (taken : List (List ℕ)) (m : List ℕ) (o : Outcome) : Type 0 where
+-- a reply that passed the tests, and meets the outcome that is answered so
+pub record Meets (a : Asking) (taken : List (List ℕ)) (m : List ℕ) (answer : Result SyncOk SyncError) : Type 0 where
+  pub outcome : Outcome
+  pub answers : answer ≡ answer_of outcome
   pub headed : has_header m ≡ true
   pub sound : fault_so_far a taken m ≡ None
-  pub met : (client_so_far a (taken ++ m ∷ [])).met ≡ Some o
+  pub met : (client_so_far a (taken ++ m ∷ [])).met ≡ Some outcome
 
 -- a reply whose updates were begun when memory ran out
 pub record RunsOut (a : Asking) (s : Session) (before handles : List Commit) (taken : List (List ℕ)) (m : List ℕ) : Type 0 where
@@ -87,10 +100,10 @@ abbrev pub RefusesReply : Asking → Session → List Commit → List Commit →
 RefusesReply a s before handles taken m (why.Short e) = (has_header m ≡ false) × Settled a s before handles taken
 RefusesReply a s before handles taken m (why.Tsig e) = (has_header m ≡ true) × (fault_so_far a taken m ≡ Some e) × Settled a s before handles taken
 RefusesReply a s before handles taken m why.Memory = RunsOut a s before handles taken m × (s.pending ≡ s.current.version)
-RefusesReply a s before handles taken m e = ((o : Outcome) × ((outcome_of (Err e) ≡ Some o) × Meets a taken m o)) × Settled a s before handles (taken ++ m ∷ [])
+RefusesReply a s before handles taken m e = Meets a taken m (Err e) × Settled a s before handles (taken ++ m ∷ [])
 
 -- what becomes of a reply
 abbrev pub TakesReply : Asking → ClientState → Session → List Commit → List Commit → List (List ℕ) → List ℕ → Result (Option SyncOk) SyncError → Type 0
 TakesReply a c s before handles taken m (Ok None) = Stands c s a (taken ++ m ∷ []) before handles
-TakesReply a c s before handles taken m (Ok (Some done)) = ((o : Outcome) × ((outcome_of (Ok done) ≡ Some o) × Meets a taken m o)) × Settled a s before handles (taken ++ m ∷ [])
+TakesReply a c s before handles taken m (Ok (Some done)) = Meets a taken m (Ok done) × Settled a s before handles (taken ++ m ∷ [])
 TakesReply a c s before handles taken m (Err e) = RefusesReply a s before handles taken m e

@@ -1,5 +1,5 @@
 -- How far single updates have led: an updater, its session, and the handles made (RFC 5936, 6).
-use Rattle.std.specs.Prelude.{◌≡◌, ℕ, ◌+◌, ◌-◌, ◌<◌, ◌≤◌, ◌^◌, false, List, [], ◌∷◌, ◌++◌, length, Option, Some, None, Result, Ok, Err, ◌⊎◌}
+use Rattle.std.specs.Prelude.{◌≡◌, ℕ, ◌+◌, ◌-◌, ◌<◌, ◌≤◌, ◌^◌, Bool, true, false, List, [], ◌∷◌, ◌++◌, length, Option, Some, None, Result, Ok, Err, ◌⊎◌}
 use Rattle.zone_model.specs.Version.{Version}
 use Rattle.zone_model.specs.Commits.{Commit}
 use Rattle.zone_model.specs.Session.{Session, commits_after}
@@ -10,9 +10,7 @@ use Rattle.xfr_client.specs.Updating.{Updating, progress_of}
 use Rattle.xfr_client.specs.Rest.{Rest}
 use Rattle.xfr_client.specs.declared.update.Error.{Error}
 use Rattle.xfr_client.specs.declared.update.Error.TheVariants as errors
-use Rattle.xfr_course.specs.Outcome.{Outcome, Reading}
-use Rattle.xfr_course.specs.Client.{halt_outcome}
-use Rattle.zone_sync.specs.Ending.{refusal_outcome, update_outcome}
+use Rattle.zone_sync.specs.Ending.{halt_error, ending_error}
 use Rattle.zone_sync.specs.declared.outcome.SyncError.{SyncError}
 use Rattle.zone_sync.specs.declared.outcome.SyncError.TheVariants.{Memory}
 
@@ -53,7 +51,7 @@ pub record DoesOne (base : Commit) (before : List Commit) (u : Updating) (s : Se
 pub record HaltsOne (base : Commit) (g : Progress) (update : Update) (e : Error) : Type 0 where
   pub halt : Halt
   pub halts : within (numbers_left base) (apply_update g update) ≡ Err halt
-  pub why : update_outcome e ≡ Some (halt_outcome halt)
+  pub why : e ≡ halt_error halt
 
 abbrev pub TakesOne : Commit → List Commit → Updating → Session → List Commit → Progress → Update → Result (Unit {0}) Error → Type 0
 TakesOne base before u s handles g update (Ok x) = DoesOne base before u s handles g update
@@ -65,19 +63,23 @@ pub record Led (limit : ℕ) (g : Progress) (all : List Update) (p : Progress) (
   pub joined : all ≡ done ++ left
   pub led : apply_within limit g done ≡ record { progress = p; halt = None }
 
--- so far in a message: the updates done, and those that are left with their fault
+-- so far in a message: the updates done, and those that are left with their fault and the retry signal
 pub record LedOn (base : Commit) (before : List Commit) (u : Updating) (s : Session) (handles : List Commit) (g : Progress) (all left : Rest) : Type 0 where
   pub progress : Progress
   pub led : Led (numbers_left base) g all.run.updates progress left.run.updates
   pub fault : all.run.fault ≡ left.run.fault
-  pub no_retry : left.retry ≡ false
+  pub retry : all.retry ≡ left.retry
   pub ahead : Ahead base before u s handles progress
 
--- what ends a message's updates early: an update that isn't done, or a fault after them all
-abbrev pub IsCause : Option Halt → Option Fault → SyncError → Type 0
-IsCause (Some h) f e = refusal_outcome e ≡ Some (halt_outcome h)
-IsCause None (Some f) e = refusal_outcome e ≡ Some (Reading f)
-IsCause None None e = ⊥
+-- what ends a message's updates early: an update that isn't done, a fault after them all, or else the retry signal
+abbrev pub EndsEarly : Option Halt → Option Fault → Bool → Type 0
+EndsEarly (Some h) f retry = Unit {0}
+EndsEarly None (Some f) retry = Unit {0}
+EndsEarly None None retry = retry ≡ true
+
+-- .. and by what
+abbrev pub IsCause : Option Halt → Option Fault → Bool → SyncError → Type 0
+IsCause h f retry e = EndsEarly h f retry × (e ≡ ending_error h f)
 
 -- want of memory: some updates were done, and no more
 pub record RanOut (base : Commit) (before : List Commit) (s : Session) (handles : List Commit) (g : Progress) (all : List Update) : Type 0 where
@@ -86,10 +88,10 @@ pub record RanOut (base : Commit) (before : List Commit) (s : Session) (handles 
   pub led : Led (numbers_left base) g all progress left
   pub made : HasMade base before s handles progress.committed
 
--- all updates of a message, and its fault
+-- all updates of a message, and what ends them early
 abbrev pub TakesAll : Commit → List Commit → Updating → Session → List Commit → Progress → Rest → Result (Unit {0}) SyncError → Type 0
 TakesAll base before u s handles g rest (Ok x) =
-    ((apply_within (numbers_left base) g rest.run.updates).halt ≡ None) × (rest.run.fault ≡ None) × Ahead base before u s handles (apply_within (numbers_left base) g rest.run.updates).progress
+    ((apply_within (numbers_left base) g rest.run.updates).halt ≡ None) × (rest.run.fault ≡ None) × (rest.retry ≡ false) × Ahead base before u s handles (apply_within (numbers_left base) g rest.run.updates).progress
 TakesAll base before u s handles g rest (Err e) =
     ((e ≡ Memory) × RanOut base before s handles g rest.run.updates)
-    ⊎ (HasMade base before s handles (apply_within (numbers_left base) g rest.run.updates).progress.committed × IsCause (apply_within (numbers_left base) g rest.run.updates).halt rest.run.fault e)
+    ⊎ (HasMade base before s handles (apply_within (numbers_left base) g rest.run.updates).progress.committed × IsCause (apply_within (numbers_left base) g rest.run.updates).halt rest.run.fault rest.retry e)

@@ -1,7 +1,6 @@
 -- A transfer whole: what it commits and answers, whatever octets the link hands back (RFC 5936, 6; RFC 8945, 5.3).
 use Rattle.std.specs.Prelude.{◌≡◌, ℕ, ◌<◌, ◌⊎◌, true, false, List, [], ◌∷◌, ◌++◌, Option, Some, None, Result, Ok, Err, length, min}
 use Rattle.std.specs.List.{list_all}
-use Rattle.dns_wire.specs.declared.builder.PushError.{PushError}
 use Rattle.dns_wire.specs.declared.builder.PushError.TheVariants.{ShortBuf}
 use Rattle.dns_message.specs.declared.message.ShortMessage.{ShortMessage}
 use Rattle.xfr_course.specs.Courses.{has_header}
@@ -9,11 +8,11 @@ use Rattle.zone_sync.specs.Standing.{ClientState, Stands}
 use Rattle.zone_model.specs.Version.{Version}
 use Rattle.zone_model.specs.Commits.{Commit}
 use Rattle.zone_model.specs.Session.{Session}
-use Rattle.xfr_course.specs.Outcome.{Outcome, LinkFault, Ended, Short, Primary, RequestTooLong, Course, made, outcome}
+use Rattle.xfr_course.specs.Outcome.{Outcome, NoSoa, LinkFault, Ended, Short, Primary, RequestTooLong, Course, made, outcome}
 use Rattle.xfr_course.specs.Client.{IsPart}
-use Rattle.zone_sync.specs.SoFar.{Asking, asked_octets, course_so_far}
+use Rattle.zone_sync.specs.SoFar.{Asking, asked_octets, lacks_soa, CanAsk, course_so_far}
 use Rattle.zone_sync.specs.Steps.{HasMade}
-use Rattle.zone_sync.specs.Ending.{outcome_of}
+use Rattle.zone_sync.specs.Ending.{answer_of}
 use Rattle.zone_devices.specs.Links.{LinkLists, LinkWentOn}
 use Rattle.zone_sync.specs.Serving.{ServedBy, SentOf, IsServed}
 use Rattle.xfr_server.specs.Items.{Sending, sent_by}
@@ -23,6 +22,7 @@ use Rattle.zone_sync.specs.declared.outcome.SyncError.TheVariants as why
 
 -- what came in place of a further reply: the request wasn't made, the link or the primary failed, a message was no message; else the link ended
 abbrev pub given_up : Result SyncOk SyncError → Outcome
+given_up (Err why.NoSoa) = NoSoa
 given_up (Err (why.Request e)) = RequestTooLong
 given_up (Err why.LinkFault) = LinkFault
 given_up (Err (why.Short e)) = Short
@@ -38,10 +38,9 @@ abbrev pub AreSpelt : Course → Result SyncOk SyncError → List Version → Ty
 AreSpelt c (Err why.Memory) versions = IsPart versions (made c)
 AreSpelt c answer versions = versions ≡ made c
 
--- the outcome of the course is the answer, unless memory ran out
+-- memory ran out, or the answer is the one of the course's outcome
 abbrev pub AnswersCourse : Course → Result SyncOk SyncError → Type 0
-AnswersCourse c (Err why.Memory) = Unit {0}
-AnswersCourse c answer = outcome_of answer ≡ Some (outcome c)
+AnswersCourse c answer = (answer ≡ Err why.Memory) ⊎ (answer ≡ answer_of (outcome c))
 
 -- What a transfer does, of which the link handed these replies: it commits exactly the versions that the checked text spells, in order, gives a handle of
 -- each, and answers the outcome.
@@ -94,6 +93,7 @@ pub record SentSoFar (items : List Sending) (Left : List Sending → Type 0) (ol
 
 -- no answer of a reply is one that comes before it
 abbrev pub ComesLater : Result SyncOk SyncError → Type 0
+ComesLater (Err why.NoSoa) = ⊥
 ComesLater (Err (why.Request e)) = ⊥
 ComesLater (Err (why.Primary e)) = ⊥
 ComesLater answer = Unit {0}
@@ -114,12 +114,26 @@ pub record TakenSoFar (a : Asking) (old new : Option LinkLists) (c : ClientState
   pub link : LinkWentOn old new [] [] [] taken
   pub stands : Stands c s a taken before handles
 
--- the answers of a transfer without a request: it can't be made, or the link refuses it
-abbrev pub ComesBefore : Result SyncOk SyncError → Type 0
-ComesBefore (Err (why.Request e)) = Unit {0}
-ComesBefore (Err why.LinkFault) = Unit {0}
-ComesBefore (Err why.Memory) = Unit {0}
-ComesBefore answer = ⊥
+-- why no request came to the link, by the answer: it can't be made; or it can, and the link refuses it
+abbrev pub NotAsked : Asking → ℕ → Result SyncOk SyncError → Type 0
+NotAsked a longest (Err why.NoSoa) = lacks_soa a ≡ true
+NotAsked a longest (Err (why.Request ShortBuf)) = (lacks_soa a ≡ false) × (min longest 65535 < length (asked_octets a))
+NotAsked a longest (Err why.LinkFault) = CanAsk a longest
+NotAsked a longest (Err why.Memory) = Unit {0}
+NotAsked a longest answer = ⊥
+
+-- no answer after that says that the request can't be made
+abbrev pub ComesAfter : Result SyncOk SyncError → Type 0
+ComesAfter (Err why.NoSoa) = ⊥
+ComesAfter (Err (why.Request e)) = ⊥
+ComesAfter answer = Unit {0}
+
+-- The request: the link was given it, signed, since it can be made; or nothing, and the answer says why. So an answer other than want of memory is
+-- `NoSoa` exactly where an SOA lacks, and else `Request(ShortBuf)` exactly where the request is too long.
+abbrev pub Asks : Asking → ℕ → List (List ℕ) → List (List ℕ) → Result SyncOk SyncError → Type 0
+Asks a longest asked heard answer =
+    (CanAsk a longest × ComesAfter answer × (asked ≡ asked_octets a ∷ []))
+    ⊎ (NotAsked a longest answer × (asked ≡ []) × (heard ≡ []))
 
 -- What passed and what was done, from the request on, where a primary sends so.
 pub record SyncSays (Sends : List ℕ → Option (List Sending) → Type 0) (a : Asking) (longest : ℕ) (old new : Option LinkLists) (before handles : List Commit) (s : Session) (answer : Result SyncOk SyncError) : Type 0 where
@@ -128,12 +142,11 @@ pub record SyncSays (Sends : List ℕ → Option (List Sending) → Type 0) (a :
   pub sent : List (List ℕ)
   pub replies : List (List ℕ)
   pub link : LinkWentOn old new asked heard sent replies
-  -- the one request is the secondary's, signed
-  pub request : (asked ≡ asked_octets a ∷ []) ⊎ (ComesBefore answer × (asked ≡ []) × (heard ≡ []))
+  -- the one request is the secondary's, or there is none
+  pub request : Asks a longest asked heard answer
   -- what it sent is the primary's answer to the request that it heard
   pub served : IsServed Sends heard sent replies answer
   pub transfers : Transfers a replies before handles s answer
   -- the causes of what comes in place of a reply
-  pub too_long : (e : PushError) → answer ≡ Err (why.Request e) → (e ≡ ShortBuf) × (min longest 65535 < length (asked_octets a))
   pub short : (e : ShortMessage) → answer ≡ Err (why.Short e) → (HasShort heard × (sent ≡ [])) ⊎ HasShort replies
   pub ended : answer ≡ Err why.Ended → IsEnded heard new

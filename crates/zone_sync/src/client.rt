@@ -1,49 +1,39 @@
 //! The secondary's half of a transfer.
-ghost use Rattle.std.specs.Prelude.{◌≡◌, ◌≢◌, ◌≤◌, ◌<◌, ◌⊎◌, [], ℕ, Bool, false, List, min, length, IsSome, IfOk, IfErr, OnOk, OnErr, is_some, Some, None};
+ghost use Rattle.std.specs.Prelude.{◌≡◌, ◌≢◌, ◌<◌, ◌⊎◌, [], ◌∷◌, ◌++◌, ℕ, Bool, false, List, IsSome, IfOk, IfErr, OnOk, OnErr, is_some, option_map, Some, None};
+ghost use Rattle.dns_rdata.specs.Soa.{serial_of};
 ghost use Rattle.dns_wire.specs.Wire.{message_wire, same_question};
 ghost use Rattle.tsig_port.specs.States.{ClientStands};
 ghost use Rattle.zone_model.specs.Commits.{Commit};
 ghost use Rattle.zone_model.specs.Session.{rolled_back};
-ghost use Rattle.zone_model.specs.TransferText.{Axfr};
+ghost use Rattle.zone_model.specs.Version.{apex_soa};
+ghost use Rattle.zone_model.specs.Answer.{apex_soa_record};
 ghost use Rattle.xfr_model.specs.Messages.{ReadMessage, type_of, message_of};
 ghost use Rattle.xfr_model.specs.Machine.{Place};
 ghost use Rattle.zone_model.specs.Updates.{Progress};
 ghost use Rattle.xfr_client.specs.Causes.{update_of};
+ghost use Rattle.xfr_client.specs.Places.{first_serial};
 ghost use Rattle.zone_sync.specs.Modes.{mode_of};
-ghost use Rattle.zone_sync.specs.SoFar.{Asking, asked_octets, asked_mac, asked_id, asked_question, message_so_far, asking, asks_other, IsTooLong};
-ghost use Rattle.zone_sync.specs.Standing.{asking_of, Stands, TakesReply, ExchangeStands, IsUnderWay};
+ghost use Rattle.zone_sync.specs.SoFar.{Asking, asked_octets, asked_mac, asked_id, asked_question, authority_of, message_so_far, asking, asks_other, AsksWith, CanAsk, CantAsk, IsTooLong, PushesFirst};
+ghost use Rattle.zone_sync.specs.Ending.{same_serial, settled};
+ghost use Rattle.zone_sync.specs.Standing.{asking_of, Stands, TakesReply, ExchangeStands, IsUnderWay, ReadsWhole};
 ghost use Rattle.zone_sync.specs.Replies.{AnswersReply, AnswersRequest, IsAnswerTo, TestsReply, TakesMessage};
 ghost use Rattle.zone_sync.specs.Steps.{Ahead, KeepsWish, StaysStill, TakesOne, TakesAll};
 
 use crate::outcome::{SyncError, SyncOk};
-use dns_name::{KeyName, Labelled, ParsedName, Rtype, ToName};
-use dns_rdata::ReadRecord;
-use dns_wire::{AdditionalBuilder, Header, MessageBuf, MessageBuilder, PushError, Question};
+use dns_name::{KeyName, Labelled, ParsedName, Rtype, Serial, ToName};
+use dns_rdata::{ReadRecord, Record};
+use dns_wire::{
+    AdditionalBuilder, AuthorityBuilder, Header, MessageBuf, MessageBuilder, PushError, Question,
+};
 use std::alloc::Global;
 use std::marker::Model;
 use tsig_port::{ClientSequence, Key, Time48};
 use xfr_client::{
     XfrResponseInterpreter, XfrZoneUpdateIterator, ZoneUpdate, ZoneUpdater, protocol, update,
 };
+use xfr_services::XfrMode;
+use zone_diffs::serial_of;
 use zone_sessions::{ReadZone, WriteZone};
-
-/// What is asked for.
-#[derive(Clone, Copy, Debug, PartialEq, Eq)]
-pub enum XfrMode {
-    /// The whole zone (RFC 5936).
-    Axfr,
-}
-
-impl XfrMode {
-    /// The type of the question that asks for it.
-    fn qtype(self) -> Rtype
-        ensures { result ≡ type_of (mode_of self) }
-    {
-        match self {
-            XfrMode::Axfr => Rtype::AXFR,
-        }
-    }
-}
 
 /// A request that was made, and how far its replies have led.
 #[derive(Drop)]
@@ -51,6 +41,8 @@ pub(crate) struct Exchange {
     sequence: ClientSequence<Key>,
     id: u16,
     question: Question<KeyName>,
+    // The serial that was asked with, for what is newer.
+    serial: Option<Serial>,
     interpreter: XfrResponseInterpreter,
     updater: ZoneUpdater,
 }
@@ -96,17 +88,18 @@ impl XfrClient {
         self.exchange.is_some()
     }
 
-    /// Drops what is pending, and makes the signed request: the id is the low 16 bits of the moment, all flags are 0, and the
-    /// question is the zone's apex (RFC 5936, 2.1). `Request(ShortBuf)` where it has more octets than these or than a message.
+    /// Drops what is pending, and makes the signed request: the id is the low 16 bits of the moment, all flags are 0, the question
+    /// is the zone's apex (RFC 5936, 2.1), and for what is newer the first apex SOA record is its authority (RFC 1995, 3). `NoSoa`
+    /// where there is none then; `Request(ShortBuf)` where it has more octets than these or than a message.
     pub fn request(
         &mut self,
         session: &mut WriteZone<'_>,
         max_len: usize,
     ) -> Result<MessageBuf, SyncError>
-        ensures ok { IfOk result (λ m. (m ≡ asked_octets (asking_of self.old session.old.current)) × (length m ≤ min max_len 65535)) }
+        ensures ok { IfOk result (λ m. (m ≡ asked_octets (asking_of self.old session.old.current)) × CanAsk (asking_of self.old session.old.current) max_len) }
         // The client stands for no reply yet.
         ensures begun { OnOk result ((handles : List Commit) → Stands self.new session.new (asking_of self.old session.old.current) [] handles handles) }
-        ensures refused { IfErr result (λ e. IsTooLong (min max_len 65535) (asked_octets (asking_of self.old session.old.current)) e) }
+        ensures refused { IfErr result (λ e. CantAsk (asking_of self.old session.old.current) max_len e) }
         // Nothing is pending, and the current version stays.
         ensures session { session.new ≡ record (rolled_back session.old) { has_handle = session.new.has_handle } }
         ensures closed { OnErr result (self.new.exchange ≡ None) }
@@ -117,9 +110,10 @@ impl XfrClient {
         let zone = session.handle()?;
         // For the proof: a version's number has 64 bits.
         let _number = zone.version_number();
+        let serial = asked_with(self.mode, &zone)?;
         let question = self.question_of(&zone);
         let id = (u64::from(self.at) % 65_536) as u16;
-        let mut items = ask(self.alloc, id, &question)?;
+        let mut items = ask(self.alloc, id, &question, self.mode, &zone)?;
         let sequence = ClientSequence::request(self.key.duplicate(), &mut items, self.at)?;
         let message = items.finish();
         if message.as_slice().len() > max_len {
@@ -129,6 +123,7 @@ impl XfrClient {
             sequence,
             id,
             question,
+            serial,
             interpreter: XfrResponseInterpreter::new(),
             updater: ZoneUpdater::new(self.alloc),
         });
@@ -141,7 +136,7 @@ impl XfrClient {
     {
         Question::new(
             zone.apex_name().to_key_name(),
-            self.mode.qtype(),
+            self.mode.rtype(),
             zone.class(),
         )
     }
@@ -167,9 +162,9 @@ impl XfrClient {
         ensures wish { result ≢ Ok None → session.new.compares ≡ false }
         // In between one is wanted as before, where no version was committed ..
         ensures keeps { result ≡ Ok None → KeepsWish session.old session.new }
-        // .. and of the replies of a whole text none is before its end.
+        // .. and by a reply after which the client is in a whole text none was.
         ensures still { (base : Commit) (taken : List (List ℕ)) (before : List Commit) → result ≡ Ok None → Stands self.old session.old (asking_of self.old base) taken before made.old.items
-            → StaysStill session.old session.new }
+            → ReadsWhole (asking_of self.old base) (taken ++ octets.items ∷ []) → StaysStill session.old session.new }
     {
         let Some(mut exchange) = self.exchange.take() else {
             unreachable!()
@@ -201,17 +196,45 @@ impl Exchange {
         at: Time48,
         made: &mut Vec<ReadZone>,
     ) -> Result<Option<SyncOk>, SyncError>
-        ensures takes { (a : Asking) (taken : List (List ℕ)) (before : List Commit) → a.at ≡ at → a.mode ≡ Axfr → ExchangeStands self.old session.old a taken before made.old.items
+        ensures takes { (a : Asking) (taken : List (List ℕ)) (before : List Commit) → a.at ≡ at → ExchangeStands self.old session.old a taken before made.old.items
             → TakesMessage a self.new session.new before made.new.items taken octets.items result }
         ensures keeps { OnOk result (KeepsWish session.old session.new) }
     {
         let message = self.checked(octets, at)?;
         let updates = self.read(&message)?;
-        apply_all(rt, session, &mut self.updater, updates, made)?;
+        if let Err(error) = apply_all(rt, session, &mut self.updater, updates, made) {
+            return self.settle(error);
+        }
         if self.interpreter.is_finished() {
             Ok(Some(SyncOk::Updated))
         } else {
             Ok(None)
+        }
+    }
+
+    /// What ends a message's updates: an SOA alone whose serial is the one asked with says that nothing is newer (RFC 1995, 2).
+    fn settle(&self, error: SyncError) -> Result<Option<SyncOk>, SyncError>
+        ensures { result ≡ settled (first_serial self.now.interpreter.place) self.now.serial error }
+    {
+        match error {
+            SyncError::Iteration(protocol::IterationError::SingleSoaIxfrTcpRetrySignal) => {
+                if self.is_current() {
+                    Ok(Some(SyncOk::UpToDate))
+                } else {
+                    Err(error)
+                }
+            }
+            _ => Err(error),
+        }
+    }
+
+    /// Whether the first SOA that came has the serial that was asked with.
+    fn is_current(&self) -> bool
+        ensures { result ≡ same_serial (first_serial self.now.interpreter.place) self.now.serial }
+    {
+        match (self.interpreter.initial_serial(), self.serial) {
+            (Some(found), Some(asked)) => found == asked,
+            _ => false,
         }
     }
 
@@ -228,8 +251,8 @@ impl Exchange {
 
     /// What a checked reply says, where it answers the request and is one of a transfer.
     fn read<'m>(&mut self, message: &'m MessageBuf) -> Result<XfrZoneUpdateIterator<'m>, SyncError>
-        ensures tests { (a : Asking) (begun : Bool) (place : Place) → a.mode ≡ Axfr → self.old.id ≡ asked_id a → self.old.question ≡ asked_question a
-            → self.old.interpreter ≡ record { begun = begun; place = place; signalled = false } → IsUnderWay begun place
+        ensures tests { (a : Asking) (begun : Bool) (place : Place) → self.old.id ≡ asked_id a → self.old.question ≡ asked_question a
+            → self.old.interpreter ≡ record { begun = begun; place = place; signalled = false } → IsUnderWay a.mode begun place
             → TestsReply a begun place (message_so_far message.now) self.new.interpreter result }
         ensures others { self.new ≡ record self.old { interpreter = self.new.interpreter } }
     {
@@ -281,16 +304,76 @@ impl Exchange {
     }
 }
 
-/// The question of a request, unsigned yet.
-fn ask(alloc: Global, id: u16, question: &Question<KeyName>) -> Result<AdditionalBuilder, SyncError>
-    ensures ok { IfOk result (λ b. b ≡ record { octets = message_wire (asking id question.now); limit = 65535 }) }
-    ensures refused { IfErr result (λ e. IsTooLong 65535 (message_wire (asking id question.now)) e) }
+/// The serial to ask with: none for a whole zone; for what is newer that of the first apex SOA record, without which `NoSoa` (RFC 1995, 3).
+fn asked_with(mode: XfrMode, zone: &ReadZone) -> Result<Option<Serial>, SyncError>
+    ensures { AsksWith (mode_of mode) zone.now.version result }
+{
+    match mode {
+        XfrMode::Axfr => Ok(None),
+        XfrMode::Ixfr => match apex_serial(zone) {
+            Some(serial) => Ok(Some(serial)),
+            None => Err(SyncError::NoSoa),
+        },
+    }
+}
+
+/// The serial of the first apex SOA record, if there is one.
+fn apex_serial(zone: &ReadZone) -> Option<Serial>
+    ensures { result ≡ option_map serial_of (apex_soa zone.now.version) }
+{
+    let found = zone.rrset_at(zone.apex_name(), Rtype::SOA)?;
+    match found.items().first() {
+        Some(item) => Some(serial_of(item)),
+        None => None,
+    }
+}
+
+/// A request, unsigned yet: its question, and for what is newer the zone's first apex SOA record as authority.
+fn ask(
+    alloc: Global,
+    id: u16,
+    question: &Question<KeyName>,
+    mode: XfrMode,
+    zone: &ReadZone,
+) -> Result<AdditionalBuilder, SyncError>
+    ensures ok { IfOk result (λ b. b ≡ record { octets = message_wire (asking id question.now (authority_of (mode_of mode) zone.now.version)); limit = 65535 }) }
+    ensures refused { IfErr result (λ e. IsTooLong 65535 (message_wire (asking id question.now (authority_of (mode_of mode) zone.now.version))) e) }
 {
     let mut builder = MessageBuilder::new(alloc)?;
     builder.set_header(Header::new(id));
     let mut questions = builder.question();
     questions.push(question)?;
-    Ok(questions.answer().authority().additional())
+    let mut authority = questions.answer().authority();
+    push_authority(&mut authority, mode, zone)?;
+    Ok(authority.additional())
+}
+
+/// The authority of a request: for what is newer the first apex SOA record, if there is one (RFC 1995, 3).
+fn push_authority(
+    authority: &mut AuthorityBuilder,
+    mode: XfrMode,
+    zone: &ReadZone,
+) -> Result<(), PushError>
+    ensures { PushesFirst 8 (authority_of (mode_of mode) zone.now.version) authority.old result authority.new }
+{
+    match mode {
+        XfrMode::Axfr => Ok(()),
+        XfrMode::Ixfr => push_soa(authority, zone),
+    }
+}
+
+/// The first apex SOA record, if there is one.
+fn push_soa(authority: &mut AuthorityBuilder, zone: &ReadZone) -> Result<(), PushError>
+    ensures { PushesFirst 8 (apex_soa_record zone.now.version) authority.old result authority.new }
+{
+    let Some(found) = zone.rrset_at(zone.apex_name(), Rtype::SOA) else {
+        return Ok(());
+    };
+    let Some(rdata) = found.items().first() else {
+        return Ok(());
+    };
+    let owner = zone.apex_name().borrowed();
+    authority.push(&Record::new(owner, zone.class(), found.ttl(), rdata))
 }
 
 /// Applies the updates of one message in order, and adds a handle for each version that they commit.
@@ -301,7 +384,7 @@ fn apply_all<R>(
     mut updates: XfrZoneUpdateIterator<'_>,
     made: &mut Vec<ReadZone>,
 ) -> Result<(), SyncError>
-    ensures takes { (base : Commit) (before : List Commit) (g : Progress) → updates.entry.retry ≡ false → Ahead base before updater.old session.old made.old.items g
+    ensures takes { (base : Commit) (before : List Commit) (g : Progress) → Ahead base before updater.old session.old made.old.items g
         → TakesAll base before updater.new session.new made.new.items g updates.entry result }
     ensures keeps { OnOk result (KeepsWish session.old session.new) }
 {

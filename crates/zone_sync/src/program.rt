@@ -15,7 +15,6 @@ ghost use Rattle.tsig_port.specs.Tsig.{TsigKey};
 ghost use Rattle.zone_script.specs.ScriptReaders.{readers_so_far};
 ghost use Rattle.zone_script.specs.Words.{form_of, Transfer};
 
-use crate::client::XfrMode;
 use crate::laws::history_primaries_grant;
 use crate::outcome::{SyncError, SyncOk};
 use crate::report::report_octets;
@@ -26,6 +25,7 @@ use tsig_port::Key;
 use xfr_server::{
     HistoryProvider, PrimaryStack, RefuseSvc, Service, TsigMiddlewareSvc, XfrMiddlewareSvc,
 };
+use xfr_services::XfrMode;
 use zone_devices::links::Link;
 use zone_devices::read_to_end::{MOST_OCTETS, ReadError, read_whole};
 use zone_devices::sinks::{Sink, write_all};

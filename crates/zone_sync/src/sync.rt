@@ -10,12 +10,13 @@ ghost use Rattle.xfr_server.specs.Items.{Sending};
 ghost use Rattle.zone_sync.specs.Serving.{request_at};
 ghost use Rattle.zone_sync.specs.Delivery.{Synchronizes};
 
-use crate::client::{XfrClient, XfrMode};
+use crate::client::XfrClient;
 use crate::outcome::{SyncError, SyncOk};
 use dns_wire::MessageBuf;
 use std::alloc::Global;
 use tsig_port::{Key, Time48};
 use xfr_server::{ReplyStream, Request, Service, TransportSpecificContext};
+use xfr_services::XfrMode;
 use zone_devices::links::Link;
 use zone_sessions::{ReadZone, WriteZone};
 
