@@ -6,6 +6,12 @@ mod client_example_tests;
 #[cfg(test)]
 mod common;
 #[cfg(test)]
+mod exchanges;
+#[cfg(test)]
+mod incremental_tests;
+#[cfg(test)]
+mod incremental_vectors;
+#[cfg(test)]
 mod provider_tests;
 #[cfg(test)]
 mod reply_vector_tests;
