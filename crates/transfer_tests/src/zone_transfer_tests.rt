@@ -169,7 +169,11 @@ fn push_reply(
 }
 
 /// One of them.
-pub(crate) fn reply(alloc: Global, id: u16, words: &str) -> Result<AdditionalBuilder, ServiceError> {
+pub(crate) fn reply(
+    alloc: Global,
+    id: u16,
+    words: &str,
+) -> Result<AdditionalBuilder, ServiceError> {
     let (question, answers) = match words.split_once(' ') {
         Some(parts) => parts,
         None => (words, ""),
