@@ -8,14 +8,13 @@ It needs dnspython, by Debian's package for Debian's own Python: apt-get update 
 What it prints is pasted into the constants of crates/transfer_tests/src/incremental_vectors.rt, whose names stand above their lines:
 
 RECORDS: in each line a word, and the record that it stands for, with its names written out.
-STREAMS: in each line a word, the request of one who has the serial 1, and the replies to it, with the names compressed, all signed by the key `key.`
-at the moment 1000.
-
 VERSIONS: in each line the records of a version, in the order of a walk (RFC 4034, 6.1).
+STREAMS: in each line a word, the request of one who has the serial 1, for what is newer or for the whole zone, and the replies to it, with the names
+compressed, all signed by the key `key.` at the moment 1000.
 
-The replies `steps` are the three differences of these versions in one message, `batches` the same with one difference a message, the later ones without a
-question, `whole` the last version, `equal`, `less` and `greater` one SOA. The records of `jain.ad.jp.` are the example of RFC 1995, 7, its letters in lower
-case; the owner has capitals where its word has.
+The records of `jain.ad.jp.` are the example of RFC 1995, 7, its letters in lower case; an owner has capitals where its word has. The replies `steps` are
+the three differences of the versions in one message, `batches` the same with one difference a message, the later ones without a question, `whole` the last
+version, `equal`, `less` and `greater` one SOA. Those behind are wrong in one way each, or nearly so.
 """
 
 from unittest import mock
@@ -23,7 +22,7 @@ from unittest import mock
 import dns.flags
 import dns.message
 import dns.name
-import dns.rdatatype
+import dns.rdata
 import dns.renderer
 import dns.rrset
 import dns.tsig
@@ -67,6 +66,9 @@ RECORDS = {
     "short-t-1": ("t.example.", 60, "A", "192.0.2.1"),
     "short-t-2": ("t.example.", 60, "A", "192.0.2.2"),
     "short-t-3": ("t.example.", 60, "A", "192.0.2.3"),
+    "outside": ("other.", 3600, "A", "192.0.2.7"),
+    "alias": ("y.example.", 3600, "CNAME", "a."),
+    "other-alias": ("y.example.", 3600, "CNAME", "b."),
 }
 for serial in range(5):
     RECORDS[f"soa-{serial}"] = ("example.", 3600, "SOA", f". . {serial} 0 0 0 0")
@@ -85,15 +87,36 @@ def difference(number):
 
 BATCHES = [difference(number) for number in range(3)]
 
-# The words of streams: each reply's records.
-STREAMS = {
+# The words of records whose data are damaged: those of another word without their last octet.
+DAMAGED = {"damaged-soa": "soa-2", "damaged-a": "a"}
+
+# The words of streams of replies to a request for what is newer: each reply's records.
+NEWER = {
     "steps": [["soa-4", *BATCHES[0], *BATCHES[1], *BATCHES[2], "soa-4"]],
     "batches": [["soa-4", *BATCHES[0]], BATCHES[1], [*BATCHES[2], "soa-4"]],
     "whole": [[*VERSIONS[3].split(), "soa-4"]],
     "equal": [["soa-1"]],
     "less": [["soa-0"]],
     "greater": [["soa-2"]],
+    "added-twice": ["soa-3 soa-1 soa-3 a a soa-3".split()],
+    "outside-the-zone": ["soa-3 soa-1 soa-2 a soa-2 soa-3 outside soa-3".split()],
+    "two-aliases": ["soa-3 soa-1 soa-2 a soa-2 soa-3 alias other-alias soa-3".split()],
 }
+
+# The same of replies to a request for the whole zone.
+WHOLE = {
+    "behind-the-end": ["soa-2 a soa-2 a".split()],
+    "equal-data": ["soa-2 a a soa-2".split()],
+    "nothing-between": ["soa-2 soa-2".split()],
+    "no-soa-first": ["a soa-2 soa-2".split()],
+    "first-damaged": ["damaged-soa a soa-2".split()],
+    "second-damaged": ["soa-2 damaged-a soa-2".split()],
+    "other-name": ["soa-2 a soa-2".split()],
+    "other-type": ["soa-2 a soa-2".split()],
+}
+
+# The questions of replies that have another one than their request.
+QUESTIONS = {"other-name": ("other.", "AXFR"), "other-type": ("example.", "A")}
 
 
 class Plain(dns.renderer.Renderer):
@@ -106,6 +129,10 @@ class Plain(dns.renderer.Renderer):
 
 def record(word):
     """The record of a word, as a set of its own, so that each stands where it is put."""
+    if word in DAMAGED:
+        whole = record(DAMAGED[word])
+        data = dns.rdata.GenericRdata(whole.rdclass, whole.rdtype, whole[0].to_wire()[:-1])
+        return dns.rrset.from_rdata(whole.name, whole.ttl, data)
     owner, ttl, rtype, data = RECORDS[word]
     return dns.rrset.from_text(dns.name.from_text(owner), ttl, "IN", rtype, data)
 
@@ -123,26 +150,29 @@ def signed(message, **kw):
         return message.to_wire(**kw)
 
 
-def asking():
+def asking(rtype):
     """The request of one who has the serial 1 (RFC 1995, 3)."""
-    asked = dns.message.make_query(APEX, dns.rdatatype.IXFR, flags=0)
+    asked = dns.message.make_query(APEX, rtype, flags=0)
     asked.id = ID
-    asked.authority = [record("soa-1")]
+    if rtype == "IXFR":
+        asked.authority = [record("soa-1")]
     asked.use_tsig(KEY, fudge=FUDGE)
     return asked
 
 
-def stream(replies):
+def stream(rtype, word, replies):
     """The request and the replies."""
     with mock.patch("dns.renderer.Renderer", Plain):
-        out = [signed(asking())]
+        out = [signed(asking(rtype))]
     with mock.patch("time.time", return_value=TIME):
         asked = dns.message.from_wire(out[0], keyring=KEY)
     made = None
     for number, words in enumerate(replies):
         reply = dns.message.make_response(asked)
         reply.flags |= dns.flags.AA
-        reply.answer = [record(word) for word in words]
+        reply.answer = [record(found) for found in words]
+        if word in QUESTIONS:
+            reply.question = dns.message.make_query(*QUESTIONS[word]).question
         if number > 0:
             reply.question = []
         out.append(signed(reply, multi=True, tsig_ctx=made))
@@ -158,8 +188,9 @@ def main():
     for words in VERSIONS:
         print(words)
     print("STREAMS")
-    for word, replies in STREAMS.items():
-        print(word, *(octets.hex() for octets in stream(replies)))
+    for rtype, streams in ("IXFR", NEWER), ("AXFR", WHOLE):
+        for word, replies in streams.items():
+            print(word, *(octets.hex() for octets in stream(rtype, word, replies)))
 
 
 if __name__ == "__main__":

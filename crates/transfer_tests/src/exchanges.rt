@@ -121,7 +121,7 @@ pub(crate) fn stack_of(provider: HistoryProvider, key: &Key) -> Primary {
     TsigMiddlewareSvc::new(transfers, key.duplicate())
 }
 
-/// A primary whose zone opened with the records of words, and the edits of whose commits have `|` between them.
+/// A primary whose zone opened with the records of words; its commits are two with `|` between their edits, one, or none.
 pub(crate) fn primary_of<R: Abort>(
     rt: &R,
     alloc: Global,
@@ -132,9 +132,15 @@ pub(crate) fn primary_of<R: Abort>(
     let mut zone = zone_of(rt, alloc, opening, 0);
     let mut session = zone.write(alloc);
     let mut provider = provider_of(rt, alloc, &mut session, key);
-    for edits in commits.split('|') {
-        if !edits.is_empty() {
-            push_edits(rt, alloc, &mut session, &mut provider, edits);
+    match commits.split_once('|') {
+        Some((first, second)) => {
+            push_edits(rt, alloc, &mut session, &mut provider, first);
+            push_edits(rt, alloc, &mut session, &mut provider, second);
+        }
+        None => {
+            if !commits.is_empty() {
+                push_edits(rt, alloc, &mut session, &mut provider, commits);
+            }
         }
     }
     drop(session);

@@ -355,7 +355,9 @@ pub(crate) fn txt<R: Abort>(rt: &R, alloc: Global) -> Vec<u8> {
 }
 
 /// Adds a record.
-pub(crate) fn add<R: Abort>(rt: &R, session: &mut WriteZone<'_>, octets: Vec<u8>) {
+pub(crate) fn add<R: Abort>(rt: &R, session: &mut WriteZone<'_>, octets: Vec<u8>)
+    ensures { session.new.current ≡ session.old.current }
+{
     let found = record_from_octets(octets.as_slice()).expect(rt, "a record");
     session.add_read(&found).expect(rt, "an edit");
     drop(found);
