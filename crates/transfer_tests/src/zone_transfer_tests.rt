@@ -31,6 +31,7 @@ other-class 076578616d706c650000fc0003
 version-0 76657273696f6e20303a
 version-1 76657273696f6e20313a
 version-2 76657273696f6e20323a
+version-3 76657273696f6e20333a
 soa 076578616d706c65000006000100000e10001600000000000100000000000000000000000000000000
 next-soa 076578616d706c65000006000100000e10001600000000000200000000000000000000000000000000
 first 04686f7374076578616d706c65000001000100000e100004c0000201
@@ -80,6 +81,26 @@ version-1 a ns md mf cname soa mb mg mr ptr minfo mx txt aaaa srv ds unknown
 one alias;asked soa alias soa;Ok(Updated);version-1 soa alias
 two aliases of a name (RFC 2181, 10.1);asked soa alias other-alias soa;Err(Update(InvalidData));";
 
+/// The same of a secondary that has the first SOA record and the first address as version 1, and asks for what is newer: its question has the type of
+/// `other-type` (RFC 1995).
+const NEWER: &str = "\
+the SOA that was asked with says that nothing is newer;other-type soa;Ok(UpToDate);
+another SOA alone is a retry signal;other-type next-soa;Err(Iteration(SingleSoaIxfrTcpRetrySignal));
+a difference, before which the version is published once more;other-type next-soa soa first next-soa second next-soa;\
+Ok(Updated);version-2 soa first version-3 next-soa second
+a difference in three messages;other-type next-soa soa|none first next-soa|none second next-soa;Ok(Updated);\
+version-2 soa first version-3 next-soa second
+a whole zone;other-type next-soa second next-soa;Ok(Updated);version-2 next-soa second
+an end in the middle of a batch;other-type next-soa soa first next-soa;Err(Ended);version-2 soa first
+a record to delete that isn't there;other-type next-soa soa second next-soa next-soa;Err(Update(IncompatibleUpdate));version-2 soa first
+a record to add that is there;other-type next-soa soa next-soa first next-soa;Err(Update(IncompatibleUpdate));version-2 soa first
+a record behind the end;other-type next-soa soa next-soa next-soa first;Err(Iteration(AlreadyFinished));\
+version-2 soa first version-3 next-soa first
+a question for the whole zone;asked soa;Err(OtherAnswer);";
+
+/// The number of the first of these cases.
+const FIRST_NEWER: usize = 32;
+
 /// A row of the cases.
 #[derive(Clone, Copy)]
 struct Case {
@@ -89,9 +110,18 @@ struct Case {
     committed: &'static str,
 }
 
-/// The case in the row of this number, from 0.
+/// The case of this number.
 fn case_at(number: usize) -> Option<Case> {
-    let row = CASES.split('\n').nth(number)?;
+    if number < FIRST_NEWER {
+        row_of(CASES, number)
+    } else {
+        row_of(NEWER, number - FIRST_NEWER)
+    }
+}
+
+/// The case in the row of this number, from 0.
+fn row_of(rows: &'static str, number: usize) -> Option<Case> {
+    let row = rows.split('\n').nth(number)?;
     let (title, row) = row.split_once(';')?;
     let (replies, row) = row.split_once(';')?;
     let (answer, committed) = row.split_once(';')?;
@@ -261,7 +291,7 @@ fn answer_to<R: Abort>(
 ) -> Result<SyncOk, SyncError> {
     let mut zone = empty_zone(rt, alloc);
     let mut session = zone.write(alloc);
-    let answer = answer_in(rt, alloc, case, max_len, &mut session, made);
+    let answer = answer_in(rt, alloc, case, XfrMode::Axfr, max_len, &mut session, made);
     drop(session);
     drop(zone);
     answer
@@ -272,6 +302,7 @@ fn answer_in<R: Abort>(
     rt: &R,
     alloc: Global,
     case: usize,
+    mode: XfrMode,
     max_len: usize,
     session: &mut WriteZone<'_>,
     made: &mut Vec<ReadZone>,
@@ -284,15 +315,7 @@ fn answer_in<R: Abort>(
         at_secondary: Time48::from_u64(1000),
     };
     let answer = sync_zone(
-        rt,
-        alloc,
-        &primary,
-        session,
-        &key,
-        XfrMode::Axfr,
-        &mut link,
-        moments,
-        made,
+        rt, alloc, &primary, session, &key, mode, &mut link, moments, made,
     );
     drop(link);
     drop(primary);
@@ -304,6 +327,48 @@ fn answer_in<R: Abort>(
 fn is_so<R: Abort>(rt: &R, alloc: Global, number: usize, case: Case) {
     let mut made = Vec::new(alloc);
     let answer = answer_to(rt, alloc, number, 65_535, &mut made);
+    says(rt, alloc, answer, made, case);
+}
+
+/// The same of a secondary that asks for what is newer.
+fn is_newer<R: Abort>(rt: &R, alloc: Global, number: usize, case: Case) {
+    let mut zone = empty_zone(rt, alloc);
+    let mut session = zone.write(alloc);
+    let mut first = Vec::new(alloc);
+    let filled = answer_in(
+        rt,
+        alloc,
+        2,
+        XfrMode::Axfr,
+        65_535,
+        &mut session,
+        &mut first,
+    );
+    drop(first);
+    is(rt, filled, Ok(SyncOk::Updated));
+    let mut made = Vec::new(alloc);
+    let answer = answer_in(
+        rt,
+        alloc,
+        number,
+        XfrMode::Ixfr,
+        65_535,
+        &mut session,
+        &mut made,
+    );
+    drop(session);
+    drop(zone);
+    says(rt, alloc, answer, made, case);
+}
+
+/// Asserts the answer and the versions of a case.
+fn says<R: Abort>(
+    rt: &R,
+    alloc: Global,
+    answer: Result<SyncOk, SyncError>,
+    made: Vec<ReadZone>,
+    case: Case,
+) {
     let answer = format!(in alloc; "{answer:?}").expect(rt, "memory");
     let told = answer.as_str();
     assert_eq!(rt; told, case.answer, "{}", case.title);
@@ -325,6 +390,40 @@ fn what_is_committed_and_answered(rt: HostRuntime) {
     }
     let no_more = case_at(19).is_none();
     assert!(rt; no_more);
+}
+
+#[test]
+fn what_is_committed_of_what_is_newer(rt: HostRuntime) {
+    for number in FIRST_NEWER..42usize {
+        let case = case_at(number).expect(&rt, "a case");
+        is_newer(&rt, rt.alloc(), number, case);
+    }
+    let no_more = case_at(42).is_none();
+    assert!(rt; no_more);
+}
+
+/// A zone without an SOA can't ask for what is newer, whatever the link has room for.
+#[test]
+fn nothing_to_ask_with(rt: HostRuntime) {
+    let alloc = rt.alloc();
+    let mut zone = empty_zone(&rt, alloc);
+    let mut session = zone.write(alloc);
+    let mut made = Vec::new(alloc);
+    let answer = answer_in(
+        &rt,
+        alloc,
+        FIRST_NEWER,
+        XfrMode::Ixfr,
+        0,
+        &mut session,
+        &mut made,
+    );
+    is(&rt, answer, Err(SyncError::NoSoa));
+    let count = made.len();
+    is(&rt, count, 0);
+    drop(made);
+    drop(session);
+    drop(zone);
 }
 
 /// A request of 101 octets over a link that takes 100 is too long, which isn't want of memory.
@@ -426,8 +525,8 @@ fn answers<R: Abort>(
     session: &mut WriteZone<'_>,
     made: &mut Vec<ReadZone>,
 ) -> Result<SyncOk, SyncError> {
-    match answer_in(rt, alloc, 0, 65_535, session, made) {
-        Ok(_) => answer_in(rt, alloc, 1, 65_535, session, made),
+    match answer_in(rt, alloc, 0, XfrMode::Axfr, 65_535, session, made) {
+        Ok(_) => answer_in(rt, alloc, 1, XfrMode::Axfr, 65_535, session, made),
         Err(error) => Err(error),
     }
 }

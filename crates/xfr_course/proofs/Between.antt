@@ -1,19 +1,19 @@
 -- Where a client that has met nothing stands between messages; no update of a next one comes out of turn.
-use Rattle.std.proofs.Common.{◌≡◌, ℕ, Bool, true, false, not, ◌&&◌, ◌==◌, if◌then◌else◌, List, [], ◌∷◌, ◌++◌, map, length, refl, sym, ap, ◌∙◌, subst, Option, Some, None, is_some, IsTrue}
+use Rattle.std.proofs.Common.{◌≡◌, ℕ, Bool, true, false, not, ◌&&◌, ◌==◌, if◌then◌else◌, List, [], ◌∷◌, ◌++◌, map, length, refl, sym, ap, ◌∙◌, subst, Option, Some, None}
 use Rattle.std.proofs.lemmas.Bool.{and_left}
 use Rattle.std.proofs.Math.Bool.{and-false}
 use Rattle.dns_rdata.specs.Records.{Record}
 use Rattle.dns_rdata.specs.Soa.{serial_of}
 use Rattle.dns_wire.specs.Wire.{Question}
 use Rattle.zone_model.specs.TransferText.{Mode, Axfr, Ixfr, is_soa, is_same_soa}
-use Rattle.zone_model.specs.Updates.{Update, DeleteAllRecords, DeleteRecord, AddRecord, BeginBatchDelete, BeginBatchAdd, Finished, UpdateFault}
+use Rattle.zone_model.specs.Updates.{DeleteAllRecords, DeleteRecord, AddRecord, BeginBatchDelete, BeginBatchAdd, Finished}
 use Rattle.xfr_model.specs.Messages.{ReadMessage}
 use Rattle.xfr_model.specs.Read.{Fault, NotValid, Malformed, OtherAnswer, Item, Good, Bad, record_item, items_unless, items_of, first_fault, is_other, is_transfer_head, asks_transfer, first_record_fault, message_fault, request_fault}
 use Rattle.xfr_model.specs.Machine.{Place, AtStart, AtSecond, InWhole, InDeletes, InAdds, AtEnd, is_at_end, Run, went, step, end_or_batch, run_items, signal_of}
-use Rattle.xfr_model.specs.Applying.{Halt, Denied, Held, apply_within, DeniedEdit}
+use Rattle.xfr_model.specs.Applying.{Halt, Held, apply_within}
 use Rattle.xfr_model.proofs.Readers.{run_reads, run-append, fault_is, ends}
 use Rattle.xfr_course.specs.Outcome.{Outcome, Checked, Course, room}
-use Rattle.xfr_course.specs.Client.{Client, new_client, met_after, client_after, run_message, take_checked, take_course, IsBetween, StandsBetween, BetweenMessages, UpdatesInTurn}
+use Rattle.xfr_course.specs.Client.{Client, new_client, met_after, run_message, take_checked, take_course, IsBetween, StandsBetween, BetweenMessages, UpdatesInTurn}
 use Rattle.xfr_course.proofs.Clients.{ask, held, client_with, held_denies, held_outcome, held_more, met_stays, next_client}
 
 -- ---- places
@@ -45,12 +45,12 @@ step_behind Axfr (InAdds s) r b = absurd b
 step_behind Ixfr (InAdds s) r b = elim (is_soa r) as (λ b. IsBehind (if b then end_or_batch s r else went (InAdds s) (AddRecord r ∷ [])).place Ixfr) [ true ↦ either_behind s r | false ↦ tt ]
 step_behind m AtEnd r b = tt
 
-run_behind : (m : Mode) (p : Place) (xs : List Item) → IsBehind p m → IsBehind (run_items m p xs).place m
+pub run_behind : (m : Mode) (p : Place) (xs : List Item) → IsBehind p m → IsBehind (run_items m p xs).place m
 run_behind m p [] b = b
 run_behind m p (Good r ∷ more) b = run_behind m (step m p r).place more (step_behind m p r b)
 run_behind m p (Bad f ∷ more) b = b
 
-way_behind : (p : Place) (m : Mode) → IsBehind p m → is_at_end p ≡ false → IsBetween true p m
+pub way_behind : (p : Place) (m : Mode) → IsBehind p m → is_at_end p ≡ false → IsBetween true p m
 way_behind AtStart m b e = absurd b
 way_behind (AtSecond s) m b e = absurd b
 way_behind (InWhole s) m b e = tt
@@ -63,7 +63,7 @@ way_behind AtEnd m b e = absurd (cc e)
 -- ---- the first message
 
 -- it begins with an SOA, where nothing refuses it
-abbrev BeginsSoa : List (Option Record) → Type 0
+abbrev pub BeginsSoa : List (Option Record) → Type 0
 BeginsSoa [] = ⊥
 BeginsSoa (None ∷ more) = ⊥
 BeginsSoa (Some s ∷ more) = is_soa s ≡ true
@@ -94,10 +94,10 @@ begins m answers e h = by answers e
     by (None ∷ more) e = absurd (cc (sym (ap first_record_fault e) ∙ first))
     by (Some s ∷ more) e = soa_first s (is_soa s) refl (sym (ap first_record_fault e) ∙ first)
 
-first_begins : (id : ℕ) (q : Question) (m : ReadMessage) → request_fault id q true m ≡ None → BeginsSoa m.answers
+pub first_begins : (id : ℕ) (q : Question) (m : ReadMessage) → request_fault id q true m ≡ None → BeginsSoa m.answers
 first_begins id q m h = begins m m.answers refl (judged (is_other id q m) (message_fault true m) OtherAnswer h).1
 
-answers_behind : (m : Mode) (answers : List (Option Record)) → BeginsSoa answers → (run_items m AtStart (map record_item answers)).fault ≡ None → signal_of false (run_items m AtStart (map record_item answers)) ≡ None
+pub answers_behind : (m : Mode) (answers : List (Option Record)) → BeginsSoa answers → (run_items m AtStart (map record_item answers)).fault ≡ None → signal_of false (run_items m AtStart (map record_item answers)) ≡ None
     → IsBehind (run_items m AtStart (map record_item answers)).place m
 answers_behind m [] b f n = absurd b
 answers_behind m (None ∷ more) b f n = absurd b
@@ -113,10 +113,10 @@ items_behind m None answers b h n = answers_behind m answers (b refl) h n
 
 -- ---- a client that stands for some items
 
-record Unmet (c : Course) (xs : List Item) : Type 0 where
-  halt : (held c xs).halt ≡ None
-  unended : ends c.mode xs ≡ false
-  sound : first_fault xs ≡ None
+pub record Unmet (c : Course) (xs : List Item) : Type 0 where
+  pub halt : (held c xs).halt ≡ None
+  pub unended : ends c.mode xs ≡ false
+  pub sound : first_fault xs ≡ None
 
 unmet : (c : Course) (xs : List Item) → (client_with c xs).met ≡ None → Unmet c xs
 unmet c xs none = by (held c xs).halt (run_items c.mode AtStart xs).fault (is_at_end (run_items c.mode AtStart xs).place) refl refl refl
@@ -130,11 +130,11 @@ unmet c xs none = by (held c xs).halt (run_items c.mode AtStart xs).fault (is_at
     by None None true i j k = absurd (cc (sym none ∙ ap (λ o. met_after c o a.fault None (is_at_end a.place)) i ∙ ap (λ o. met_after c None o None (is_at_end a.place)) j ∙ ap (λ b. met_after c None None None b) k))
     by None None false i j k = let u : ends c.mode xs ≡ false = sym (run_reads c.mode xs).ended ∙ k in record { halt = i; unended = u; sound = sym (fault_is c.mode xs u) ∙ j }
 
-record Standing (c : Course) (cl : Client) : Type 0 where
-  items : List Item
-  is : cl ≡ client_with c items
-  unmet : Unmet c items
-  behind : IsBehind (run_items c.mode AtStart items).place c.mode
+pub record Standing (c : Course) (cl : Client) : Type 0 where
+  pub items : List Item
+  pub is : cl ≡ client_with c items
+  pub unmet : Unmet c items
+  pub behind : IsBehind (run_items c.mode AtStart items).place c.mode
 
 stands_on : (c : Course) (ks : List Checked) (xs : List Item) → IsBehind (run_items c.mode AtStart xs).place c.mode → (take_course c (client_with c xs) ks).met ≡ None → Standing c (take_course c (client_with c xs) ks)
 stands_on c [] xs b none = record { items = xs; is = refl; unmet = unmet c xs none; behind = b }
@@ -178,7 +178,7 @@ first_taken c k none = by (held c its).halt a.fault (signal_of false a) refl ref
       behind = items_behind c.mode (ask c true k.message) k.message.answers (first_begins c.id c.question k.message) j s;
     }
 
-standing : (c : Course) (k : Checked) (more : List Checked) → (take_course c (new_client c) (k ∷ more)).met ≡ None → Standing c (take_course c (new_client c) (k ∷ more))
+pub standing : (c : Course) (k : Checked) (more : List Checked) → (take_course c (new_client c) (k ∷ more)).met ≡ None → Standing c (take_course c (new_client c) (k ∷ more))
 standing c k more none = by (take_checked c (new_client c) k).met refl
   where
     cl : Client

@@ -39,6 +39,33 @@ refused_course number = record (course Ixfr 251 history_1 (reply 251 (zone_rows.
 abbrev pub lone_course : ℕ → ℕ → Course
 lone_course base found = course Ixfr 251 (zone_rows.zone (zone_rows.soa base ∷ [])) (reply 251 (zone_rows.soa found ∷ []) ∷ [])
 
+-- three batches after that history's first version, one to a message, and as many of these as are taken; and what they lead to
+abbrev pub batch_replies : List Checked
+batch_replies =
+    reply 251 (zone_rows.soa 4 ∷ zone_rows.soa 1 ∷ zone_rows.address zone_rows.nezu 5 ∷ zone_rows.soa 2 ∷ zone_rows.address zone_rows.jain 4 ∷ zone_rows.address zone_rows.jain 2 ∷ [])
+    ∷ later_reply (zone_rows.soa 2 ∷ zone_rows.address zone_rows.jain 4 ∷ zone_rows.soa 3 ∷ zone_rows.address zone_rows.jain 3 ∷ [])
+    ∷ later_reply (zone_rows.soa 3 ∷ zone_rows.address zone_rows.jain 2 ∷ zone_rows.soa 4 ∷ zone_rows.address zone_rows.nezu 5 ∷ zone_rows.soa 4 ∷ []) ∷ []
+
+abbrev pub batches_course : ℕ → Course
+batches_course n = course Ixfr 251 history_1 (take n batch_replies)
+
+abbrev pub history_4 : Version
+history_4 = zone_rows.zone (zone_rows.soa 4 ∷ zone_rows.ns zone_rows.e zone_rows.ns_host ∷ zone_rows.address zone_rows.ns_host 1 ∷ zone_rows.address zone_rows.jain 3 ∷ zone_rows.address zone_rows.nezu 5 ∷ [])
+
+-- the first of them, and then a second that deletes this record
+abbrev pub refused_batch : Record → Course
+refused_batch r = course Ixfr 251 history_1 (take 1 batch_replies ++ later_reply (zone_rows.soa 2 ∷ r ∷ []) ∷ [])
+
+-- a whole zone in place of changes, from a first message with as many records on
+abbrev pub whole_records : List Record
+whole_records = zone_rows.soa 3 ∷ zone_rows.ns zone_rows.e zone_rows.ns_host ∷ zone_rows.address zone_rows.ns_host 1 ∷ zone_rows.address zone_rows.jain 2 ∷ zone_rows.address zone_rows.jain 3 ∷ zone_rows.soa 3 ∷ []
+
+abbrev pub begun_whole : ℕ → Course
+begun_whole n = course Ixfr 251 history_1 (reply 251 (take n whole_records) ∷ [])
+
+abbrev pub whole_in_two : ℕ → Course
+whole_in_two n = course Ixfr 251 history_1 (reply 251 (take n whole_records) ∷ later_reply (drop n whole_records) ∷ [])
+
 -- a refused edit, and a record after the end
 abbrev pub refused_and_behind : Course
 refused_and_behind = course Ixfr 251 history_1 (reply 251 (zone_rows.soa 2 ∷ zone_rows.soa 1 ∷ zone_rows.address zone_rows.nezu 6 ∷ zone_rows.soa 2 ∷ zone_rows.soa 2 ∷ zone_rows.soa 2 ∷ []) ∷ [])

@@ -2,7 +2,7 @@
 ghost use Rattle.std.specs.Prelude.{map, ◌≡◌, [], ◌∷◌, ◌++◌, true, false, Some, None, take, drop, replicate, length};
 ghost use Rattle.zone_model.specs.Version.{same_version};
 ghost use Rattle.dns_name.specs.Codes.{type_axfr, type_ixfr};
-ghost use Rattle.zone_model.specs.Edits.{Incompatible};
+ghost use Rattle.zone_model.specs.Edits.{Incompatible, OutOfZone};
 ghost use Rattle.zone_model.specs.TransferText.{Axfr, Ixfr};
 ghost use Rattle.zone_model.specs.Spells.{spelling};
 ghost use Rattle.xfr_model.specs.Read.{spelt};
@@ -10,6 +10,7 @@ ghost use Rattle.zone_model.specs.ZoneRows as rows;
 ghost use Rattle.xfr_course.specs.CourseRows as examples;
 ghost use Rattle.xfr_model.specs.Read as reads;
 ghost use Rattle.xfr_model.specs.ReplyRows as replies;
+ghost use Rattle.xfr_model.specs.Machine as machine;
 ghost use Rattle.xfr_course.specs.Granting as granting;
 ghost use Rattle.xfr_course.specs.Outcome as outcomes;
 ghost use Rattle.xfr_course.specs.Courses as courses;
@@ -69,6 +70,31 @@ pub fn client_row()
     ensures one_number { (clients.client_of (record (examples.course Ixfr type_ixfr rows.history_1 (examples.reply type_ixfr rows.history_text ∷ [])) { number = 18446744073709551614 })).progress.committed ≡ rows.history_1 ∷ [] }
     ensures stopped { (clients.client_of (record (examples.course Ixfr type_ixfr rows.history_1 (examples.reply type_ixfr rows.history_text ∷ [])) { number = 18446744073709551614 })).met ≡ Some outcomes.VersionsExhausted }
     ensures up_to_date { (clients.client_of (examples.course Ixfr type_ixfr (rows.zone (rows.soa 1 ∷ [])) (examples.reply type_ixfr (rows.soa 1 ∷ []) ∷ []))).met ≡ Some outcomes.UpToDate }
+{}
+
+/// In answer to an incremental question: an SOA alone, of the serial asked with, of a lesser one, a greater one, and one that is greater by going round; a whole zone in
+/// place of changes, in one message and in two; two SOAs, which are changes without a batch.
+pub fn incremental_row()
+    ensures lone { map (λ c. (clients.client_of c).met) (examples.lone_course 1 1 ∷ examples.lone_course 2 1 ∷ examples.lone_course 1 2 ∷ examples.lone_course 4294967295 0 ∷ []) ≡ Some outcomes.UpToDate ∷ Some outcomes.RetrySignal ∷ Some outcomes.RetrySignal ∷ Some outcomes.RetrySignal ∷ [] }
+    ensures lone_made { map outcomes.made (examples.lone_course 1 1 ∷ examples.lone_course 2 1 ∷ examples.lone_course 1 2 ∷ []) ≡ [] ∷ [] ∷ [] ∷ [] }
+    ensures whole { map outcomes.outcome (examples.begun_whole 6 ∷ examples.whole_in_two 2 ∷ examples.begun_whole 5 ∷ []) ≡ outcomes.Updated ∷ outcomes.Updated ∷ outcomes.Ended ∷ [] }
+    ensures whole_made { map outcomes.made (examples.begun_whole 6 ∷ examples.whole_in_two 2 ∷ examples.begun_whole 5 ∷ []) ≡ (rows.history_3 ∷ []) ∷ (rows.history_3 ∷ []) ∷ [] ∷ [] }
+    ensures whole_place { (clients.client_of (examples.begun_whole 2)).place ≡ machine.InWhole (rows.soa 3) }
+    ensures apart { outcomes.outcome (examples.whole_in_two 1) ≡ outcomes.RetrySignal }
+    ensures two_soas { outcomes.outcome (examples.course Ixfr type_ixfr (rows.zone (rows.soa 1 ∷ [])) (examples.reply type_ixfr (rows.soa 2 ∷ rows.soa 2 ∷ []) ∷ [])) ≡ outcomes.Updated }
+    ensures two_soas_made { outcomes.made (examples.course Ixfr type_ixfr (rows.zone (rows.soa 1 ∷ [])) (examples.reply type_ixfr (rows.soa 2 ∷ rows.soa 2 ∷ []) ∷ [])) ≡ rows.zone (rows.soa 2 ∷ []) ∷ [] }
+{}
+
+/// Three batches, one to a message: what is made of the first, of two and of all, and where the client then stands; and a second batch of which a deletion is refused, since
+/// the record isn't there or its name isn't in the zone.
+pub fn batch_row()
+    ensures made { map outcomes.made (examples.batches_course 1 ∷ examples.batches_course 2 ∷ examples.batches_course 3 ∷ []) ≡ (rows.history_1 ∷ []) ∷ (rows.history_1 ∷ rows.history_2 ∷ []) ∷ (rows.history_1 ∷ rows.history_2 ∷ rows.history_3 ∷ examples.history_4 ∷ []) ∷ [] }
+    ensures met { map (λ c. (clients.client_of c).met) (examples.batches_course 1 ∷ examples.batches_course 2 ∷ examples.batches_course 3 ∷ []) ≡ None ∷ None ∷ Some outcomes.Updated ∷ [] }
+    ensures place { map (λ c. (clients.client_of c).place) (examples.batches_course 0 ∷ examples.batches_course 1 ∷ examples.refused_batch (rows.address rows.jain 4) ∷ examples.batches_course 3 ∷ []) ≡ machine.AtStart ∷ machine.InAdds (rows.soa 4) ∷ machine.InDeletes (rows.soa 4) ∷ machine.AtEnd ∷ [] }
+    ensures deleted { (clients.client_of (examples.refused_batch (rows.address rows.jain 4))).met ≡ None }
+    ensures missing { outcomes.outcome (examples.refused_batch (rows.address rows.jain 9)) ≡ outcomes.Reading (reads.Refused Incompatible) }
+    ensures outside { outcomes.outcome (examples.refused_batch (rows.address (rows.other []) 4)) ≡ outcomes.Reading (reads.Refused OutOfZone) }
+    ensures refused_made { map outcomes.made (examples.refused_batch (rows.address rows.jain 9) ∷ examples.refused_batch (rows.address (rows.other []) 4) ∷ []) ≡ (rows.history_1 ∷ rows.history_2 ∷ []) ∷ (rows.history_1 ∷ rows.history_2 ∷ []) ∷ [] }
 {}
 
 /// How a client ends: with a first message and a later one; with a fault, unless a record was refused; with another id; and what it met stays.

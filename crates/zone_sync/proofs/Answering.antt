@@ -5,27 +5,22 @@ use Rattle.std.proofs.lemmas.Bool.{eq-eqb, eqb-true, ne_eqb, and_left}
 use Rattle.std.proofs.Math.Bool.{and-false}
 use Rattle.dns_wire.specs.Wire.{Question, same_question, header_in, qdcount_in}
 use Rattle.dns_wire.specs.Parse.{Parsed, parsed, question_at, sole_question_in}
-use Rattle.xfr_model.specs.Messages.{ReadMessage, type_of, message_of, as_read}
-use Rattle.zone_model.specs.TransferText.{Mode, Axfr}
+use Rattle.xfr_model.specs.Messages.{ReadMessage, message_of, as_read}
 use Rattle.xfr_model.specs.Read.{Fault, NotValid, Malformed, OtherAnswer, is_other, is_transfer_head, asks_transfer, first_record_fault, record_item, message_fault, request_fault}
-use Rattle.xfr_model.specs.Interpreter.{mode_asked}
-use Rattle.xfr_model.specs.Machine.{Place, AtStart, AtSecond, InWhole, InDeletes, InAdds, AtEnd, Run, run_items, is_at_end}
-use Rattle.xfr_model.proofs.FinerSteps.{names_mode}
+use Rattle.xfr_model.specs.Machine.{Place, Run, run_items, is_at_end}
 use Rattle.xfr_client.specs.Interpreting.{Interpreting, Interprets, Refuses, run_from}
 use Rattle.xfr_client.specs.Rest.{Rest}
 use Rattle.xfr_client.specs.declared.protocol.Error.{Error}
 use Rattle.xfr_client.specs.declared.protocol.Error.TheVariants as errors
-use Rattle.xfr_course.specs.Outcome.{Reading}
+use Rattle.xfr_course.specs.Client.{IsBetween}
 use Rattle.zone_sync.specs.declared.outcome.SyncError.TheVariants as why
-use Rattle.zone_sync.specs.Ending.{refusal_outcome}
+use Rattle.zone_sync.specs.Ending.{fault_error}
 use Rattle.zone_sync.specs.declared.outcome.SyncError.{SyncError}
 use Rattle.zone_sync.specs.Replies.{AnswersRequest, IsAnswerTo, ReadsOn}
 use Rattle.xfr_client.specs.Rest.{asks_again}
-use Rattle.xfr_client.specs.Places.{is_at_second}
 use Rattle.xfr_client.proofs.MessageParts.{read_parts}
 use Rattle.zone_sync.specs.SoFar.{Asking, asked_id, asked_question, asks_other, message_so_far, header_alone}
-use Rattle.zone_sync.specs.Standing.{IsUnderWay}
-use Rattle.zone_sync.proofs.Places.{IsBehind, behind_way, behind_message, run_any}
+use Rattle.zone_sync.proofs.Places.{way_open, mode_run}
 
 -- a sole question was counted
 pub sole_counted : (o : List ℕ) (q : Question) → sole_question_in o ≡ Some q → qdcount_in o ≡ 1
@@ -102,26 +97,6 @@ alone_fault first o =
 pub alone_refused : (id : ℕ) (q : Question) (first : Bool) (o : List ℕ) → (header_in o).id ≡ id → request_fault id q first (header_alone o) ≡ Some NotValid
 alone_refused id q first o e = refused_message id q first (header_alone o) (other_is id q (header_alone o) e) ∙ alone_fault first o
 
--- ---- what is read
-
--- the mode that a reply of a whole transfer names decides nothing
-pub whole_run : (id : ℕ) (q : Question) (begun : Bool) (p : Place) (m : ReadMessage) → q.qtype ≡ type_of Axfr → IsUnderWay begun p → request_fault id q (not begun) m ≡ None
-    → run_items (mode_asked m.questions) p (map record_item m.answers) ≡ run_items Axfr p (map record_item m.answers)
-whole_run id q true p m t w h = run_any (mode_asked m.questions) Axfr p (map record_item m.answers) (behind_way p w)
-whole_run id q false p m t w h = ap (λ x. run_items x p (map record_item m.answers)) (names_mode Axfr id q m [] t h)
-
--- no other way of transfer is asked for
-second_none : (p : Place) → IsBehind p → is_at_second p ≡ false
-second_none AtStart b = absurd b
-second_none (AtSecond s) b = absurd b
-second_none (InWhole s) b = refl
-second_none (InDeletes s) b = absurd b
-second_none (InAdds s) b = absurd b
-second_none AtEnd b = refl
-
-pub asks_no_other : (first : Bool) (a : Run) → IsBehind a.place → asks_again first a ≡ false
-asks_no_other first a b = ap (λ c. first && not (is_some a.fault) && c) (second_none a.place b) ∙ and-false (first && not (is_some a.fault))
-
 -- ---- the tests of a reply
 
 -- octets that parse are read
@@ -143,24 +118,10 @@ other_found id q o b e h = other_is id q (message_so_far o) (ap (λ h. h.id) (he
 
 -- ---- what an interpreter refuses
 
-pub way_open : (begun : Bool) (p : Place) → IsUnderWay begun p → is_at_end p ≡ false
-way_open true AtStart w = refl
-way_open true (AtSecond s) w = refl
-way_open true (InWhole s) w = refl
-way_open true (InDeletes s) w = refl
-way_open true (InAdds s) w = refl
-way_open true AtEnd w = absurd w
-way_open false AtStart w = refl
-way_open false (AtSecond s) w = refl
-way_open false (InWhole s) w = refl
-way_open false (InDeletes s) w = refl
-way_open false (InAdds s) w = refl
-way_open false AtEnd w = absurd w
-
-pub refuses_fault : (a : Asking) (begun : Bool) (p : Place) (i : Interpreting) (m : ReadMessage) (e : Error) → i ≡ record { begun = begun; place = p; signalled = false } → IsUnderWay begun p
+pub refuses_fault : (a : Asking) (begun : Bool) (p : Place) (i : Interpreting) (m : ReadMessage) (e : Error) → i ≡ record { begun = begun; place = p; signalled = false } → IsBetween begun p a.mode
     → is_other (asked_id a) (asked_question a) m ≡ false → Refuses i m e
-    → (f : Fault) × ((request_fault (asked_id a) (asked_question a) (not begun) m ≡ Some f) × (refusal_outcome (why.Xfr e) ≡ Some (Reading f)))
-refuses_fault a begun p i m errors.Finished is w mine r = absurd (cc (sym (ap (λ x. x.signalled || is_at_end x.place) is ∙ way_open begun p w) ∙ r))
+    → (f : Fault) × ((request_fault (asked_id a) (asked_question a) (not begun) m ≡ Some f) × (why.Xfr e ≡ fault_error f))
+refuses_fault a begun p i m errors.Finished is w mine r = absurd (cc (sym (ap (λ x. x.signalled || is_at_end x.place) is ∙ way_open begun p a.mode w) ∙ r))
 refuses_fault a begun p i m errors.NotValidXfrResponse is w mine r =
     (NotValid, (refused_message (asked_id a) (asked_question a) (not begun) m mine ∙ ap (λ x. message_fault (not x.begun) m) (sym is) ∙ r.1, refl))
 refuses_fault a begun p i m errors.Malformed is w mine r =
@@ -168,24 +129,22 @@ refuses_fault a begun p i m errors.Malformed is w mine r =
 refuses_fault a begun p i m errors.ParseError is w mine r = absurd r
 
 -- .. and what it reads
-pub reads_on : (a : Asking) (begun : Bool) (p : Place) (i j : Interpreting) (m : ReadMessage) (rest : Rest) → a.mode ≡ Axfr → i ≡ record { begun = begun; place = p; signalled = false } → IsUnderWay begun p
+pub reads_on : (a : Asking) (begun : Bool) (p : Place) (i j : Interpreting) (m : ReadMessage) (rest : Rest) → i ≡ record { begun = begun; place = p; signalled = false } → IsBetween begun p a.mode
     → is_other (asked_id a) (asked_question a) m ≡ false → Interprets i m rest j
-    → (request_fault (asked_id a) (asked_question a) (not begun) m ≡ None) × ReadsOn (run_items a.mode p (map record_item m.answers)) rest j
-reads_on a begun p i j m rest whole is w mine x =
+    → (request_fault (asked_id a) (asked_question a) (not begun) m ≡ None) × ReadsOn (not begun) (run_items a.mode p (map record_item m.answers)) rest j
+reads_on a begun p i j m rest is w mine x =
     let id : ℕ = asked_id a in
     let q : Question = asked_question a in
+    let r : Run = run_items a.mode p (map record_item m.answers) in
     let sound : request_fault id q (not begun) m ≡ None = refused_message id q (not begun) m mine ∙ ap (λ y. message_fault (not y.begun) m) (sym is) ∙ x.faultless in
-    let named : run_items (mode_asked m.questions) p (map record_item m.answers) ≡ run_items a.mode p (map record_item m.answers) =
-    whole_run id q begun p m (ap type_of whole) w sound ∙ ap (λ n. run_items n p (map record_item m.answers)) (sym whole) in
-    let run : run_from i m ≡ run_items a.mode p (map record_item m.answers) = ap (λ y. run_from y m) is ∙ named in
-    let behind : IsBehind (run_items a.mode p (map record_item m.answers)).place =
-    subst (λ n. IsBehind (run_items n p (map record_item m.answers)).place) (sym whole) (behind_message id q begun p m w sound) in
-    let single : asks_again (not i.begun) (run_from i m) ≡ false = ap (λ r. asks_again (not i.begun) r) run ∙ asks_no_other (not i.begun) (run_items a.mode p (map record_item m.answers)) behind in (
+    let run : run_from i m ≡ r = ap (λ y. run_from y m) is ∙ mode_run a.mode id q begun p m refl w sound in
+    let again : asks_again (not i.begun) (run_from i m) ≡ asks_again (not begun) r =
+    ap (λ y. asks_again (not y.begun) (run_from i m)) is ∙ ap (asks_again (not begun)) run in (
       sound,
       record {
         run = ap (λ y. y.run) x.tells ∙ run;
-        no_retry = ap (λ y. y.retry) x.tells ∙ single;
-        stands = x.stands ∙ ap (λ b. record { begun = true; place = (run_from i m).place; signalled = b }) single ∙ ap (λ (r : Run). record { begun = true; place = r.place; signalled = false }) run;
+        retry = ap (λ y. y.retry) x.tells ∙ again;
+        stands = x.stands ∙ ap (λ b. record { begun = true; place = (run_from i m).place; signalled = b }) again ∙ ap (λ (y : Run). record { begun = true; place = y.place; signalled = asks_again (not begun) r }) run;
       },
     )
 
@@ -200,4 +159,4 @@ parsed_answers a o p q (Err x) e i is h =
     let other = h (message_so_far o) found in
     let is_so : is_other (asked_id a) (asked_question a) (message_so_far o) ≡ true =
     other_found (asked_id a) (asked_question a) o true i (sym (ap (λ y. asks_other y (message_so_far o).questions) (sym is) ∙ other.0)) in
-    (OtherAnswer, (λ first. refused_other (asked_id a) (asked_question a) first (message_so_far o) is_so, ap refusal_outcome other.1))
+    (OtherAnswer, (λ first. refused_other (asked_id a) (asked_question a) first (message_so_far o) is_so, other.1))

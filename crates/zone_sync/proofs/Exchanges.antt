@@ -1,22 +1,22 @@
 -- A transfer from the request on.
 use Rattle.std.proofs.Common.{◌≡◌, ℕ, ◌<◌, ◌≤◌, Bool, true, false, ◌&&◌, List, [], ◌∷◌, ◌++◌, length, min, append-nil, refl, sym, ap, ◌∙◌, subst, arith, ◌⊎◌, inl, inr, Option, Some, None, IsSome, Result, Ok, Err}
 use Rattle.std.proofs.lemmas.Bool.{lt-leb}
-use Rattle.dns_wire.specs.declared.builder.PushError.{PushError}
+use Rattle.xfr_services.specs.declared.services.ServiceError.TheVariants as service
 use Rattle.dns_wire.specs.declared.builder.PushError.TheVariants.{ShortBuf, CountOverflow}
 use Rattle.dns_wire.specs.declared.builder.PushError.TheVariants as push
 use Rattle.dns_message.specs.declared.message.ShortMessage.{ShortMessage}
 use Rattle.zone_model.specs.Commits.{Commit}
 use Rattle.zone_model.specs.Session.{Session, rolled_back}
-use Rattle.xfr_course.specs.Outcome.{Outcome, Ended, LinkFault, Short, Primary, RequestTooLong}
+use Rattle.xfr_course.specs.Outcome.{Outcome, NoSoa, Ended, LinkFault, Short, Primary, RequestTooLong}
 use Rattle.xfr_course.specs.Courses.{has_header}
-use Rattle.zone_sync.specs.SoFar.{Asking, asked_octets, course_so_far, fault_so_far, client_so_far, IsTooLong}
+use Rattle.zone_sync.specs.SoFar.{Asking, asked_octets, CanAsk, CantAsk, course_so_far, fault_so_far, client_so_far}
 use Rattle.zone_sync.specs.Steps.{HasMade}
 use Rattle.zone_sync.specs.Standing.{ClientState, Stands}
 use Rattle.zone_sync.specs.Refusals.{of_link}
 use Rattle.zone_devices.specs.Links.{LinkLists, LinkWentOn}
 use Rattle.xfr_server.specs.Items.{Sending}
 use Rattle.zone_sync.specs.Serving.{SendsAll, ServedBy, RepliedTo, IsServed}
-use Rattle.zone_sync.specs.Transfers.{RequestsEnded, IsEnded, HasShort, Transfers, Serves, ComesLater, EndsSo, ComesBefore, SyncSays}
+use Rattle.zone_sync.specs.Transfers.{RequestsEnded, IsEnded, HasShort, Transfers, Serves, ComesLater, EndsSo, ComesAfter, Asks, SyncSays}
 use Rattle.zone_devices.specs.declared.links.LinkError.{LinkError}
 use Rattle.zone_devices.specs.declared.links.LinkError.TheVariants as links
 use Rattle.zone_sync.specs.declared.outcome.SyncOk.{SyncOk}
@@ -26,7 +26,7 @@ use Rattle.zone_sync.proofs.Standings.{none_passed}
 use Rattle.zone_sync.proofs.Outcomes.{stop_few}
 use Rattle.zone_sync.proofs.Clients.{made_rolled}
 use Rattle.zone_sync.proofs.Passing.{nothing_yet, link_on}
-use Rattle.zone_sync.proofs.Replying.{Amounts, amounts}
+use Rattle.zone_sync.proofs.Replying.{Amounts, amounts, comes_to}
 use Rattle.zone_sync.proofs.Replies.{err_same}
 use Rattle.zone_sync.proofs.Serving.{replied_to, served_headed, served_headless}
 
@@ -38,21 +38,25 @@ none_done a gave = amounts a [] gave gave gave (none_passed (fault_so_far a)) (o
 
 abbrev EndsBefore : SyncError → Type 0
 EndsBefore why.Memory = Unit {0}
+EndsBefore why.NoSoa = Unit {0}
+EndsBefore (why.Request ShortBuf) = Unit {0}
 EndsBefore why.LinkFault = Unit {0}
 EndsBefore why.Ended = Unit {0}
-EndsBefore (why.Request x) = Unit {0}
 EndsBefore (why.Short x) = Unit {0}
-EndsBefore (why.Primary x) = Unit {0}
+EndsBefore (why.Primary service.InternalError) = Unit {0}
 EndsBefore e = ⊥
 
 ends_before : (a : Asking) (s : Session) (before handles : List Commit) (e : SyncError) → EndsBefore e → HasMade a.base before s handles [] → Transfers a [] before handles s (Err e)
-ends_before a s before handles why.Memory x m = record { versions = []; spelt = record { rest = []; is = (none_done a Ended).made }; made = m; answers = tt }
-ends_before a s before handles why.LinkFault x m = record { versions = []; spelt = sym (none_done a LinkFault).made; made = m; answers = ap Some (sym (none_done a LinkFault).outcome) }
-ends_before a s before handles why.Ended x m = record { versions = []; spelt = sym (none_done a Ended).made; made = m; answers = ap Some (sym (none_done a Ended).outcome) }
-ends_before a s before handles (why.Request e) x m = record { versions = []; spelt = sym (none_done a RequestTooLong).made; made = m; answers = ap Some (sym (none_done a RequestTooLong).outcome) }
-ends_before a s before handles (why.Short e) x m = record { versions = []; spelt = sym (none_done a Short).made; made = m; answers = ap Some (sym (none_done a Short).outcome) }
-ends_before a s before handles (why.Primary e) x m = record { versions = []; spelt = sym (none_done a Primary).made; made = m; answers = ap Some (sym (none_done a Primary).outcome) }
-ends_before a s before handles why.NoSoa x m = absurd x
+ends_before a s before handles why.Memory x m = record { versions = []; spelt = record { rest = []; is = (none_done a Ended).made }; made = m; answers = inl refl }
+ends_before a s before handles why.NoSoa x m = comes_to a [] before handles s (Err why.NoSoa) NoSoa [] (none_done a NoSoa) refl m
+ends_before a s before handles (why.Request ShortBuf) x m = comes_to a [] before handles s (Err (why.Request ShortBuf)) RequestTooLong [] (none_done a RequestTooLong) refl m
+ends_before a s before handles why.LinkFault x m = comes_to a [] before handles s (Err why.LinkFault) LinkFault [] (none_done a LinkFault) refl m
+ends_before a s before handles why.Ended x m = comes_to a [] before handles s (Err why.Ended) Ended [] (none_done a Ended) refl m
+ends_before a s before handles (why.Short e) x m = comes_to a [] before handles s (Err (why.Short e)) Short [] (none_done a Short) refl m
+ends_before a s before handles (why.Primary service.InternalError) x m = comes_to a [] before handles s (Err (why.Primary service.InternalError)) Primary [] (none_done a Primary) refl m
+ends_before a s before handles (why.Request CountOverflow) x m = absurd x
+ends_before a s before handles (why.Request push.Memory) x m = absurd x
+ends_before a s before handles (why.Primary service.Memory) x m = absurd x
 ends_before a s before handles why.TooManyMessages x m = absurd x
 ends_before a s before handles (why.Tsig e) x m = absurd x
 ends_before a s before handles why.OtherAnswer x m = absurd x
@@ -61,19 +65,12 @@ ends_before a s before handles (why.Iteration e) x m = absurd x
 ends_before a s before handles (why.Update e) x m = absurd x
 ends_before a s before handles why.VersionsExhausted x m = absurd x
 
--- the one request, or none
-abbrev pub IsAsked : Asking → List (List ℕ) → List (List ℕ) → SyncError → Type 0
-IsAsked a asked heard e = (asked ≡ asked_octets a ∷ []) ⊎ (ComesBefore (Err e) × (asked ≡ []) × (heard ≡ []))
-
-abbrev TooLong : Asking → ℕ → SyncError → Type 0
-TooLong a longest e = (x : PushError) → e ≡ why.Request x → (x ≡ ShortBuf) × (min longest 65535 < length (asked_octets a))
-
 at_rest : (a : Asking) (s : Session) (before : List Commit) → s.current ≡ a.base → HasMade a.base before s before []
 at_rest a s before h = record { current = h; behind = sym (append-nil before) }
 
-says : (Sends : List ℕ → Option (List Sending) → Type 0) (a : Asking) (longest : ℕ) (old new : Option LinkLists) (before : List Commit) (s : Session) (e : SyncError) (asked heard sent : List (List ℕ)) → LinkWentOn old new asked heard sent [] → IsAsked a asked heard e
-    → IsServed Sends heard sent [] (Err e) → EndsBefore e → s.current ≡ a.base → TooLong a longest e → ((x : ShortMessage) → e ≡ why.Short x → HasShort heard × (sent ≡ [])) → (e ≡ why.Ended → IsEnded heard new) → SyncSays Sends a longest old new before before s (Err e)
-says Sends a longest old new before s e asked heard sent link request served ends current too_long short ended = record {
+says : (Sends : List ℕ → Option (List Sending) → Type 0) (a : Asking) (longest : ℕ) (old new : Option LinkLists) (before : List Commit) (s : Session) (e : SyncError) (asked heard sent : List (List ℕ)) → LinkWentOn old new asked heard sent [] → Asks a longest asked heard (Err e)
+    → IsServed Sends heard sent [] (Err e) → EndsBefore e → s.current ≡ a.base → ((x : ShortMessage) → e ≡ why.Short x → HasShort heard × (sent ≡ [])) → (e ≡ why.Ended → IsEnded heard new) → SyncSays Sends a longest old new before before s (Err e)
+says Sends a longest old new before s e asked heard sent link request served ends current short ended = record {
   asked = asked;
   heard = heard;
   sent = sent;
@@ -82,61 +79,66 @@ says Sends a longest old new before s e asked heard sent link request served end
   request = request;
   served = served;
   transfers = ends_before a s before before e ends (at_rest a s before current);
-  too_long = λ x h. too_long x (err_same e (why.Request x) h);
   short = λ x h. inl (short x (err_same e (why.Short x) h));
   ended = λ h. ended (err_same e why.Ended h);
 }
 
 -- the request isn't made
-pub not_made : (Sends : List ℕ → Option (List Sending) → Type 0) (a : Asking) (longest most : ℕ) (old : Option LinkLists) (before : List Commit) (s : Session) (e : SyncError) → most ≡ longest → IsTooLong (min most 65535) (asked_octets a) e → s.current ≡ a.base → SyncSays Sends a longest old old before before s (Err e)
-not_made Sends a longest most old before s why.Memory m h c = says Sends a longest old old before s why.Memory [] [] [] (nothing_yet old) (inr (tt, refl, refl)) (refl, refl) tt c (λ x k. absurd (cc k)) (λ x k. absurd (cc k)) (λ k. absurd (cc k))
-not_made Sends a longest most old before s (why.Request ShortBuf) m h c =
-    says Sends a longest old old before s (why.Request ShortBuf) [] [] [] (nothing_yet old) (inr (tt, refl, refl)) (refl, refl) tt c (λ x k. (cc k, subst (λ n. min n 65535 < length (asked_octets a)) m h)) (λ x k. absurd (cc k)) (λ k. absurd (cc k))
-not_made Sends a longest most old before s (why.Request CountOverflow) m h c = absurd h
-not_made Sends a longest most old before s (why.Request push.Memory) m h c = absurd h
-not_made Sends a longest most old before s why.NoSoa m h c = absurd h
-not_made Sends a longest most old before s why.LinkFault m h c = absurd h
-not_made Sends a longest most old before s why.Ended m h c = absurd h
-not_made Sends a longest most old before s (why.Short x) m h c = absurd h
-not_made Sends a longest most old before s (why.Primary x) m h c = absurd h
-not_made Sends a longest most old before s why.TooManyMessages m h c = absurd h
-not_made Sends a longest most old before s (why.Tsig x) m h c = absurd h
-not_made Sends a longest most old before s why.OtherAnswer m h c = absurd h
-not_made Sends a longest most old before s (why.Xfr x) m h c = absurd h
-not_made Sends a longest most old before s (why.Iteration x) m h c = absurd h
-not_made Sends a longest most old before s (why.Update x) m h c = absurd h
-not_made Sends a longest most old before s why.VersionsExhausted m h c = absurd h
+not_made_so : (Sends : List ℕ → Option (List Sending) → Type 0) (a : Asking) (longest : ℕ) (old : Option LinkLists) (before : List Commit) (s : Session) (e : SyncError) → CantAsk a longest e → s.current ≡ a.base → SyncSays Sends a longest old old before before s (Err e)
+not_made_so Sends a longest old before s why.Memory h c = says Sends a longest old old before s why.Memory [] [] [] (nothing_yet old) (inr (tt, refl, refl)) (refl, refl) tt c (λ x k. absurd (cc k)) (λ k. absurd (cc k))
+not_made_so Sends a longest old before s why.NoSoa h c = says Sends a longest old old before s why.NoSoa [] [] [] (nothing_yet old) (inr (h, refl, refl)) (refl, refl) tt c (λ x k. absurd (cc k)) (λ k. absurd (cc k))
+not_made_so Sends a longest old before s (why.Request ShortBuf) h c = says Sends a longest old old before s (why.Request ShortBuf) [] [] [] (nothing_yet old) (inr (h, refl, refl)) (refl, refl) tt c (λ x k. absurd (cc k)) (λ k. absurd (cc k))
+not_made_so Sends a longest old before s (why.Request CountOverflow) h c = absurd h
+not_made_so Sends a longest old before s (why.Request push.Memory) h c = absurd h
+not_made_so Sends a longest old before s why.LinkFault h c = absurd h
+not_made_so Sends a longest old before s why.Ended h c = absurd h
+not_made_so Sends a longest old before s (why.Short x) h c = absurd h
+not_made_so Sends a longest old before s (why.Primary x) h c = absurd h
+not_made_so Sends a longest old before s why.TooManyMessages h c = absurd h
+not_made_so Sends a longest old before s (why.Tsig e) h c = absurd h
+not_made_so Sends a longest old before s why.OtherAnswer h c = absurd h
+not_made_so Sends a longest old before s (why.Xfr e) h c = absurd h
+not_made_so Sends a longest old before s (why.Iteration e) h c = absurd h
+not_made_so Sends a longest old before s (why.Update e) h c = absurd h
+not_made_so Sends a longest old before s why.VersionsExhausted h c = absurd h
+
+pub not_made : (Sends : List ℕ → Option (List Sending) → Type 0) (a : Asking) (longest most : ℕ) (old : Option LinkLists) (before : List Commit) (s : Session) (e : SyncError) → most ≡ longest → CantAsk a most e → s.current ≡ a.base → SyncSays Sends a longest old old before before s (Err e)
+not_made Sends a longest most old before s e m h c = not_made_so Sends a longest old before s e (subst (λ n. CantAsk a n e) m h) c
 
 -- the link fails before it hands the request
-asks_or_not : (a : Asking) (asked : List (List ℕ)) (e : SyncError) → ComesBefore (Err e) → (asked ≡ asked_octets a ∷ []) ⊎ (asked ≡ []) → IsAsked a asked [] e
-asks_or_not a asked e c (inl h) = inl h
-asks_or_not a asked e c (inr h) = inr (c, h, refl)
-
-pub not_carried : (Sends : List ℕ → Option (List Sending) → Type 0) (a : Asking) (longest : ℕ) (old new : Option LinkLists) (before : List Commit) (s : Session) (x : LinkError) (asked : List (List ℕ)) → LinkWentOn old new asked [] [] [] → (asked ≡ asked_octets a ∷ []) ⊎ (asked ≡ []) → s.current ≡ a.base
+pub not_carried : (Sends : List ℕ → Option (List Sending) → Type 0) (a : Asking) (longest : ℕ) (old new : Option LinkLists) (before : List Commit) (s : Session) (x : LinkError) (asked : List (List ℕ)) → CanAsk a longest → LinkWentOn old new asked [] [] [] → (asked ≡ asked_octets a ∷ []) ⊎ (asked ≡ []) → s.current ≡ a.base
     → SyncSays Sends a longest old new before before s (Err (of_link x))
-not_carried Sends a longest old new before s links.Failed asked l r c =
-    says Sends a longest old new before s why.LinkFault asked [] [] l (asks_or_not a asked why.LinkFault tt r) (refl, refl) tt c (λ x k. absurd (cc k)) (λ x k. absurd (cc k)) (λ k. absurd (cc k))
-not_carried Sends a longest old new before s links.Memory asked l r c =
-    says Sends a longest old new before s why.Memory asked [] [] l (asks_or_not a asked why.Memory tt r) (refl, refl) tt c (λ x k. absurd (cc k)) (λ x k. absurd (cc k)) (λ k. absurd (cc k))
+not_carried Sends a longest old new before s links.Failed asked can l r c =
+    says Sends a longest old new before s why.LinkFault asked [] [] l (either r) (refl, refl) tt c (λ x k. absurd (cc k)) (λ k. absurd (cc k))
+  where
+    either : (asked ≡ asked_octets a ∷ []) ⊎ (asked ≡ []) → Asks a longest asked [] (Err why.LinkFault)
+    either (inl h) = inl (can, tt, h)
+    either (inr h) = inr (can, h, refl)
+not_carried Sends a longest old new before s links.Memory asked can l r c =
+    says Sends a longest old new before s why.Memory asked [] [] l (either r) (refl, refl) tt c (λ x k. absurd (cc k)) (λ k. absurd (cc k))
+  where
+    either : (asked ≡ asked_octets a ∷ []) ⊎ (asked ≡ []) → Asks a longest asked [] (Err why.Memory)
+    either (inl h) = inl (can, tt, h)
+    either (inr h) = inr (tt, h, refl)
 
 -- it ends
-pub not_handed : (Sends : List ℕ → Option (List Sending) → Type 0) (a : Asking) (longest : ℕ) (old new : Option LinkLists) (before : List Commit) (s : Session) (asked : List (List ℕ)) → LinkWentOn old new asked [] [] [] → asked ≡ asked_octets a ∷ [] → s.current ≡ a.base → RequestsEnded new
+pub not_handed : (Sends : List ℕ → Option (List Sending) → Type 0) (a : Asking) (longest : ℕ) (old new : Option LinkLists) (before : List Commit) (s : Session) (asked : List (List ℕ)) → CanAsk a longest → LinkWentOn old new asked [] [] [] → asked ≡ asked_octets a ∷ [] → s.current ≡ a.base → RequestsEnded new
     → SyncSays Sends a longest old new before before s (Err why.Ended)
-not_handed Sends a longest old new before s asked l r c e = says Sends a longest old new before s why.Ended asked [] [] l (inl r) (refl, refl) tt c (λ x k. absurd (cc k)) (λ x k. absurd (cc k)) (λ k. e)
+not_handed Sends a longest old new before s asked can l r c e = says Sends a longest old new before s why.Ended asked [] [] l (inl (can, tt, r)) (refl, refl) tt c (λ x k. absurd (cc k)) (λ k. e)
 
 -- it hands on what is no message
 pub headless : (m : List ℕ) → length m < 12 → has_header m ≡ false
 headless m h = lt-leb 12 (length m) h
 
-pub no_message : (Sends : List ℕ → Option (List Sending) → Type 0) (a : Asking) (longest : ℕ) (old new : Option LinkLists) (before : List Commit) (s : Session) (x : ShortMessage) (asked : List (List ℕ)) (heard : List ℕ) → LinkWentOn old new asked (heard ∷ []) [] [] → asked ≡ asked_octets a ∷ [] → s.current ≡ a.base
+pub no_message : (Sends : List ℕ → Option (List Sending) → Type 0) (a : Asking) (longest : ℕ) (old new : Option LinkLists) (before : List Commit) (s : Session) (x : ShortMessage) (asked : List (List ℕ)) (heard : List ℕ) → CanAsk a longest → LinkWentOn old new asked (heard ∷ []) [] [] → asked ≡ asked_octets a ∷ [] → s.current ≡ a.base
     → has_header heard ≡ false → SyncSays Sends a longest old new before before s (Err (why.Short x))
-no_message Sends a longest old new before s x asked heard l r c none =
-    says Sends a longest old new before s (why.Short x) asked (heard ∷ []) [] l (inl r) (served_headless Sends heard [] [] (Err (why.Short x)) none (refl, refl)) tt c (λ y k. absurd (cc k)) (λ y k. (ap (λ b. b && true) none, refl)) (λ k. absurd (cc k))
+no_message Sends a longest old new before s x asked heard can l r c none =
+    says Sends a longest old new before s (why.Short x) asked (heard ∷ []) [] l (inl (can, tt, r)) (served_headless Sends heard [] [] (Err (why.Short x)) none (refl, refl)) tt c (λ y k. (ap (λ b. b && true) none, refl)) (λ k. absurd (cc k))
 
 -- the primary fails, or the link as it replies
-pub not_served : (Sends : List ℕ → Option (List Sending) → Type 0) (a : Asking) (longest : ℕ) (old told new : Option LinkLists) (before : List Commit) (s : Session) (e : SyncError) (asked : List (List ℕ)) (heard : List ℕ) → LinkWentOn old told asked (heard ∷ []) [] [] → asked ≡ asked_octets a ∷ [] → s.current ≡ a.base
+pub not_served : (Sends : List ℕ → Option (List Sending) → Type 0) (a : Asking) (longest : ℕ) (old told new : Option LinkLists) (before : List Commit) (s : Session) (e : SyncError) (asked : List (List ℕ)) (heard : List ℕ) → CanAsk a longest → LinkWentOn old told asked (heard ∷ []) [] [] → asked ≡ asked_octets a ∷ [] → s.current ≡ a.base
     → has_header heard ≡ true → Serves (Sends heard) told new (Err e) → SyncSays Sends a longest old new before before s (Err e)
-not_served Sends a longest old told new before s e asked heard l r c whole k = ends_so e k.by
+not_served Sends a longest old told new before s e asked heard can l r c whole k = ends_so e k.by
   where
     on : LinkWentOn old new (asked ++ []) (heard ∷ []) k.sent []
     on = link_on old told new asked (heard ∷ []) [] [] [] [] k.sent [] l k.link
@@ -148,9 +150,10 @@ not_served Sends a longest old told new before s e asked heard l r c whole k = e
     so e by = served_headed Sends heard k.sent [] (Err e) whole by
 
     ends_so : (e : SyncError) → ServedBy (Sends heard) k.sent (Err e) → SyncSays Sends a longest old new before before s (Err e)
-    ends_so why.LinkFault by = says Sends a longest old new before s why.LinkFault (asked ++ []) (heard ∷ []) k.sent on (inl is) (so why.LinkFault by) tt c (λ x k. absurd (cc k)) (λ x k. absurd (cc k)) (λ k. absurd (cc k))
-    ends_so why.Memory by = says Sends a longest old new before s why.Memory (asked ++ []) (heard ∷ []) k.sent on (inl is) (so why.Memory by) tt c (λ x k. absurd (cc k)) (λ x k. absurd (cc k)) (λ k. absurd (cc k))
-    ends_so (why.Primary x) by = says Sends a longest old new before s (why.Primary x) (asked ++ []) (heard ∷ []) k.sent on (inl is) (so (why.Primary x) by) tt c (λ x k. absurd (cc k)) (λ x k. absurd (cc k)) (λ k. absurd (cc k))
+    ends_so why.LinkFault by = says Sends a longest old new before s why.LinkFault (asked ++ []) (heard ∷ []) k.sent on (inl (can, tt, is)) (so why.LinkFault by) tt c (λ x k. absurd (cc k)) (λ k. absurd (cc k))
+    ends_so why.Memory by = says Sends a longest old new before s why.Memory (asked ++ []) (heard ∷ []) k.sent on (inl (can, tt, is)) (so why.Memory by) tt c (λ x k. absurd (cc k)) (λ k. absurd (cc k))
+    ends_so (why.Primary service.InternalError) by = says Sends a longest old new before s (why.Primary service.InternalError) (asked ++ []) (heard ∷ []) k.sent on (inl (can, tt, is)) (so (why.Primary service.InternalError) by) tt c (λ x k. absurd (cc k)) (λ k. absurd (cc k))
+    ends_so (why.Primary service.Memory) by = absurd by
     ends_so (why.Request x) by = absurd by
     ends_so why.NoSoa by = absurd by
     ends_so why.Ended by = absurd by
@@ -163,19 +166,36 @@ not_served Sends a longest old told new before s e asked heard l r c whole k = e
     ends_so (why.Update x) by = absurd by
     ends_so why.VersionsExhausted by = absurd by
 
+-- an answer of a reply isn't one of a request that can't be made
+later_after : (answer : Result SyncOk SyncError) → ComesLater answer → ComesAfter answer
+later_after (Err why.NoSoa) l = absurd l
+later_after (Err (why.Request x)) l = absurd l
+later_after (Ok x) l = tt
+later_after (Err why.LinkFault) l = tt
+later_after (Err why.Ended) l = tt
+later_after (Err (why.Short x)) l = tt
+later_after (Err (why.Primary x)) l = tt
+later_after (Err why.TooManyMessages) l = tt
+later_after (Err (why.Tsig x)) l = tt
+later_after (Err why.OtherAnswer) l = tt
+later_after (Err (why.Xfr x)) l = tt
+later_after (Err (why.Iteration x)) l = tt
+later_after (Err (why.Update x)) l = tt
+later_after (Err why.VersionsExhausted) l = tt
+later_after (Err why.Memory) l = tt
+
 -- the replies come
 pub replied : (Sends : List ℕ → Option (List Sending) → Type 0) (a : Asking) (longest : ℕ) (old told mid new : Option LinkLists) (before later : List Commit) (s : Session) (answer : Result SyncOk SyncError) (asked : List (List ℕ)) (heard : List ℕ)
-    → LinkWentOn old told asked (heard ∷ []) [] [] → asked ≡ asked_octets a ∷ [] → has_header heard ≡ true → Serves (Sends heard) told mid (Ok tt) → EndsSo a mid new before later s answer → SyncSays Sends a longest old new before later s answer
-replied Sends a longest old told mid new before later s answer asked heard l r whole v k = record {
+    → CanAsk a longest → LinkWentOn old told asked (heard ∷ []) [] [] → asked ≡ asked_octets a ∷ [] → has_header heard ≡ true → Serves (Sends heard) told mid (Ok tt) → EndsSo a mid new before later s answer → SyncSays Sends a longest old new before later s answer
+replied Sends a longest old told mid new before later s answer asked heard can l r whole v k = record {
   asked = (asked ++ []) ++ [];
   heard = heard ∷ [];
   sent = v.sent ++ [];
   replies = k.taken;
   link = link_on old mid new (asked ++ []) (heard ∷ []) v.sent [] [] [] [] k.taken (link_on old told mid asked (heard ∷ []) [] [] [] [] v.sent [] l v.link) k.link;
-  request = inl (append-nil (asked ++ []) ∙ append-nil asked ∙ r);
+  request = inl (can, later_after answer k.later, append-nil (asked ++ []) ∙ append-nil asked ∙ r);
   served = served_headed Sends heard (v.sent ++ []) k.taken answer whole (replied_to (Sends heard) (v.sent ++ []) answer k.later (subst (SendsAll (Sends heard)) (sym (append-nil v.sent)) v.by));
   transfers = k.transfers;
-  too_long = λ x h. absurd (subst ComesLater h k.later);
   short = λ x h. inr (k.short x h);
   ended = k.ended;
 }
@@ -191,7 +211,6 @@ rolled_says Sends a longest old new before later s t answer e k = record {
   request = k.request;
   served = k.served;
   transfers = record { versions = k.transfers.versions; spelt = k.transfers.spelt; made = made_rolled a.base before later s t k.transfers.versions e k.transfers.made; answers = k.transfers.answers };
-  too_long = k.too_long;
   short = k.short;
   ended = k.ended;
 }

@@ -1,127 +1,106 @@
--- Where a whole transfer stands, and what a reply to it says.
-use Rattle.std.proofs.Common.{◌≡◌, ℕ, Bool, true, false, not, ◌&&◌, ◌==◌, if◌then◌else◌, List, [], ◌∷◌, map, length, refl, sym, ap, ◌∙◌, subst, Option, Some, None, is_some}
-use Rattle.std.specs.Prelude.{nat_le}
-use Rattle.std.specs.Option.{option_or}
-use Rattle.std.proofs.lemmas.Bool.{and_left}
+-- Where a transfer stands between messages, and what a reply to it says.
+use Rattle.std.proofs.Common.{◌≡◌, ℕ, Bool, true, false, not, ◌&&◌, ◌==◌, if◌then◌else◌, List, [], ◌∷◌, map, length, refl, sym, ap, ◌∙◌, subst, ◌⊎◌, inl, inr, Option, Some, None, is_some}
 use Rattle.std.proofs.Math.Bool.{and-false}
 use Rattle.dns_rdata.specs.Records.{Record}
+use Rattle.dns_rdata.specs.Soa.{serial_of}
 use Rattle.dns_wire.specs.Wire.{Question}
-use Rattle.zone_model.specs.TransferText.{Mode, Axfr, is_same_soa}
+use Rattle.zone_model.specs.TransferText.{Mode, Axfr, Ixfr}
 use Rattle.xfr_model.specs.Messages.{ReadMessage, type_of}
-use Rattle.zone_model.specs.Updates.{AddRecord, Finished}
-use Rattle.xfr_model.specs.Read.{Fault, NotValid, Malformed, OtherAnswer, Item, Good, Bad, record_item, is_other, is_transfer_head, asks_transfer, first_record_fault, message_fault, request_fault}
-use Rattle.xfr_model.specs.Machine.{Place, AtStart, AtSecond, InWhole, InDeletes, InAdds, AtEnd, is_at_end, Run, went, step, then_run, run_items, lone_serial, signal_of}
-use Rattle.zone_sync.specs.Standing.{IsUnderWay}
+use Rattle.xfr_model.specs.Read.{record_item, request_fault}
+use Rattle.xfr_model.specs.Interpreter.{mode_asked}
+use Rattle.xfr_model.specs.Machine.{Place, AtStart, AtSecond, InWhole, InDeletes, InAdds, AtEnd, is_at_end, Run, step, run_items, signal_of}
+use Rattle.xfr_model.proofs.FinerSteps.{names_mode}
+use Rattle.xfr_model.proofs.Readers.{is_past, second_past, items_past, no_signal}
+use Rattle.xfr_client.specs.Places.{is_at_second, first_serial}
+use Rattle.xfr_client.specs.Rest.{asks_again}
+use Rattle.xfr_client.proofs.Places.{is_begun, any_mode}
+use Rattle.xfr_course.specs.Client.{IsBetween}
+use Rattle.xfr_course.proofs.Between.{BeginsSoa, first_begins}
 
--- a whole text after its first record
-abbrev pub IsBehind : Place → Type 0
-IsBehind AtStart = ⊥
-IsBehind (AtSecond s) = ⊥
-IsBehind (InWhole s) = Unit {0}
-IsBehind (InDeletes s) = ⊥
-IsBehind (InAdds s) = ⊥
-IsBehind AtEnd = Unit {0}
+-- between messages the end wasn't read, and after a first one the first record was
+pub way_open : (begun : Bool) (p : Place) (mode : Mode) → IsBetween begun p mode → is_at_end p ≡ false
+way_open true AtStart mode w = refl
+way_open true (AtSecond s) mode w = refl
+way_open true (InWhole s) mode w = refl
+way_open true (InDeletes s) mode w = refl
+way_open true (InAdds s) mode w = refl
+way_open true AtEnd mode w = absurd w
+way_open false AtStart mode w = refl
+way_open false (AtSecond s) mode w = refl
+way_open false (InWhole s) mode w = refl
+way_open false (InDeletes s) mode w = refl
+way_open false (InAdds s) mode w = refl
+way_open false AtEnd mode w = absurd w
 
-pub behind_way : (p : Place) → IsUnderWay true p → IsBehind p
-behind_way AtStart w = w
-behind_way (AtSecond s) w = w
-behind_way (InWhole s) w = tt
-behind_way (InDeletes s) w = w
-behind_way (InAdds s) w = w
-behind_way AtEnd w = absurd w
+way_begun : (p : Place) (mode : Mode) → IsBetween true p mode → is_begun p ≡ true
+way_begun AtStart mode w = absurd w
+way_begun (AtSecond s) mode w = refl
+way_begun (InWhole s) mode w = refl
+way_begun (InDeletes s) mode w = refl
+way_begun (InAdds s) mode w = refl
+way_begun AtEnd mode w = refl
 
--- .. and not at its end
-pub way_behind : (p : Place) → IsBehind p → is_at_end p ≡ false → IsUnderWay true p
-way_behind AtStart b e = b
-way_behind (AtSecond s) b e = b
-way_behind (InWhole s) b e = tt
-way_behind (InDeletes s) b e = b
-way_behind (InAdds s) b e = b
-way_behind AtEnd b e = absurd (cc e)
+-- the mode that a reply names is the one that was asked for, and later it decides nothing
+pub mode_run : (mode : Mode) (id : ℕ) (q : Question) (begun : Bool) (p : Place) (m : ReadMessage) → q.qtype ≡ type_of mode → IsBetween begun p mode → request_fault id q (not begun) m ≡ None
+    → run_items (mode_asked m.questions) p (map record_item m.answers) ≡ run_items mode p (map record_item m.answers)
+mode_run mode id q true p m t w h =
+    let b = way_begun p mode w in
+    any_mode (mode_asked m.questions) (map record_item m.answers) p b ∙ sym (any_mode mode (map record_item m.answers) p b)
+mode_run mode id q false p m t w h = ap (λ x. run_items x p (map record_item m.answers)) (names_mode mode id q m [] t h)
 
--- one record more
-pub step_behind : (mode : Mode) (p : Place) (r : Record) → IsBehind p → IsBehind (step mode p r).place
-step_behind mode AtStart r b = absurd b
-step_behind mode (AtSecond s) r b = absurd b
-step_behind mode (InWhole s) r b = elim (is_same_soa s r) as (λ b. IsBehind (if b then went AtEnd (Finished r ∷ []) else went (InWhole s) (AddRecord r ∷ [])).place) [ true ↦ tt | false ↦ tt ]
-step_behind mode (InDeletes s) r b = absurd b
-step_behind mode (InAdds s) r b = absurd b
-step_behind mode AtEnd r b = tt
+-- ---- the retry signal
 
-pub run_behind : (mode : Mode) (p : Place) (xs : List Item) → IsBehind p → IsBehind (run_items mode p xs).place
-run_behind mode p [] b = b
-run_behind mode p (Good r ∷ more) b = run_behind mode (step mode p r).place more (step_behind mode p r b)
-run_behind mode p (Bad f ∷ more) b = b
+-- no other way of transfer is asked for, or it is, by an SOA alone in reply to an incremental question
+pub record NoSignal (begun : Bool) (r : Run) : Type 0 where
+  pub told : asks_again (not begun) r ≡ false
+  pub none : signal_of begun r ≡ None
 
--- there the mode decides nothing
-pub step_any : (m n : Mode) (p : Place) (r : Record) → IsBehind p → step m p r ≡ step n p r
-step_any m n AtStart r b = absurd b
-step_any m n (AtSecond s) r b = absurd b
-step_any m n (InWhole s) r b = refl
-step_any m n (InDeletes s) r b = absurd b
-step_any m n (InAdds s) r b = absurd b
-step_any m n AtEnd r b = refl
+pub record HasSignal (mode : Mode) (begun : Bool) (r : Run) : Type 0 where
+  pub told : asks_again (not begun) r ≡ true
+  pub serial : ℕ
+  pub signal : signal_of begun r ≡ Some serial
+  pub found : first_serial r.place ≡ Some serial
+  pub asked : mode ≡ Ixfr
 
-pub run_any : (m n : Mode) (p : Place) (xs : List Item) → IsBehind p → run_items m p xs ≡ run_items n p xs
-run_any m n p [] b = refl
-run_any m n p (Good r ∷ more) b =
-    ap (λ a. then_run a (run_items m a.place more)) (step_any m n p r b)
-    ∙ ap (then_run (step n p r)) (run_any m n (step n p r).place more (step_behind n p r b))
-run_any m n p (Bad f ∷ more) b = refl
+abbrev pub Signals : Mode → Bool → Run → Type 0
+Signals mode begun r = NoSignal begun r ⊎ HasSignal mode begun r
 
--- a first message without a fault begins with a record
-pub record BeginsWith (answers : List (Option Record)) : Type 0 where
-  pub first : Record
-  pub others : List (Option Record)
-  pub are : answers ≡ Some first ∷ others
+past_second : (p : Place) → is_past p ≡ true → is_at_second p ≡ false
+past_second AtStart h = refl
+past_second (AtSecond s) h = absurd (cc h)
+past_second (InWhole s) h = refl
+past_second (InDeletes s) h = refl
+past_second (InAdds s) h = refl
+past_second AtEnd h = refl
 
--- what stands in a message that isn't refused by itself
-judged : (b : Bool) (f : Option Fault) (e : Fault) → (if b then Some e else f) ≡ None → (b ≡ false) × (f ≡ None)
-judged true f e h = absurd (cc h)
-judged false f e h = (refl, h)
+past_none : (r : Run) → is_past r.place ≡ true → NoSignal false r
+past_none r h = record {
+  told = ap (λ b. true && not (is_some r.fault) && b) (past_second r.place h) ∙ and-false (true && not (is_some r.fault));
+  none = no_signal r h;
+}
 
-begins : (m : ReadMessage) (answers : List (Option Record)) → m.answers ≡ answers → message_fault true m ≡ None → BeginsWith m.answers
-begins m (Some r ∷ more) e h = record { first = r; others = more; are = e }
-begins m (None ∷ more) e h =
-    let a = judged (not (is_transfer_head true m)) (if not true then None else if not (asks_transfer m.questions) then Some Malformed else first_record_fault m.answers) NotValid h in
-    let b = judged (not (asks_transfer m.questions)) (first_record_fault m.answers) Malformed a.1 in
-    absurd (cc (sym (ap first_record_fault e) ∙ b.1))
-begins m [] e h =
-    let a = judged (not (is_transfer_head true m)) (if not true then None else if not (asks_transfer m.questions) then Some Malformed else first_record_fault m.answers) NotValid h in
-    let none : is_transfer_head true m ≡ false =
-    ap (λ l. m.header.qr && (m.header.opcode == 0) && not m.header.tc && (m.header.rcode == 0) && not (length l == 0) && (m.authority == 0) && (length m.questions == 1)) e
-    ∙ and_left _ (length m.questions == 1) (and_left _ (m.authority == 0) (and-false (m.header.qr && (m.header.opcode == 0) && not m.header.tc && (m.header.rcode == 0)))) in
-    absurd (cc (sym a.0 ∙ ap not none))
+-- of a first message
+first_signals : (mode : Mode) (answers : List (Option Record)) → BeginsSoa answers → Signals mode false (run_items mode AtStart (map record_item answers))
+first_signals mode [] h = absurd h
+first_signals mode (None ∷ more) h = absurd h
+first_signals Axfr (Some s ∷ others) h = inl (past_none (run_items Axfr AtStart (map record_item (Some s ∷ others))) (items_past Axfr (InWhole s) (map record_item others) refl))
+first_signals Ixfr (Some s ∷ []) h = inr (record {
+  told = refl;
+  serial = serial_of s.fields;
+  signal = ap (λ b. if b then Some (serial_of s.fields) else None) h;
+  found = refl;
+  asked = refl;
+})
+first_signals Ixfr (Some s ∷ None ∷ more) h = inl (record { told = refl; none = refl })
+first_signals Ixfr (Some s ∷ Some r ∷ more) h =
+    inl (past_none (run_items Ixfr AtStart (map record_item (Some s ∷ Some r ∷ more))) (items_past Ixfr (step Ixfr (AtSecond s) r).place (map record_item more) (second_past Ixfr s r)))
 
-pub first_begins : (id : ℕ) (q : Question) (m : ReadMessage) → request_fault id q true m ≡ None → BeginsWith m.answers
-first_begins id q m h = begins m m.answers refl (judged (is_other id q m) (message_fault true m) OtherAnswer h).1
-
--- after a message that isn't refused, a whole transfer is after its first record
-pub behind_message : (id : ℕ) (q : Question) (begun : Bool) (p : Place) (m : ReadMessage) → IsUnderWay begun p → request_fault id q (not begun) m ≡ None
-    → IsBehind (run_items Axfr p (map record_item m.answers)).place
-behind_message id q true p m w h = run_behind Axfr p (map record_item m.answers) (behind_way p w)
-behind_message id q false AtStart m w h =
-    let b = first_begins id q m h in
-    subst (λ l. IsBehind (run_items Axfr AtStart (map record_item l)).place) (sym b.are) (run_behind Axfr (InWhole b.first) (map record_item b.others) tt)
-behind_message id q false (AtSecond s) m w h = absurd w
-behind_message id q false (InWhole s) m w h = absurd w
-behind_message id q false (InDeletes s) m w h = absurd w
-behind_message id q false (InAdds s) m w h = absurd w
-behind_message id q false AtEnd m w h = absurd w
-
--- so no retry is signalled
-pub no_serial : (p : Place) → IsBehind p → lone_serial p ≡ None
-no_serial AtStart b = absurd b
-no_serial (AtSecond s) b = absurd b
-no_serial (InWhole s) b = refl
-no_serial (InDeletes s) b = absurd b
-no_serial (InAdds s) b = absurd b
-no_serial AtEnd b = refl
-
-pub no_signal : (begun : Bool) (a : Run) → IsBehind a.place → signal_of begun a ≡ None
-no_signal true a b = refl
-no_signal false a b = by a.fault
-  where
-    by : (f : Option Fault) → (if is_some f then None else lone_serial a.place) ≡ None
-    by None = no_serial a.place b
-    by (Some f) = refl
+-- of any message that isn't refused by itself
+pub signals : (mode : Mode) (id : ℕ) (q : Question) (begun : Bool) (p : Place) (m : ReadMessage) → IsBetween begun p mode → request_fault id q (not begun) m ≡ None → Signals mode begun (run_items mode p (map record_item m.answers))
+signals mode id q true p m w h = inl (record { told = refl; none = refl })
+signals mode id q false AtStart m w h = first_signals mode m.answers (first_begins id q m h)
+signals mode id q false (AtSecond s) m w h = absurd w
+signals mode id q false (InWhole s) m w h = absurd w
+signals mode id q false (InDeletes s) m w h = absurd w
+signals mode id q false (InAdds s) m w h = absurd w
+signals mode id q false AtEnd m w h = absurd w

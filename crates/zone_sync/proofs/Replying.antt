@@ -1,6 +1,6 @@
 -- What replies come to, one after the other: the transfer that ends with one of them, or goes on.
-use Rattle.std.proofs.Common.{◌≡◌, ℕ, ◌<◌, ◌≤◌, Bool, true, false, ◌&&◌, ◌==◌, if◌then◌else◌, List, [], ◌∷◌, ◌++◌, map, length, append_assoc, append-nil, refl, sym, ap, ◌∙◌, subst, arith, Option, Some, None, Result, Ok, Err}
-use Rattle.std.specs.Prelude.{unwrap_or, option_map}
+use Rattle.std.proofs.Common.{◌≡◌, ℕ, ◌<◌, ◌≤◌, Bool, true, false, ◌&&◌, ◌==◌, if◌then◌else◌, List, [], ◌∷◌, ◌++◌, map, length, append_assoc, append-nil, refl, sym, ap, ◌∙◌, subst, arith, Option, Some, None, Result, Ok, Err, inl, inr}
+use Rattle.std.specs.Prelude.{unwrap_or, option_map, ◌⊎◌}
 use Rattle.std.specs.List.{list_all}
 use Rattle.std.specs.Option.{option_map_or}
 use Rattle.std.proofs.lemmas.List.{map-append}
@@ -10,18 +10,18 @@ use Rattle.dns_wire.specs.declared.builder.PushError.{PushError}
 use Rattle.zone_model.specs.Version.{Version}
 use Rattle.zone_model.specs.Commits.{Commit}
 use Rattle.zone_model.specs.Session.{Session}
-use Rattle.xfr_model.specs.Read.{Fault}
+use Rattle.xfr_model.specs.Read.{Fault, OtherAnswer, NotValid, Malformed, Unreadable, AfterEnd, Refused}
 use Rattle.zone_model.specs.Updates.{Edit, NotSoaRecord, AfterFinish}
 use Rattle.xfr_model.specs.Machine.{is_at_end, Run, signal_of}
 use Rattle.xfr_model.specs.Applying.{Halt, Denied, NoNumber, Held, apply_within}
-use Rattle.xfr_course.specs.Outcome.{Outcome, Ended, LinkFault, TooManyMessages, Short, Tsig, RequestTooLong, Primary, Checked, Course, outcome, made, room, base_serial, UpToDate, RetrySignal}
+use Rattle.xfr_course.specs.Outcome.{Outcome, Updated, UpToDate, NoSoa, RequestTooLong, LinkFault, Ended, Short, Primary, TooManyMessages, Tsig, Reading, RetrySignal, VersionsExhausted, Checked, Course, outcome, made, room, base_serial}
 use Rattle.xfr_course.specs.Courses.{has_header, most_replies, stop_after}
 use Rattle.xfr_course.specs.Client.{Client, new_client, take_course, run_message, IsPart, halt_outcome, met_after}
 use Rattle.xfr_course.proofs.ClientParts.{part_is_made}
 use Rattle.zone_sync.specs.SoFar.{Asking, asked_course, checked_so_far, fault_so_far, course_so_far, client_so_far}
 use Rattle.zone_sync.specs.Steps.{HasMade, RanOut}
 use Rattle.zone_sync.specs.Standing.{ClientState, Passed, Meets, Stands, RefusesReply, TakesReply}
-use Rattle.zone_sync.specs.Ending.{outcome_of}
+use Rattle.zone_sync.specs.Ending.{answer_of}
 use Rattle.zone_devices.specs.Links.{Way, LinkLists, after_take, on_replies, WentOn, BothWentOn, LinkWentOn}
 use Rattle.zone_sync.specs.Transfers.{given_up, course_answered, AreSpelt, AnswersCourse, Transfers, HasShort, EndsSo, TakenSoFar, ComesLater}
 use Rattle.zone_sync.specs.declared.outcome.SyncOk.{SyncOk}
@@ -52,10 +52,38 @@ amounts_failed a ks c stop is unmet =
     let k = comes a ks stop in
     record { outcome = ap outcome is ∙ k.outcome ∙ ap (λ o. unwrap_or o stop) unmet; made = ap made is ∙ k.made }
 
-meets : (a : Asking) (taken : List (List ℕ)) (m : List ℕ) (o gave : Outcome) → Passed (fault_so_far a) taken → length (taken ++ m ∷ []) ≤ most_replies → Meets a taken m o
-    → Amounts (course_so_far a (taken ++ m ∷ []) gave) o (client_so_far a (taken ++ m ∷ [])).progress.committed
-meets a taken m o gave p few x =
-    amounts a (taken ++ m ∷ []) gave (stop_after gave (taken ++ m ∷ []) None) o (one_passed (fault_so_far a) taken m p x.sound x.headed) few refl (ap (λ y. unwrap_or y (stop_after gave (taken ++ m ∷ []) None)) x.met)
+meets : (a : Asking) (taken : List (List ℕ)) (m : List ℕ) (answer : Result SyncOk SyncError) (gave : Outcome) → Passed (fault_so_far a) taken → length (taken ++ m ∷ []) ≤ most_replies → (x : Meets a taken m answer)
+    → Amounts (course_so_far a (taken ++ m ∷ []) gave) x.outcome (client_so_far a (taken ++ m ∷ [])).progress.committed
+meets a taken m answer gave p few x =
+    amounts a (taken ++ m ∷ []) gave (stop_after gave (taken ++ m ∷ []) None) x.outcome (one_passed (fault_so_far a) taken m p x.sound x.headed) few refl (ap (λ y. unwrap_or y (stop_after gave (taken ++ m ∷ []) None)) x.met)
+
+-- versions that are those made
+spelt_all : (c : Course) (answer : Result SyncOk SyncError) (versions : List Version) → versions ≡ made c → AreSpelt c answer versions
+spelt_all c (Err why.Memory) versions h = record { rest = []; is = sym h ∙ sym (append-nil versions) }
+spelt_all c (Ok done) versions h = h
+spelt_all c (Err why.NoSoa) versions h = h
+spelt_all c (Err (why.Request x)) versions h = h
+spelt_all c (Err why.LinkFault) versions h = h
+spelt_all c (Err why.Ended) versions h = h
+spelt_all c (Err (why.Short x)) versions h = h
+spelt_all c (Err (why.Primary x)) versions h = h
+spelt_all c (Err why.TooManyMessages) versions h = h
+spelt_all c (Err (why.Tsig x)) versions h = h
+spelt_all c (Err why.OtherAnswer) versions h = h
+spelt_all c (Err (why.Xfr x)) versions h = h
+spelt_all c (Err (why.Iteration x)) versions h = h
+spelt_all c (Err (why.Update x)) versions h = h
+spelt_all c (Err why.VersionsExhausted) versions h = h
+
+-- a course that comes to the outcome that is answered
+pub comes_to : (a : Asking) (replies : List (List ℕ)) (before handles : List Commit) (s : Session) (answer : Result SyncOk SyncError) (o : Outcome) (versions : List Version)
+    → Amounts (course_answered a replies answer) o versions → answer ≡ answer_of o → HasMade a.base before s handles versions → Transfers a replies before handles s answer
+comes_to a replies before handles s answer o versions k is made = record {
+  versions = versions;
+  spelt = spelt_all (course_answered a replies answer) answer versions (sym k.made);
+  made = made;
+  answers = inr (is ∙ ap answer_of (sym k.outcome));
+}
 
 -- ---- want of memory
 
@@ -83,55 +111,36 @@ ran_out a s before handles taken m gave p few unmet headed sound r =
 
 -- ---- the transfer that ends with a reply
 
+meets_so : (a : Asking) (s : Session) (before handles : List Commit) (taken : List (List ℕ)) (m : List ℕ) (answer : Result SyncOk SyncError) → Passed (fault_so_far a) taken → length (taken ++ m ∷ []) ≤ most_replies
+    → Meets a taken m answer → HasMade a.base before s handles (client_so_far a (taken ++ m ∷ [])).progress.committed → Transfers a (taken ++ m ∷ []) before handles s answer
+meets_so a s before handles taken m answer p few x made =
+    comes_to a (taken ++ m ∷ []) before handles s answer x.outcome (client_so_far a (taken ++ m ∷ [])).progress.committed (meets a taken m answer (given_up answer) p few x) x.answers made
+
 pub refuses : (a : Asking) (s : Session) (before handles : List Commit) (taken : List (List ℕ)) (m : List ℕ) (e : SyncError) → Passed (fault_so_far a) taken → (client_so_far a taken).met ≡ None → length (taken ++ m ∷ []) ≤ most_replies
     → RefusesReply a s before handles taken m e → Transfers a (taken ++ m ∷ []) before handles s (Err e)
 refuses a s before handles taken m (why.Short x) p unmet few r =
-    let k = amounts_failed a taken (course_so_far a (taken ++ m ∷ []) Short) Short (short_course a taken m Short p r.0 few) unmet in
-    record { versions = (client_so_far a taken).progress.committed; spelt = sym k.made; made = r.1.made; answers = ap Some (sym k.outcome) }
+    comes_to a (taken ++ m ∷ []) before handles s (Err (why.Short x)) Short (client_so_far a taken).progress.committed
+    (amounts_failed a taken (course_so_far a (taken ++ m ∷ []) Short) Short (short_course a taken m Short p r.0 few) unmet) refl r.1.made
 refuses a s before handles taken m (why.Tsig x) p unmet few r =
-    let k = amounts_failed a taken (course_so_far a (taken ++ m ∷ []) Ended) (Tsig x) (failed_course a taken m x Ended p r.0 r.1 few) unmet in
-    record { versions = (client_so_far a taken).progress.committed; spelt = sym k.made; made = r.2.made; answers = ap Some (sym k.outcome) }
+    comes_to a (taken ++ m ∷ []) before handles s (Err (why.Tsig x)) (Tsig x) (client_so_far a taken).progress.committed
+    (amounts_failed a taken (course_so_far a (taken ++ m ∷ []) Ended) (Tsig x) (failed_course a taken m x Ended p r.0 r.1 few) unmet) refl r.2.made
 refuses a s before handles taken m why.Memory p unmet few r =
-    record { versions = r.0.ran_out.progress.committed; spelt = ran_out a s before handles taken m Ended p few unmet r.0.headed r.0.sound r.0.ran_out; made = r.0.ran_out.made; answers = tt }
-refuses a s before handles taken m why.NoSoa p unmet few r =
-    let k = meets a taken m r.0.0 Ended p few r.0.1.1 in
-    record { versions = (client_so_far a (taken ++ m ∷ [])).progress.committed; spelt = sym k.made; made = r.1.made; answers = r.0.1.0 ∙ ap Some (sym k.outcome) }
-refuses a s before handles taken m (why.Request x) p unmet few r =
-    let k = meets a taken m r.0.0 RequestTooLong p few r.0.1.1 in
-    record { versions = (client_so_far a (taken ++ m ∷ [])).progress.committed; spelt = sym k.made; made = r.1.made; answers = r.0.1.0 ∙ ap Some (sym k.outcome) }
-refuses a s before handles taken m why.LinkFault p unmet few r =
-    let k = meets a taken m r.0.0 LinkFault p few r.0.1.1 in
-    record { versions = (client_so_far a (taken ++ m ∷ [])).progress.committed; spelt = sym k.made; made = r.1.made; answers = r.0.1.0 ∙ ap Some (sym k.outcome) }
-refuses a s before handles taken m why.Ended p unmet few r =
-    let k = meets a taken m r.0.0 Ended p few r.0.1.1 in
-    record { versions = (client_so_far a (taken ++ m ∷ [])).progress.committed; spelt = sym k.made; made = r.1.made; answers = r.0.1.0 ∙ ap Some (sym k.outcome) }
-refuses a s before handles taken m (why.Primary x) p unmet few r =
-    let k = meets a taken m r.0.0 Primary p few r.0.1.1 in
-    record { versions = (client_so_far a (taken ++ m ∷ [])).progress.committed; spelt = sym k.made; made = r.1.made; answers = r.0.1.0 ∙ ap Some (sym k.outcome) }
-refuses a s before handles taken m why.TooManyMessages p unmet few r =
-    let k = meets a taken m r.0.0 Ended p few r.0.1.1 in
-    record { versions = (client_so_far a (taken ++ m ∷ [])).progress.committed; spelt = sym k.made; made = r.1.made; answers = r.0.1.0 ∙ ap Some (sym k.outcome) }
-refuses a s before handles taken m why.OtherAnswer p unmet few r =
-    let k = meets a taken m r.0.0 Ended p few r.0.1.1 in
-    record { versions = (client_so_far a (taken ++ m ∷ [])).progress.committed; spelt = sym k.made; made = r.1.made; answers = r.0.1.0 ∙ ap Some (sym k.outcome) }
-refuses a s before handles taken m (why.Xfr x) p unmet few r =
-    let k = meets a taken m r.0.0 Ended p few r.0.1.1 in
-    record { versions = (client_so_far a (taken ++ m ∷ [])).progress.committed; spelt = sym k.made; made = r.1.made; answers = r.0.1.0 ∙ ap Some (sym k.outcome) }
-refuses a s before handles taken m (why.Iteration x) p unmet few r =
-    let k = meets a taken m r.0.0 Ended p few r.0.1.1 in
-    record { versions = (client_so_far a (taken ++ m ∷ [])).progress.committed; spelt = sym k.made; made = r.1.made; answers = r.0.1.0 ∙ ap Some (sym k.outcome) }
-refuses a s before handles taken m (why.Update x) p unmet few r =
-    let k = meets a taken m r.0.0 Ended p few r.0.1.1 in
-    record { versions = (client_so_far a (taken ++ m ∷ [])).progress.committed; spelt = sym k.made; made = r.1.made; answers = r.0.1.0 ∙ ap Some (sym k.outcome) }
-refuses a s before handles taken m why.VersionsExhausted p unmet few r =
-    let k = meets a taken m r.0.0 Ended p few r.0.1.1 in
-    record { versions = (client_so_far a (taken ++ m ∷ [])).progress.committed; spelt = sym k.made; made = r.1.made; answers = r.0.1.0 ∙ ap Some (sym k.outcome) }
+    record { versions = r.0.ran_out.progress.committed; spelt = ran_out a s before handles taken m Ended p few unmet r.0.headed r.0.sound r.0.ran_out; made = r.0.ran_out.made; answers = inl refl }
+refuses a s before handles taken m why.NoSoa p unmet few r = meets_so a s before handles taken m (Err why.NoSoa) p few r.0 r.1.made
+refuses a s before handles taken m (why.Request x) p unmet few r = meets_so a s before handles taken m (Err (why.Request x)) p few r.0 r.1.made
+refuses a s before handles taken m why.LinkFault p unmet few r = meets_so a s before handles taken m (Err why.LinkFault) p few r.0 r.1.made
+refuses a s before handles taken m why.Ended p unmet few r = meets_so a s before handles taken m (Err why.Ended) p few r.0 r.1.made
+refuses a s before handles taken m (why.Primary x) p unmet few r = meets_so a s before handles taken m (Err (why.Primary x)) p few r.0 r.1.made
+refuses a s before handles taken m why.TooManyMessages p unmet few r = meets_so a s before handles taken m (Err why.TooManyMessages) p few r.0 r.1.made
+refuses a s before handles taken m why.OtherAnswer p unmet few r = meets_so a s before handles taken m (Err why.OtherAnswer) p few r.0 r.1.made
+refuses a s before handles taken m (why.Xfr x) p unmet few r = meets_so a s before handles taken m (Err (why.Xfr x)) p few r.0 r.1.made
+refuses a s before handles taken m (why.Iteration x) p unmet few r = meets_so a s before handles taken m (Err (why.Iteration x)) p few r.0 r.1.made
+refuses a s before handles taken m (why.Update x) p unmet few r = meets_so a s before handles taken m (Err (why.Update x)) p few r.0 r.1.made
+refuses a s before handles taken m why.VersionsExhausted p unmet few r = meets_so a s before handles taken m (Err why.VersionsExhausted) p few r.0 r.1.made
 
 pub finishes : (a : Asking) (c : ClientState) (s : Session) (before handles : List Commit) (taken : List (List ℕ)) (m : List ℕ) (done : SyncOk) → Passed (fault_so_far a) taken → length (taken ++ m ∷ []) ≤ most_replies
     → TakesReply a c s before handles taken m (Ok (Some done)) → Transfers a (taken ++ m ∷ []) before handles s (Ok done)
-finishes a c s before handles taken m done p few r =
-    let k = meets a taken m r.0.0 Ended p few r.0.1.1 in
-    record { versions = (client_so_far a (taken ++ m ∷ [])).progress.committed; spelt = sym k.made; made = r.1.made; answers = r.0.1.0 ∙ ap Some (sym k.outcome) }
+finishes a c s before handles taken m done p few r = meets_so a s before handles taken m (Ok done) p few r.0 r.1.made
 
 -- ---- the transfer that ends without a further reply
 
@@ -142,70 +151,103 @@ none_comes a c s before handles taken gave st few =
 
 pub link_fails : (a : Asking) (c : ClientState) (s : Session) (before handles : List Commit) (taken : List (List ℕ)) → Stands c s a taken before handles → length taken < most_replies → Transfers a taken before handles s (Err why.LinkFault)
 link_fails a c s before handles taken st few =
-    let k = none_comes a c s before handles taken LinkFault st few in
-    record { versions = (client_so_far a taken).progress.committed; spelt = sym k.made; made = st.stands.ahead.made; answers = ap Some (sym k.outcome) }
+    comes_to a taken before handles s (Err why.LinkFault) LinkFault (client_so_far a taken).progress.committed (none_comes a c s before handles taken LinkFault st few) refl st.stands.ahead.made
 
 pub link_ends : (a : Asking) (c : ClientState) (s : Session) (before handles : List Commit) (taken : List (List ℕ)) → Stands c s a taken before handles → length taken < most_replies → Transfers a taken before handles s (Err why.Ended)
 link_ends a c s before handles taken st few =
-    let k = none_comes a c s before handles taken Ended st few in
-    record { versions = (client_so_far a taken).progress.committed; spelt = sym k.made; made = st.stands.ahead.made; answers = ap Some (sym k.outcome) }
+    comes_to a taken before handles s (Err why.Ended) Ended (client_so_far a taken).progress.committed (none_comes a c s before handles taken Ended st few) refl st.stands.ahead.made
 
 pub memory_ends : (a : Asking) (c : ClientState) (s : Session) (before handles : List Commit) (taken : List (List ℕ)) → Stands c s a taken before handles → length taken < most_replies → Transfers a taken before handles s (Err why.Memory)
 memory_ends a c s before handles taken st few =
     let k = none_comes a c s before handles taken Ended st few in
-    record { versions = (client_so_far a taken).progress.committed; spelt = same_part (client_so_far a taken).progress.committed (made (course_so_far a taken Ended)) k.made; made = st.stands.ahead.made; answers = tt }
+    record { versions = (client_so_far a taken).progress.committed; spelt = same_part (client_so_far a taken).progress.committed (made (course_so_far a taken Ended)) k.made; made = st.stands.ahead.made; answers = inl refl }
 
 pub too_many : (a : Asking) (c : ClientState) (s : Session) (before handles : List Commit) (taken : List (List ℕ)) → Stands c s a taken before handles → length taken ≡ most_replies → Transfers a taken before handles s (Err why.TooManyMessages)
 too_many a c s before handles taken st many =
-    let k = amounts a taken Ended TooManyMessages TooManyMessages st.stands.passed (omega (arith, many)) (stop_many Ended taken st.stands.passed.headed many) (ap (λ o. unwrap_or o TooManyMessages) st.stands.unmet) in
-    record { versions = (client_so_far a taken).progress.committed; spelt = sym k.made; made = st.stands.ahead.made; answers = ap Some (sym k.outcome) }
+    comes_to a taken before handles s (Err why.TooManyMessages) TooManyMessages (client_so_far a taken).progress.committed
+    (amounts a taken Ended TooManyMessages TooManyMessages st.stands.passed (omega (arith, many)) (stop_many Ended taken st.stands.passed.headed many) (ap (λ o. unwrap_or o TooManyMessages) st.stands.unmet)) refl st.stands.ahead.made
 
--- ---- no outcome of a message is one of the link, or of the request
+-- ---- no outcome of a message is one of the link, of the primary, or of the request
 
-abbrev by_link : Option Outcome → Bool
-by_link (Some LinkFault) = true
-by_link (Some Ended) = true
-by_link (Some RequestTooLong) = true
-by_link (Some Primary) = true
+abbrev by_link : Outcome → Bool
+by_link NoSoa = true
+by_link LinkFault = true
+by_link Ended = true
+by_link RequestTooLong = true
+by_link Primary = true
 by_link _ = false
 
-halts_elsewhere : (h : Halt) → by_link (Some (halt_outcome h)) ≡ false
+abbrev may_be_link : Option Outcome → Bool
+may_be_link None = false
+may_be_link (Some o) = by_link o
+
+halts_elsewhere : (h : Halt) → may_be_link (halt_outcome h) ≡ false
 halts_elsewhere NoNumber = refl
 halts_elsewhere (Denied (Edit e)) = refl
 halts_elsewhere (Denied NotSoaRecord) = refl
 halts_elsewhere (Denied AfterFinish) = refl
 
-chosen_elsewhere : (b : Bool) (o p : Outcome) → by_link (Some o) ≡ false → by_link (Some p) ≡ false → by_link (Some (if b then o else p)) ≡ false
+chosen_elsewhere : (b : Bool) (o p : Outcome) → by_link o ≡ false → by_link p ≡ false → by_link (if b then o else p) ≡ false
 chosen_elsewhere true o p x y = x
 chosen_elsewhere false o p x y = y
 
-met_elsewhere : (c : Course) (h : Option Halt) (f : Option Fault) (n : Option ℕ) (ended : Bool) → by_link (met_after c h f n ended) ≡ false
+met_elsewhere : (c : Course) (h : Option Halt) (f : Option Fault) (n : Option ℕ) (ended : Bool) → may_be_link (met_after c h f n ended) ≡ false
 met_elsewhere c (Some h) f n ended = halts_elsewhere h
 met_elsewhere c None (Some f) n ended = refl
 met_elsewhere c None None (Some n) ended = chosen_elsewhere (option_map_or (λ k. k == n) (base_serial c) false) UpToDate RetrySignal refl refl
 met_elsewhere c None None None true = refl
 met_elsewhere c None None None false = refl
 
-meets_elsewhere : (a : Asking) (taken : List (List ℕ)) (m : List ℕ) (o : Outcome) → (client_so_far a taken).met ≡ None → Meets a taken m o → by_link (Some o) ≡ false
-meets_elsewhere a taken m o unmet x =
+-- .. and so of its answer
+abbrev is_by_link : Result SyncOk SyncError → Bool
+is_by_link (Err why.NoSoa) = true
+is_by_link (Err why.LinkFault) = true
+is_by_link (Err why.Ended) = true
+is_by_link (Err (why.Request x)) = true
+is_by_link (Err (why.Primary x)) = true
+is_by_link answer = false
+
+answered_by_link : (o : Outcome) → is_by_link (answer_of o) ≡ by_link o
+answered_by_link Updated = refl
+answered_by_link UpToDate = refl
+answered_by_link NoSoa = refl
+answered_by_link RequestTooLong = refl
+answered_by_link LinkFault = refl
+answered_by_link Ended = refl
+answered_by_link Short = refl
+answered_by_link Primary = refl
+answered_by_link TooManyMessages = refl
+answered_by_link (Tsig e) = refl
+answered_by_link (Reading OtherAnswer) = refl
+answered_by_link (Reading NotValid) = refl
+answered_by_link (Reading Malformed) = refl
+answered_by_link (Reading Unreadable) = refl
+answered_by_link (Reading AfterEnd) = refl
+answered_by_link (Reading (Refused x)) = refl
+answered_by_link RetrySignal = refl
+answered_by_link VersionsExhausted = refl
+
+meets_elsewhere : (a : Asking) (taken : List (List ℕ)) (m : List ℕ) (answer : Result SyncOk SyncError) → (client_so_far a taken).met ≡ None → Meets a taken m answer → is_by_link answer ≡ false
+meets_elsewhere a taken m answer unmet x =
     let r : Run = run_next a taken m in
     let h : Held = apply_within (room (course a)) (client_so_far a taken).progress r.updates in
-    ap by_link (sym x.met ∙ ap (λ y. y.met) (client_taken a taken m unmet)) ∙ met_elsewhere (course a) h.halt r.fault (signal_of (client_so_far a taken).begun r) (is_at_end r.place)
+    ap is_by_link x.answers ∙ answered_by_link x.outcome
+    ∙ ap may_be_link (sym x.met ∙ ap (λ y. y.met) (client_taken a taken m unmet)) ∙ met_elsewhere (course a) h.halt r.fault (signal_of (client_so_far a taken).begun r) (is_at_end r.place)
 
 pub no_link_fault : (a : Asking) (s : Session) (before handles : List Commit) (taken : List (List ℕ)) (m : List ℕ) (e : SyncError) → (client_so_far a taken).met ≡ None → RefusesReply a s before handles taken m e → e ≡ why.LinkFault → ⊥
 no_link_fault a s before handles taken m e unmet r is =
     let k = subst (λ (x : SyncError). RefusesReply a s before handles taken m x) is r in
-    cc (ap by_link k.0.1.0 ∙ meets_elsewhere a taken m k.0.0 unmet k.0.1.1)
+    cc (meets_elsewhere a taken m (Err why.LinkFault) unmet k.0)
 
 pub no_end : (a : Asking) (s : Session) (before handles : List Commit) (taken : List (List ℕ)) (m : List ℕ) (e : SyncError) → (client_so_far a taken).met ≡ None → RefusesReply a s before handles taken m e → e ≡ why.Ended → ⊥
 no_end a s before handles taken m e unmet r is =
     let k = subst (λ (x : SyncError). RefusesReply a s before handles taken m x) is r in
-    cc (ap by_link k.0.1.0 ∙ meets_elsewhere a taken m k.0.0 unmet k.0.1.1)
+    cc (meets_elsewhere a taken m (Err why.Ended) unmet k.0)
 
 pub comes_later : (a : Asking) (s : Session) (before handles : List Commit) (taken : List (List ℕ)) (m : List ℕ) (e : SyncError) → (client_so_far a taken).met ≡ None → RefusesReply a s before handles taken m e → ComesLater (Err e)
-comes_later a s before handles taken m (why.Request x) unmet r = absurd (cc (ap by_link r.0.1.0 ∙ meets_elsewhere a taken m r.0.0 unmet r.0.1.1))
-comes_later a s before handles taken m (why.Primary x) unmet r = absurd (cc (ap by_link r.0.1.0 ∙ meets_elsewhere a taken m r.0.0 unmet r.0.1.1))
-comes_later a s before handles taken m why.NoSoa unmet r = tt
+comes_later a s before handles taken m (why.Request x) unmet r = absurd (cc (meets_elsewhere a taken m (Err (why.Request x)) unmet r.0))
+comes_later a s before handles taken m (why.Primary x) unmet r = absurd (cc (meets_elsewhere a taken m (Err (why.Primary x)) unmet r.0))
+comes_later a s before handles taken m why.NoSoa unmet r = absurd (cc (meets_elsewhere a taken m (Err why.NoSoa) unmet r.0))
 comes_later a s before handles taken m why.LinkFault unmet r = tt
 comes_later a s before handles taken m why.Ended unmet r = tt
 comes_later a s before handles taken m (why.Short x) unmet r = tt

@@ -84,7 +84,8 @@ not_carried items Left old mid new links.Memory k e = record { sent = k.sent; li
 -- the stream is what the primary sends
 served_by : (Sends : Option (List Sending) → Type 0) (items : List Sending) (sent : List (List ℕ)) (answer : Result (Unit {0}) SyncError) → Sends (Some items) → SentOf items sent answer → ServedBy Sends sent answer
 served_by Sends items sent (Ok u) s k = record { items = items; sends = s; all = k }
-served_by Sends items sent (Err (why.Primary e)) s k = inr (record { items = items; sends = s; until = k })
+served_by Sends items sent (Err (why.Primary service.InternalError)) s k = inr (record { items = items; sends = s; until = k })
+served_by Sends items sent (Err (why.Primary service.Memory)) s k = absurd k
 served_by Sends items sent (Err why.LinkFault) s k = inr (record { items = items; sends = s; rest = k.rest; part = k.part })
 served_by Sends items sent (Err why.Memory) s k = inr (record { items = items; sends = s; rest = k.rest; part = k.part })
 served_by Sends items sent (Err (why.Short e)) s k = absurd k
@@ -117,7 +118,7 @@ replied_to Sends sent (Err why.Memory) l k = all_begun Sends sent k
 replied_to Sends sent (Err (why.Short e)) l k = k
 replied_to Sends sent (Err (why.Primary e)) l k = absurd l
 replied_to Sends sent (Err (why.Request e)) l k = absurd l
-replied_to Sends sent (Err why.NoSoa) l k = k
+replied_to Sends sent (Err why.NoSoa) l k = absurd l
 replied_to Sends sent (Err why.Ended) l k = k
 replied_to Sends sent (Err why.TooManyMessages) l k = k
 replied_to Sends sent (Err (why.Tsig e)) l k = k

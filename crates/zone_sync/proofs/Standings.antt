@@ -7,18 +7,18 @@ use Rattle.std.proofs.lemmas.List.Folds.{list_all-append}
 use Rattle.tsig_port.specs.Checked.{passing, first_fault, pass_on, taken_message}
 use Rattle.tsig_port.specs.declared.errors.ValidationError.{ValidationError}
 use Rattle.zone_model.specs.Updates.{Update, Progress}
-use Rattle.zone_model.specs.TransferText.{Axfr}
 use Rattle.xfr_model.specs.Messages.{ReadMessage}
+use Rattle.zone_model.specs.Updates.{UpdateFault}
 use Rattle.xfr_model.specs.Read.{Fault, Item, Bad, record_item, items_unless, request_fault}
 use Rattle.xfr_model.specs.Machine.{Place, is_at_end, Run, run_items, signal_of}
-use Rattle.xfr_model.specs.Applying.{Halt, Held, apply_within}
+use Rattle.xfr_model.specs.Applying.{Halt, Denied, Held, apply_within, DeniedEdit}
 use Rattle.xfr_course.specs.Outcome.{Outcome, Updated, Tsig, Reading, Ended, Checked, Course, room}
 use Rattle.xfr_course.specs.Courses.{has_header}
-use Rattle.xfr_course.specs.Client.{Client, new_client, halt_outcome, met_after, client_after, run_message, take_checked, take_course}
+use Rattle.xfr_course.specs.Client.{Client, new_client, met_after, client_after, run_message, take_checked, take_course, StandsBetween}
+use Rattle.xfr_course.proofs.Between.{between_messages, updates_in_turn}
 use Rattle.xfr_course.proofs.Clients.{course_on}
 use Rattle.zone_sync.specs.SoFar.{Asking, asked_id, asked_question, asked_mac, asked_course, checked_so_far, message_so_far, fault_so_far, client_so_far}
-use Rattle.zone_sync.specs.Standing.{Passed, IsUnderWay}
-use Rattle.zone_sync.proofs.Places.{IsBehind, behind_message, no_signal, way_behind}
+use Rattle.zone_sync.specs.Standing.{Passed}
 
 -- ---- what passed
 
@@ -71,6 +71,16 @@ client_taken a taken m unmet =
     let r : Run = run_next a taken m in
     client_next a taken m ∙ ap (λ o. if is_some o then cl else client_after (course a) cl.begun r (apply_within (room (course a)) cl.progress r.updates)) unmet
 
+-- where the client stands, and that none of the message's updates comes out of turn
+pub between : (a : Asking) (taken : List (List ℕ)) → (client_so_far a taken).met ≡ None → StandsBetween (course a) (client_so_far a taken)
+unfolding client_so_far
+between a taken unmet = between_messages (course a) (map checked_so_far taken) unmet
+
+pub in_turn : (a : Asking) (taken : List (List ℕ)) (m : List ℕ) (f : UpdateFault) → (client_so_far a taken).met ≡ None
+    → (apply_within (room (course a)) (client_so_far a taken).progress (run_next a taken m).updates).halt ≡ Some (Denied f) → DeniedEdit f
+unfolding client_so_far
+in_turn a taken m f unmet h = updates_in_turn (course a) (map checked_so_far taken) (checked_so_far m) f unmet h
+
 -- a message that is refused by itself
 pub record Refused (a : Asking) (taken : List (List ℕ)) (m : List ℕ) (f : Fault) : Type 0 where
   pub met : (client_so_far a (taken ++ m ∷ [])).met ≡ Some (Reading f)
@@ -97,25 +107,15 @@ pub record Moves (a : Asking) (taken : List (List ℕ)) (m : List ℕ) (r : Run)
   pub begun : (client_so_far a (taken ++ m ∷ [])).begun ≡ true
   pub place : (client_so_far a (taken ++ m ∷ [])).place ≡ r.place
   pub progress : (client_so_far a (taken ++ m ∷ [])).progress ≡ h.progress
-  pub met : (client_so_far a (taken ++ m ∷ [])).met ≡ met_after (course a) h.halt r.fault None (is_at_end r.place)
-  pub behind : IsBehind r.place
+  pub met : (client_so_far a (taken ++ m ∷ [])).met ≡ met_after (course a) h.halt r.fault (signal_of (client_so_far a taken).begun r) (is_at_end r.place)
 
-pub message_moves : (a : Asking) (taken : List (List ℕ)) (m : List ℕ) → a.mode ≡ Axfr → (client_so_far a taken).met ≡ None → IsUnderWay (client_so_far a taken).begun (client_so_far a taken).place
-    → request_fault (asked_id a) (asked_question a) (not (client_so_far a taken).begun) (checked_so_far m).message ≡ None
+pub message_moves : (a : Asking) (taken : List (List ℕ)) (m : List ℕ) → (client_so_far a taken).met ≡ None
     → Moves a taken m (run_next a taken m) (apply_within (room (course a)) (client_so_far a taken).progress (run_next a taken m).updates)
-message_moves a taken m whole unmet way sound =
-    let cl : Client = client_so_far a taken in
-    let r : Run = run_next a taken m in
-    let h : Held = apply_within (room (course a)) cl.progress r.updates in
+message_moves a taken m unmet =
     let next = client_taken a taken m unmet in
-    let is : r ≡ run_items Axfr cl.place (map record_item (checked_so_far m).message.answers) =
-    run_read a taken m sound ∙ ap (λ x. run_items x cl.place (map record_item (checked_so_far m).message.answers)) whole in
-    let behind : IsBehind r.place = subst (λ (x : Run). IsBehind x.place) (sym is) (behind_message (asked_id a) (asked_question a) cl.begun cl.place (checked_so_far m).message way sound) in
     record {
       begun = ap (λ x. x.begun) next;
       place = ap (λ x. x.place) next;
       progress = ap (λ x. x.progress) next;
-      met = ap (λ x. x.met) next
-          ∙ ap (λ o. met_after (course a) h.halt r.fault o (is_at_end r.place)) (no_signal cl.begun r behind);
-      behind = behind;
+      met = ap (λ x. x.met) next;
     }

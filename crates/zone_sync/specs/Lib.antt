@@ -14,6 +14,7 @@ pub mod Standing
 pub mod Replies
 pub mod Serving
 pub mod Transfers
+pub mod Handles
 pub mod Fitting
 pub mod Delivery
 pub mod Grants

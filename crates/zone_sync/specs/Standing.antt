@@ -8,8 +8,8 @@ use Rattle.tsig_port.specs.declared.errors.ValidationError.{ValidationError}
 use Rattle.zone_model.specs.Commits.{Commit}
 use Rattle.zone_model.specs.Session.{Session}
 use Rattle.zone_model.specs.Updates.{Update, Progress}
-use Rattle.zone_model.specs.TransferText.{Mode, Axfr, Ixfr}
-use Rattle.xfr_model.specs.Machine.{Place, AtStart, InWhole, InDeletes, InAdds}
+use Rattle.zone_model.specs.TransferText.{Mode, Axfr}
+use Rattle.xfr_model.specs.Machine.{Place, InWhole}
 use Rattle.xfr_course.specs.Outcome.{Outcome, Ended}
 use Rattle.xfr_course.specs.Client.{run_message}
 use Rattle.xfr_course.specs.Courses.{has_header}
@@ -38,14 +38,6 @@ pub record Passed (fault : List (List ℕ) → List ℕ → Option ValidationErr
   pub faults : (more : List (List ℕ)) → first_fault fault [] (taken ++ more) ≡ first_fault fault taken more
   pub headed : list_all has_header taken ≡ true
 
--- where a transfer stands before its first message, and between messages: in a whole text, or in a batch
-abbrev pub IsUnderWay : Mode → Bool → Place → Type 0
-IsUnderWay mode false AtStart = Unit {0}
-IsUnderWay mode true (InWhole first) = Unit {0}
-IsUnderWay Ixfr true (InDeletes first) = Unit {0}
-IsUnderWay Ixfr true (InAdds first) = Unit {0}
-IsUnderWay mode begun place = ⊥
-
 -- an exchange stands for the replies taken so far: signatures, place in the text, and updates done
 pub record ExchangeStands (e : Exchange) (s : Session) (a : Asking) (taken : List (List ℕ)) (before handles : List Commit) : Type 0 where
   pub key : e.sequence.key ≡ a.key
@@ -54,7 +46,6 @@ pub record ExchangeStands (e : Exchange) (s : Session) (a : Asking) (taken : Lis
   pub question : e.question ≡ asked_question a
   pub serial : e.serial ≡ asked_serial a
   pub interpreter : e.interpreter ≡ record { begun = (client_so_far a taken).begun; place = (client_so_far a taken).place; signalled = false }
-  pub under_way : IsUnderWay a.mode (client_so_far a taken).begun (client_so_far a taken).place
   pub unmet : (client_so_far a taken).met ≡ None
   pub ahead : Ahead a.base before e.updater s handles (client_so_far a taken).progress
   pub passed : Passed (fault_so_far a) taken

@@ -12,10 +12,11 @@ ghost use Rattle.xfr_model.specs.Machine.{Place};
 ghost use Rattle.zone_model.specs.Updates.{Progress};
 ghost use Rattle.xfr_client.specs.Causes.{update_of};
 ghost use Rattle.xfr_client.specs.Places.{first_serial};
+ghost use Rattle.xfr_course.specs.Client.{IsBetween};
 ghost use Rattle.zone_sync.specs.Modes.{mode_of};
 ghost use Rattle.zone_sync.specs.SoFar.{Asking, asked_octets, asked_mac, asked_id, asked_question, authority_of, message_so_far, asking, asks_other, AsksWith, CanAsk, CantAsk, IsTooLong, PushesFirst};
 ghost use Rattle.zone_sync.specs.Ending.{same_serial, settled};
-ghost use Rattle.zone_sync.specs.Standing.{asking_of, Stands, TakesReply, ExchangeStands, IsUnderWay, ReadsWhole};
+ghost use Rattle.zone_sync.specs.Standing.{asking_of, Stands, TakesReply, ExchangeStands, ReadsWhole};
 ghost use Rattle.zone_sync.specs.Replies.{AnswersReply, AnswersRequest, IsAnswerTo, TestsReply, TakesMessage};
 ghost use Rattle.zone_sync.specs.Steps.{Ahead, KeepsWish, StaysStill, TakesOne, TakesAll};
 
@@ -198,7 +199,7 @@ impl Exchange {
     ) -> Result<Option<SyncOk>, SyncError>
         ensures takes { (a : Asking) (taken : List (List ℕ)) (before : List Commit) → a.at ≡ at → ExchangeStands self.old session.old a taken before made.old.items
             → TakesMessage a self.new session.new before made.new.items taken octets.items result }
-        ensures keeps { OnOk result (KeepsWish session.old session.new) }
+        ensures keeps { result ≡ Ok None → KeepsWish session.old session.new }
     {
         let message = self.checked(octets, at)?;
         let updates = self.read(&message)?;
@@ -252,7 +253,7 @@ impl Exchange {
     /// What a checked reply says, where it answers the request and is one of a transfer.
     fn read<'m>(&mut self, message: &'m MessageBuf) -> Result<XfrZoneUpdateIterator<'m>, SyncError>
         ensures tests { (a : Asking) (begun : Bool) (place : Place) → self.old.id ≡ asked_id a → self.old.question ≡ asked_question a
-            → self.old.interpreter ≡ record { begun = begun; place = place; signalled = false } → IsUnderWay a.mode begun place
+            → self.old.interpreter ≡ record { begun = begun; place = place; signalled = false } → IsBetween begun place a.mode
             → TestsReply a begun place (message_so_far message.now) self.new.interpreter result }
         ensures others { self.new ≡ record self.old { interpreter = self.new.interpreter } }
     {
@@ -321,7 +322,8 @@ fn asked_with(mode: XfrMode, zone: &ReadZone) -> Result<Option<Serial>, SyncErro
 fn apex_serial(zone: &ReadZone) -> Option<Serial>
     ensures { result ≡ option_map serial_of (apex_soa zone.now.version) }
 {
-    let found = zone.rrset_at(zone.apex_name(), Rtype::SOA)?;
+    let version = zone.contents();
+    let found = version.set_at(version.apex(), Rtype::SOA)?;
     match found.items().first() {
         Some(item) => Some(serial_of(item)),
         None => None,

@@ -9,6 +9,7 @@ ghost use Rattle.zone_sync.specs.Transfers.{SyncSays, EndsSo, Serves, SendsItems
 ghost use Rattle.xfr_server.specs.Items.{Sending};
 ghost use Rattle.zone_sync.specs.Serving.{request_at};
 ghost use Rattle.zone_sync.specs.Delivery.{Synchronizes};
+ghost use Rattle.zone_sync.specs.Handles.{KeepsHandles};
 
 use crate::client::XfrClient;
 use crate::outcome::{SyncError, SyncOk};
@@ -35,6 +36,9 @@ pub struct Moments {
 /// Brings a secondary's zone up to date with a primary's, over a link: what was pending is dropped, the request goes to the
 /// primary, and its replies come back, each checked and applied before the next. `made` gains a handle of each version
 /// that is committed, as they come, whatever the answer is; nothing is pending afterwards. Nothing waits, so nothing is asked of `rt`.
+///
+/// For what is newer alone the request has the first apex SOA of the current version; `NoSoa` where there is none, before anything
+/// is asked. `UpToDate` says that the primary has nothing newer. Which answer comes for what is told in docs/ERRORS.md.
 pub fn sync_zone<R, P: Service<()>, L: Link>(
     rt: &R,
     alloc: Global,
@@ -52,6 +56,8 @@ pub fn sync_zone<R, P: Service<()>, L: Link>(
     // version is current.
     ensures headline { Synchronizes (λ m. P.Sends primary.now (request_at m moments.at_primary)) (asks_with key.now (mode_of mode) moments.at_secondary session.old.current)
         moments.at_primary (L.longest link.old) (L.lists link.old) (L.lists link.new) (L.faults link.old) (L.faults link.new) made.old.items made.new.items session.new result }
+    // The handles that were there stay, and answer each question as before (`look_up`); those that came have the next numbers.
+    ensures handles { KeepsHandles session.old.current made.old.items made.new.items }
     // No difference is wanted of the next commit.
     ensures wish { session.new.compares ≡ false }
     // The causes by the link.

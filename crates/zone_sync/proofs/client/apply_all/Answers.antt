@@ -1,29 +1,41 @@
 use Rattle.std.proofs.Common.{refl}
 use Rattle.std.proofs.lemmas.Result.{err_from_is_err_and}
 use Rattle.xfr_client.specs.Causes.{update_of}
-use Rattle.zone_sync.proofs.Messages.{led_on, halts_there}
+use Rattle.zone_sync.proofs.Messages.{led_on, halts_there, told_error, told_all}
 use Rattle.zone_sync.specs.Steps.{numbers_left}
 use Rattle.zone_sync.proofs.Steps.{led_none, wish_stays, wish_on}
 use Rattle.zone_sync.proofs.client.apply_all.Goals as goal
 
 pub updates-init : goal.updates-init
 updates-init met c = (
-  λ base before g r a. record { progress = g; led = led_none (numbers_left base) g c.args.updates.run.updates; fault = refl; no_retry = r; ahead = a },
+  λ base before g a. record { progress = g; led = led_none (numbers_left base) g c.args.updates.run.updates; fault = refl; retry = refl; ahead = a },
   wish_stays c.args.session.now,
 )
 
 pub updates-preserved : goal.updates-preserved
 updates-preserved met c = (
-  λ base before g r a.
-      let i = c.updates.invariant.0 base before g r a in
+  λ base before g a.
+      let i = c.updates.invariant.0 base before g a in
       led_on base before c.updates.updater c.apply_one.new.updater c.updates.session c.apply_one.new.session c.updates.made.items c.apply_one.new.made.items g c.args.updates c.updates.updates c.next_update.new.self (update_of c.in_ok-update.field-0)
       i (rw c.in_ok-update.was at c.in-Some.ensures) (c.in_ok-apply_one.ensures.takes base before i.progress i.ahead),
   wish_on c.args.session.now c.updates.session c.apply_one.new.session c.updates.invariant.1 c.in_ok-apply_one.ensures.keeps,
 )
 
+pub returns-in_err-update-clause-takes : goal.returns-in_err-update-clause-takes
+returns-in_err-update-clause-takes met c base before g a =
+    let i = c.updates.invariant.0 base before g a in
+    let p = err_from_is_err_and c.from_residual.result c.from_residual.ensures.1 in
+    rw (p.1, p.2) (told_error base before c.updates.updater c.updates.session c.updates.made.items g c.args.updates c.updates.updates c.next_update.new.self c.in_err-update.field-0.0
+    i (rw c.in_err-update.was at c.in-Some.ensures))
+
+pub returns-clause-takes : goal.returns-clause-takes
+returns-clause-takes met c base before g a =
+    let i = c.updates.invariant.0 base before g a in
+    told_all base before c.updates.updater c.updates.session c.updates.made.items g c.args.updates c.updates.updates c.next_update.new.self i c.in_default.ensures
+
 pub returns-in_err-apply_one-clause-takes : goal.returns-in_err-apply_one-clause-takes
-returns-in_err-apply_one-clause-takes met c base before g r a =
-    let i = c.updates.invariant.0 base before g r a in
+returns-in_err-apply_one-clause-takes met c base before g a =
+    let i = c.updates.invariant.0 base before g a in
     let p = err_from_is_err_and c.from_residual-in_err-apply_one.result c.from_residual-in_err-apply_one.ensures.1 in
     rw (p.1, p.2) (halts_there base before c.updates.updater c.apply_one.new.updater c.updates.session c.apply_one.new.session c.updates.made.items c.apply_one.new.made.items g c.args.updates c.updates.updates c.next_update.new.self (update_of c.in_ok-update.field-0) c.in_err-apply_one.field-0.0
     i (rw c.in_ok-update.was at c.in-Some.ensures) (c.in_err-apply_one.ensures.takes base before i.progress i.ahead))

@@ -1,4 +1,4 @@
-use Rattle.std.proofs.Common.{◌≡◌, List, length, false}
+use Rattle.std.proofs.Common.{List, length}
 use Rattle.zone_model.specs.Commits.{Commit}
 use Rattle.zone_model.specs.Updates.{Progress}
 use Rattle.zone_sync.specs.Steps.{Ahead, KeepsWish, LedOn, numbers_left}
@@ -6,7 +6,7 @@ use Rattle.zone_sync.proofs.client.apply_all.Given as goal
 
 abbrev pub invariant-updates : goal.invariant-updates
 invariant-updates met l =
-    ((base : Commit) (before : List Commit) (g : Progress) → l.initial.updates.retry ≡ false → Ahead base before l.initial.updater l.initial.session l.initial.made.items g
+    ((base : Commit) (before : List Commit) (g : Progress) → Ahead base before l.initial.updater l.initial.session l.initial.made.items g
     → LedOn base before l.updater l.session l.made.items g l.initial.updates l.updates)
     × KeepsWish l.initial.session l.session
 

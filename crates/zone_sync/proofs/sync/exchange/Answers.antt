@@ -2,6 +2,7 @@ use Rattle.std.proofs.Common.{◌≡◌, refl, List, [], ◌∷◌, ◌++◌, sy
 use Rattle.std.proofs.lemmas.Result.{err_from_is_err_and}
 use Rattle.zone_devices.specs.Calls.{Rose}
 use Rattle.zone_sync.specs.Serving.{request_at}
+use Rattle.zone_sync.specs.SoFar.{CanAsk}
 use Rattle.zone_sync.specs.Standing.{asking_of}
 use Rattle.zone_sync.proofs.Passing.{nothing_more, request_taken, request_handed, requests_ended, link_on}
 use Rattle.zone_sync.proofs.Checking.{headed}
@@ -28,7 +29,8 @@ returns-in_err-send_request-clause-says g c =
     let longest = g.L.Link.longest c.args.link.now in
     let p = err_from_is_err_and c.from_residual-in_err-send_request.result c.from_residual-in_err-send_request.ensures.1 in
     let current = ap (λ x. x.current) c.request.ensures.session in
-    rw (p.1, p.2) (not_carried (λ m. g.P.Service.Sends c.args.primary.now (request_at m c.args.at_primary)) a longest first (g.L.Link.lists c.send_request.new.self) before s c.in_err-send_request.field-0.0 [] (nothing_more first (g.L.Link.lists c.send_request.new.self) c.in_err-send_request.ensures.err) (inr refl) current)
+    let can = subst (CanAsk a) c.max_len.ensures c.in_ok-request.ensures.ok.1 in
+    rw (p.1, p.2) (not_carried (λ m. g.P.Service.Sends c.args.primary.now (request_at m c.args.at_primary)) a longest first (g.L.Link.lists c.send_request.new.self) before s c.in_err-send_request.field-0.0 [] can (nothing_more first (g.L.Link.lists c.send_request.new.self) c.in_err-send_request.ensures.err) (inr refl) current)
 
 pub returns-in_err-asked-clause-says : goal.returns-in_err-asked-clause-says
 returns-in_err-asked-clause-says g c =
@@ -39,12 +41,13 @@ returns-in_err-asked-clause-says g c =
     let longest = g.L.Link.longest c.args.link.now in
     let p = err_from_is_err_and c.from_residual-in_err-asked.result c.from_residual-in_err-asked.ensures.1 in
     let current = ap (λ x. x.current) c.request.ensures.session in
+    let can = subst (CanAsk a) c.max_len.ensures c.in_ok-request.ensures.ok.1 in
     let m = c.as_slice.result.now in
     let is = c.as_slice.ensures.value ∙ c.in_ok-request.ensures.ok.0 in
     let asked = ap (λ x. x ∷ []) is in
     let mid = g.L.Link.lists c.send_request.new.self in
     let took = request_taken first mid m c.in_ok-send_request.ensures.ok in
-    rw (p.1, p.2) (not_carried (λ m. g.P.Service.Sends c.args.primary.now (request_at m c.args.at_primary)) a longest first (g.L.Link.lists c.take_request.new.self) before s c.in_err-asked.field-0.0 (m ∷ []) (link_on first mid (g.L.Link.lists c.take_request.new.self) (m ∷ []) [] [] [] [] [] [] [] took (nothing_more mid (g.L.Link.lists c.take_request.new.self) c.in_err-asked.ensures.err)) (inl asked) current)
+    rw (p.1, p.2) (not_carried (λ m. g.P.Service.Sends c.args.primary.now (request_at m c.args.at_primary)) a longest first (g.L.Link.lists c.take_request.new.self) before s c.in_err-asked.field-0.0 (m ∷ []) can (link_on first mid (g.L.Link.lists c.take_request.new.self) (m ∷ []) [] [] [] [] [] [] [] took (nothing_more mid (g.L.Link.lists c.take_request.new.self) c.in_err-asked.ensures.err)) (inl asked) current)
 
 pub returns-in_default-clause-says : goal.returns-in_default-clause-says
 returns-in_default-clause-says g c =
@@ -54,12 +57,13 @@ returns-in_default-clause-says g c =
     let s = c.request.new.session in
     let longest = g.L.Link.longest c.args.link.now in
     let current = ap (λ x. x.current) c.request.ensures.session in
+    let can = subst (CanAsk a) c.max_len.ensures c.in_ok-request.ensures.ok.1 in
     let m = c.as_slice.result.now in
     let is = c.as_slice.ensures.value ∙ c.in_ok-request.ensures.ok.0 in
     let asked = ap (λ x. x ∷ []) is in
     let mid = g.L.Link.lists c.send_request.new.self in
     let took = request_taken first mid m c.in_ok-send_request.ensures.ok in
-    not_handed (λ m. g.P.Service.Sends c.args.primary.now (request_at m c.args.at_primary)) a longest first (g.L.Link.lists c.take_request.new.self) before s (m ∷ []) (link_on first mid (g.L.Link.lists c.take_request.new.self) (m ∷ []) [] [] [] [] [] [] [] took (request_handed mid (g.L.Link.lists c.take_request.new.self) None (rw c.in_default.is at c.in_ok-asked.ensures.ok))) asked current (requests_ended mid (g.L.Link.lists c.take_request.new.self) (rw c.in_default.is at c.in_ok-asked.ensures.ok))
+    not_handed (λ m. g.P.Service.Sends c.args.primary.now (request_at m c.args.at_primary)) a longest first (g.L.Link.lists c.take_request.new.self) before s (m ∷ []) can (link_on first mid (g.L.Link.lists c.take_request.new.self) (m ∷ []) [] [] [] [] [] [] [] took (request_handed mid (g.L.Link.lists c.take_request.new.self) None (rw c.in_default.is at c.in_ok-asked.ensures.ok))) asked current (requests_ended mid (g.L.Link.lists c.take_request.new.self) (rw c.in_default.is at c.in_ok-asked.ensures.ok))
 
 pub returns-in_err-from_octets-clause-says : goal.returns-in_err-from_octets-clause-says
 returns-in_err-from_octets-clause-says g c =
@@ -70,6 +74,7 @@ returns-in_err-from_octets-clause-says g c =
     let longest = g.L.Link.longest c.args.link.now in
     let p = err_from_is_err_and c.from_residual-in_err-from_octets.result c.from_residual-in_err-from_octets.ensures.1 in
     let current = ap (λ x. x.current) c.request.ensures.session in
+    let can = subst (CanAsk a) c.max_len.ensures c.in_ok-request.ensures.ok.1 in
     let m = c.as_slice.result.now in
     let is = c.as_slice.ensures.value ∙ c.in_ok-request.ensures.ok.0 in
     let asked = ap (λ x. x ∷ []) is in
@@ -78,7 +83,7 @@ returns-in_err-from_octets-clause-says g c =
     let heard = c.in-Some.asked.items in
     let told = g.L.Link.lists c.take_request.new.self in
     let heard_it = link_on first mid told (m ∷ []) [] [] [] [] (heard ∷ []) [] [] took (request_handed mid told (Some heard) (rw c.in-Some.is at c.in_ok-asked.ensures.ok)) in
-    rw (p.1, p.2) (no_message (λ m. g.P.Service.Sends c.args.primary.now (request_at m c.args.at_primary)) a longest first told before s c.in_err-from_octets.field-0.0 (m ∷ []) heard heard_it asked current (headless heard c.in_err-from_octets.ensures.short))
+    rw (p.1, p.2) (no_message (λ m. g.P.Service.Sends c.args.primary.now (request_at m c.args.at_primary)) a longest first told before s c.in_err-from_octets.field-0.0 (m ∷ []) heard can heard_it asked current (headless heard c.in_err-from_octets.ensures.short))
 
 pub returns-in_err-serve-clause-says : goal.returns-in_err-serve-clause-says
 returns-in_err-serve-clause-says g c =
@@ -89,6 +94,7 @@ returns-in_err-serve-clause-says g c =
     let longest = g.L.Link.longest c.args.link.now in
     let p = err_from_is_err_and c.from_residual-in_err-serve.result c.from_residual-in_err-serve.ensures.1 in
     let current = ap (λ x. x.current) c.request.ensures.session in
+    let can = subst (CanAsk a) c.max_len.ensures c.in_ok-request.ensures.ok.1 in
     let m = c.as_slice.result.now in
     let is = c.as_slice.ensures.value ∙ c.in_ok-request.ensures.ok.0 in
     let asked = ap (λ x. x ∷ []) is in
@@ -98,7 +104,7 @@ returns-in_err-serve-clause-says g c =
     let told = g.L.Link.lists c.take_request.new.self in
     let heard_it = link_on first mid told (m ∷ []) [] [] [] [] (heard ∷ []) [] [] took (request_handed mid told (Some heard) (rw c.in-Some.is at c.in_ok-asked.ensures.ok)) in
     let then = g.L.Link.lists c.serve.new.link in
-    rw (p.1, p.2) (not_served (λ m. g.P.Service.Sends c.args.primary.now (request_at m c.args.at_primary)) a longest first told then before s c.in_err-serve.field-0.0 (m ∷ []) heard heard_it asked current (headed heard c.in_ok-from_octets.ensures.whole) (rw c.in_ok-from_octets.ensures.found at c.in_err-serve.ensures.served))
+    rw (p.1, p.2) (not_served (λ m. g.P.Service.Sends c.args.primary.now (request_at m c.args.at_primary)) a longest first told then before s c.in_err-serve.field-0.0 (m ∷ []) heard can heard_it asked current (headed heard c.in_ok-from_octets.ensures.whole) (rw c.in_ok-from_octets.ensures.found at c.in_err-serve.ensures.served))
 
 pub take_replies-requires : goal.take_replies-requires
 take_replies-requires g c =
@@ -118,6 +124,7 @@ returns-clause-says g c =
     let s = c.request.new.session in
     let longest = g.L.Link.longest c.args.link.now in
     let current = ap (λ x. x.current) c.request.ensures.session in
+    let can = subst (CanAsk a) c.max_len.ensures c.in_ok-request.ensures.ok.1 in
     let m = c.as_slice.result.now in
     let is = c.as_slice.ensures.value ∙ c.in_ok-request.ensures.ok.0 in
     let asked = ap (λ x. x ∷ []) is in
@@ -128,7 +135,7 @@ returns-clause-says g c =
     let heard_it = link_on first mid told (m ∷ []) [] [] [] [] (heard ∷ []) [] [] took (request_handed mid told (Some heard) (rw c.in-Some.is at c.in_ok-asked.ensures.ok)) in
     let then = g.L.Link.lists c.serve.new.link in
     let st = c.in_ok-request.ensures.begun before in
-    replied (λ m. g.P.Service.Sends c.args.primary.now (request_at m c.args.at_primary)) a longest first told then (g.L.Link.lists c.take_replies.new.link) before c.take_replies.new.made.items c.take_replies.new.session c.take_replies.result (m ∷ []) heard heard_it asked (headed heard c.in_ok-from_octets.ensures.whole) (rw c.in_ok-from_octets.ensures.found at c.in_ok-serve.ensures.served) (c.take_replies.ensures.ends a before st)
+    replied (λ m. g.P.Service.Sends c.args.primary.now (request_at m c.args.at_primary)) a longest first told then (g.L.Link.lists c.take_replies.new.link) before c.take_replies.new.made.items c.take_replies.new.session c.take_replies.result (m ∷ []) heard can heard_it asked (headed heard c.in_ok-from_octets.ensures.whole) (rw c.in_ok-from_octets.ensures.found at c.in_ok-serve.ensures.served) (c.take_replies.ensures.ends a before st)
 
 pub returns-clause-failed : goal.returns-clause-failed
 returns-clause-failed g c h =

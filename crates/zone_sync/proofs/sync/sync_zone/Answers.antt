@@ -6,6 +6,7 @@ use Rattle.zone_sync.specs.Serving.{request_at}
 use Rattle.zone_sync.proofs.Clients.{nothing_pending}
 use Rattle.zone_sync.proofs.Exchanges.{rolled_says}
 use Rattle.zone_sync.proofs.Delivery.{delivered}
+use Rattle.zone_sync.proofs.Handles.{keeps_handles}
 use Rattle.zone_sync.proofs.sync.sync_zone.Goals as goal
 
 pub returns-clause-headline : goal.returns-clause-headline
@@ -25,3 +26,8 @@ returns-clause-headline g c =
       delivers = λ v grant honest.
           delivered sends a c.args.moments.at_primary longest v old new (g.L.Link.faults c.args.link.now) (g.L.Link.faults c.exchange-outcome.new.link) before later c.rollback.new.self answer grant honest says c.exchange-outcome.ensures.failed;
     }
+
+pub returns-clause-handles : goal.returns-clause-handles
+returns-clause-handles g c =
+    let says = rw c.new-client.ensures at c.exchange-outcome.ensures.says in
+    keeps_handles c.args.session.now.current c.args.made.now.items c.exchange-outcome.new.made.items c.exchange-outcome.new.session says.transfers.versions says.transfers.made

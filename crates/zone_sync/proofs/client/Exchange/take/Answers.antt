@@ -1,69 +1,68 @@
-use Rattle.std.proofs.Common.{◌≡◌, true, sym, ap, ◌∙◌, subst}
+use Rattle.std.proofs.Common.{◌≡◌, sym, ap, ◌∙◌, subst}
 use Rattle.std.proofs.lemmas.Result.{err_from_is_err_and}
-use Rattle.xfr_model.specs.Machine.{is_at_end}
-use Rattle.xfr_client.specs.Interpreting.{is_over}
+use Rattle.xfr_client.specs.Places.{first_serial}
 use Rattle.zone_sync.specs.SoFar.{client_so_far}
 use Rattle.zone_sync.specs.Steps.{Ahead}
 use Rattle.zone_sync.specs.Replies.{ChecksReply}
-use Rattle.zone_sync.proofs.Standings.{run_next}
-use Rattle.zone_sync.proofs.Taking.{message_fails, message_reads, updates_stop, updates_done, text_ends, text_goes_on}
+use Rattle.zone_sync.proofs.Standings.{between}
+use Rattle.zone_sync.proofs.Taking.{settled_ends, message_fails, message_reads, updates_stop, updates_done, text_ends, text_goes_on}
 use Rattle.zone_sync.proofs.client.Exchange.take.Goals as goal
 
 pub returns-in_err-updates-clause-takes : goal.returns-in_err-updates-clause-takes
-returns-in_err-updates-clause-takes g c a taken before at whole x =
+returns-in_err-updates-clause-takes g c a taken before at x =
     let cl = client_so_far a taken in
     let o = c.checked.ensures.others in
     let ck = c.in_ok-message.ensures.answers a taken at x.key x.sequence in
-    let tests = c.in_err-updates.ensures.tests a cl.begun cl.place whole (ap (λ e. e.id) o ∙ x.id) (ap (λ e. e.question) o ∙ x.question) (ap (λ e. e.interpreter) o ∙ x.interpreter) x.under_way in
+    let tests = c.in_err-updates.ensures.tests a cl.begun cl.place (ap (λ e. e.id) o ∙ x.id) (ap (λ e. e.question) o ∙ x.question) (ap (λ e. e.interpreter) o ∙ x.interpreter) (between a taken x.unmet).place in
     let p = err_from_is_err_and c.from_residual-in_err-updates.result c.from_residual-in_err-updates.ensures.1 in
-    rw (p.1, p.2) (message_fails a c.args.self.now c.args.session.now before c.args.made.now.items taken c.args.octets.items c.in_ok-message.message c.checked.new.self.sequence c.read.new.self.interpreter c.in_err-updates.field-0.0 x ck tests)
+    rw (p.1, p.2) (message_fails a c.args.self.now c.read.new.self c.args.session.now before c.args.made.now.items taken c.args.octets.items c.in_ok-message.message c.checked.new.self.sequence c.read.new.self.interpreter c.in_err-updates.field-0.0 x ck tests)
 
-pub returns-in_err-apply_all-clause-takes : goal.returns-in_err-apply_all-clause-takes
-returns-in_err-apply_all-clause-takes g c a taken before at whole x =
+pub returns-in-Err-clause-takes : goal.returns-in-Err-clause-takes
+returns-in-Err-clause-takes g c a taken before at x =
     let cl = client_so_far a taken in
     let o = c.checked.ensures.others in
     let r = c.read.ensures.others in
     let ck = c.in_ok-message.ensures.answers a taken at x.key x.sequence in
-    let tests = c.in_ok-updates.ensures.tests a cl.begun cl.place whole (ap (λ e. e.id) o ∙ x.id) (ap (λ e. e.question) o ∙ x.question) (ap (λ e. e.interpreter) o ∙ x.interpreter) x.under_way in
-    let rd = message_reads a c.args.self.now c.args.session.now before c.args.made.now.items taken c.args.octets.items c.in_ok-message.message c.checked.new.self.sequence c.read.new.self.interpreter c.in_ok-updates.updates whole x ck tests in
+    let tests = c.in_ok-updates.ensures.tests a cl.begun cl.place (ap (λ e. e.id) o ∙ x.id) (ap (λ e. e.question) o ∙ x.question) (ap (λ e. e.interpreter) o ∙ x.interpreter) (between a taken x.unmet).place in
+    let rd = message_reads a c.args.self.now c.args.session.now before c.args.made.now.items taken c.args.octets.items c.in_ok-message.message c.checked.new.self.sequence c.read.new.self.interpreter c.in_ok-updates.updates x ck tests in
     let updater : c.read.new.self.updater ≡ c.args.self.now.updater = ap (λ e. e.updater) r ∙ ap (λ e. e.updater) o in
     let ahead = subst (λ u. Ahead a.base before u c.args.session.now c.args.made.now.items cl.progress) (sym updater) x.ahead in
-    let p = err_from_is_err_and c.from_residual-in_err-apply_all.result c.from_residual-in_err-apply_all.ensures.1 in
-    rw (p.1, p.2) (updates_stop a c.apply_all.new.session before c.apply_all.new.made.items taken c.args.octets.items c.in_ok-message.message c.checked.new.self.sequence c.read.new.self.interpreter c.in_ok-updates.updates c.apply_all.new.updater c.in_err-apply_all.field-0.0
-    ck rd (c.in_err-apply_all.ensures.takes a.base before cl.progress rd.no_retry ahead))
+    let serial = ap (λ e. e.serial) r ∙ ap (λ e. e.serial) o ∙ x.serial in
+    rw c.settle.ensures (updates_stop a c.args.self.now (record c.read.new.self { updater = c.apply_all.new.updater }) c.args.session.now c.apply_all.new.session before c.args.made.now.items c.apply_all.new.made.items taken c.args.octets.items c.in_ok-message.message c.checked.new.self.sequence c.read.new.self.interpreter c.in_ok-updates.updates c.apply_all.new.updater c.read.new.self.serial c.in-Err.error
+    x ck rd serial (rw c.in-Err.is at c.apply_all.ensures.takes a.base before cl.progress ahead))
 
 pub returns-then-is_finished-clause-takes : goal.returns-then-is_finished-clause-takes
-returns-then-is_finished-clause-takes g c a taken before at whole x =
+returns-then-is_finished-clause-takes g c a taken before at x =
     let cl = client_so_far a taken in
     let o = c.checked.ensures.others in
     let r = c.read.ensures.others in
     let ck = c.in_ok-message.ensures.answers a taken at x.key x.sequence in
-    let tests = c.in_ok-updates.ensures.tests a cl.begun cl.place whole (ap (λ e. e.id) o ∙ x.id) (ap (λ e. e.question) o ∙ x.question) (ap (λ e. e.interpreter) o ∙ x.interpreter) x.under_way in
-    let rd = message_reads a c.args.self.now c.args.session.now before c.args.made.now.items taken c.args.octets.items c.in_ok-message.message c.checked.new.self.sequence c.read.new.self.interpreter c.in_ok-updates.updates whole x ck tests in
+    let tests = c.in_ok-updates.ensures.tests a cl.begun cl.place (ap (λ e. e.id) o ∙ x.id) (ap (λ e. e.question) o ∙ x.question) (ap (λ e. e.interpreter) o ∙ x.interpreter) (between a taken x.unmet).place in
+    let rd = message_reads a c.args.self.now c.args.session.now before c.args.made.now.items taken c.args.octets.items c.in_ok-message.message c.checked.new.self.sequence c.read.new.self.interpreter c.in_ok-updates.updates x ck tests in
     let updater : c.read.new.self.updater ≡ c.args.self.now.updater = ap (λ e. e.updater) r ∙ ap (λ e. e.updater) o in
     let ahead = subst (λ u. Ahead a.base before u c.args.session.now c.args.made.now.items cl.progress) (sym updater) x.ahead in
-    let d = updates_done a c.apply_all.new.session before c.apply_all.new.made.items taken c.args.octets.items c.read.new.self.interpreter c.in_ok-updates.updates c.apply_all.new.updater rd (c.in_ok-apply_all.ensures.takes a.base before cl.progress rd.no_retry ahead) in
-    text_ends a c.apply_all.new.session before c.apply_all.new.made.items taken c.args.octets.items c.in_ok-message.message c.checked.new.self.sequence c.apply_all.new.updater (is_at_end (run_next a taken c.args.octets.items).place) ck d
-    (sym (ap is_over rd.stands) ∙ sym c.is_finished.ensures ∙ c.if-is_finished.true)
+    let d = updates_done a c.apply_all.new.session before c.apply_all.new.made.items taken c.args.octets.items c.read.new.self.interpreter c.in_ok-updates.updates c.apply_all.new.updater rd (rw c.in_default.is at c.apply_all.ensures.takes a.base before cl.progress ahead) in
+    text_ends a (record c.read.new.self { updater = c.apply_all.new.updater }) c.apply_all.new.session before c.apply_all.new.made.items taken c.args.octets.items c.in_ok-message.message c.checked.new.self.sequence c.apply_all.new.updater c.read.new.self.interpreter ck d
+    (sym c.is_finished.ensures ∙ c.if-is_finished.true)
 
 pub returns-clause-takes : goal.returns-clause-takes
-returns-clause-takes g c a taken before at whole x =
+returns-clause-takes g c a taken before at x =
     let cl = client_so_far a taken in
     let o = c.checked.ensures.others in
     let r = c.read.ensures.others in
     let ck = c.in_ok-message.ensures.answers a taken at x.key x.sequence in
-    let tests = c.in_ok-updates.ensures.tests a cl.begun cl.place whole (ap (λ e. e.id) o ∙ x.id) (ap (λ e. e.question) o ∙ x.question) (ap (λ e. e.interpreter) o ∙ x.interpreter) x.under_way in
-    let rd = message_reads a c.args.self.now c.args.session.now before c.args.made.now.items taken c.args.octets.items c.in_ok-message.message c.checked.new.self.sequence c.read.new.self.interpreter c.in_ok-updates.updates whole x ck tests in
+    let tests = c.in_ok-updates.ensures.tests a cl.begun cl.place (ap (λ e. e.id) o ∙ x.id) (ap (λ e. e.question) o ∙ x.question) (ap (λ e. e.interpreter) o ∙ x.interpreter) (between a taken x.unmet).place in
+    let rd = message_reads a c.args.self.now c.args.session.now before c.args.made.now.items taken c.args.octets.items c.in_ok-message.message c.checked.new.self.sequence c.read.new.self.interpreter c.in_ok-updates.updates x ck tests in
     let updater : c.read.new.self.updater ≡ c.args.self.now.updater = ap (λ e. e.updater) r ∙ ap (λ e. e.updater) o in
     let ahead = subst (λ u. Ahead a.base before u c.args.session.now c.args.made.now.items cl.progress) (sym updater) x.ahead in
-    let d = updates_done a c.apply_all.new.session before c.apply_all.new.made.items taken c.args.octets.items c.read.new.self.interpreter c.in_ok-updates.updates c.apply_all.new.updater rd (c.in_ok-apply_all.ensures.takes a.base before cl.progress rd.no_retry ahead) in
+    let d = updates_done a c.apply_all.new.session before c.apply_all.new.made.items taken c.args.octets.items c.read.new.self.interpreter c.in_ok-updates.updates c.apply_all.new.updater rd (rw c.in_default.is at c.apply_all.ensures.takes a.base before cl.progress ahead) in
     text_goes_on a c.args.self.now c.args.session.now c.apply_all.new.session before c.args.made.now.items c.apply_all.new.made.items taken c.args.octets.items c.in_ok-message.message
     (record c.read.new.self { updater = c.apply_all.new.updater }) c.in_ok-updates.updates
     x (subst (λ q. ChecksReply a taken c.args.octets.items c.in_ok-message.message q) (sym (ap (λ e. e.sequence) r)) ck) rd d
-    (sym (ap is_over rd.stands) ∙ sym c.is_finished.ensures ∙ c.if-is_finished.false) (ap (λ e. e.id) r ∙ ap (λ e. e.id) o) (ap (λ e. e.question) r ∙ ap (λ e. e.question) o)
+    (sym c.is_finished.ensures ∙ c.if-is_finished.false) (ap (λ e. e.id) r ∙ ap (λ e. e.id) o) (ap (λ e. e.question) r ∙ ap (λ e. e.question) o) (ap (λ e. e.serial) r ∙ ap (λ e. e.serial) o)
 
-pub returns-then-is_finished-clause-keeps : goal.returns-then-is_finished-clause-keeps
-returns-then-is_finished-clause-keeps g c = c.in_ok-apply_all.ensures.keeps
+pub returns-in-Err-clause-keeps : goal.returns-in-Err-clause-keeps
+returns-in-Err-clause-keeps g c h = absurd (settled_ends (first_serial c.read.new.self.interpreter.place) c.read.new.self.serial c.in-Err.error (sym c.settle.ensures ∙ h))
 
 pub returns-clause-keeps : goal.returns-clause-keeps
-returns-clause-keeps g c = c.in_ok-apply_all.ensures.keeps
+returns-clause-keeps g c h = rw c.in_default.is at c.apply_all.ensures.keeps
