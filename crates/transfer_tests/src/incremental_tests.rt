@@ -4,6 +4,7 @@ use crate::exchanges::{primary_of, spelt_versions, stored_at, transfer, versions
 use crate::incremental_vectors::RECORDS;
 use crate::transfer_vectors::octets_at;
 use dns_rdata::record_from_octets;
+use dns_wire::PushError;
 use std::alloc::Global;
 use std::process::Abort;
 use zone_store::{CommitError, ReadZone, ReadableZone, WriteZone};
@@ -148,65 +149,22 @@ fn what_is_newer_comes(rt: HostRuntime) {
     }
 }
 
-/// What a secondary with the serial 1 answers a primary with the same one, over a link that takes requests of so many octets.
-fn answer_within<R: Abort>(rt: &R, alloc: Global, mode: XfrMode, max_len: usize) -> String {
-    let key = shared_key(rt, KEY);
-    let primary = primary_of(rt, alloc, "soa-1", "", &key);
-    let mut zone = zone_of(rt, alloc, "soa-1", 0);
-    let mut session = zone.write(alloc);
-    let mut link = MemoryLink::new(alloc, max_len, Vec::new(alloc));
-    let mut made = Vec::new(alloc);
-    let answer = transfer(
-        rt,
-        alloc,
-        &primary,
-        &mut session,
-        &key,
-        mode,
-        &mut link,
-        &mut made,
-    );
-    drop(link);
-    drop(primary);
-    drop(key);
-    let told = format!(in alloc; "{answer:?} {}", made.len()).expect(rt, "memory");
-    drop(made);
-    drop(session);
-    drop(zone);
-    told
-}
-
-/// Asserts what is answered within so many octets.
-fn within<R: Abort>(rt: &R, alloc: Global, mode: XfrMode, max_len: usize, wanted: &str) {
-    let told = answer_within(rt, alloc, mode, max_len);
-    is(rt, told.as_str(), wanted);
-    drop(told);
-}
-
-// A header has 12 octets, the question 13, the TSIG 76, and the SOA record of a request for what is newer 41.
-#[test]
-fn requests_of_101_and_of_142_octets(rt: HostRuntime) {
-    let alloc = rt.alloc();
-    let refused = "Err(Request(ShortBuf)) 0";
-    within(&rt, alloc, XfrMode::Axfr, 100, refused);
-    within(&rt, alloc, XfrMode::Axfr, 101, "Ok(Updated) 1");
-    within(&rt, alloc, XfrMode::Ixfr, 141, refused);
-    within(&rt, alloc, XfrMode::Ixfr, 142, "Ok(UpToDate) 0");
-}
-
-/// Asserts what a secondary with the serial 1 answers whose version has this number, and how many versions it makes.
-fn makes_after<R: Abort>(
+/// Asserts what a secondary whose only record is an SOA of serial 1, in the version of this number, answers a primary whose zone opened alike and has
+/// these commits since, over a link that takes requests of so many octets, and how many versions it makes.
+fn says<R: Abort>(
     rt: &R,
     alloc: Global,
     number: u64,
+    commits: &str,
+    max_len: usize,
     mode: XfrMode,
     wanted: (Result<SyncOk, SyncError>, usize),
 ) {
     let key = shared_key(rt, KEY);
-    let primary = primary_of(rt, alloc, "soa-1", "-soa-1 +soa-2 +a", &key);
+    let primary = primary_of(rt, alloc, "soa-1", commits, &key);
     let mut zone = zone_of(rt, alloc, "soa-1", number);
     let mut session = zone.write(alloc);
-    let mut link = MemoryLink::new(alloc, 65_535, Vec::new(alloc));
+    let mut link = MemoryLink::new(alloc, max_len, Vec::new(alloc));
     let mut made = Vec::new(alloc);
     let answer = transfer(
         rt,
@@ -227,10 +185,33 @@ fn makes_after<R: Abort>(
     drop(zone);
 }
 
+// A header has 12 octets, the question 13, the TSIG 76, and the SOA record of a request for what is newer 41.
+#[test]
+fn requests_of_101_and_of_142_octets(rt: HostRuntime) {
+    let alloc = rt.alloc();
+    let refused = Err(SyncError::Request(PushError::ShortBuf));
+    let updated = Ok(SyncOk::Updated);
+    let current = Ok(SyncOk::UpToDate);
+    says(&rt, alloc, 0, "", 100, XfrMode::Axfr, (refused, 0));
+    says(&rt, alloc, 0, "", 101, XfrMode::Axfr, (updated, 1));
+    says(&rt, alloc, 0, "", 141, XfrMode::Ixfr, (refused, 0));
+    says(&rt, alloc, 0, "", 142, XfrMode::Ixfr, (current, 0));
+}
+
+/// Asserts the same of one commit, with room for each request.
+fn says_after<R: Abort>(
+    rt: &R,
+    alloc: Global,
+    number: u64,
+    mode: XfrMode,
+    wanted: (Result<SyncOk, SyncError>, usize),
+) {
+    says(rt, alloc, number, "-soa-1 +soa-2 +a", 65_535, mode, wanted);
+}
+
 #[test]
 fn no_version_number_is_left(rt: HostRuntime) {
     let alloc = rt.alloc();
-    let exhausted = Err(SyncError::VersionsExhausted);
     let mut zone = zone_of(&rt, alloc, "soa-1", u64::MAX);
     let mut session = zone.write(alloc);
     let added = session.add_record(stored_at(&rt, alloc, "a"));
@@ -239,10 +220,11 @@ fn no_version_number_is_left(rt: HostRuntime) {
     is(&rt, refused, Some(CommitError::VersionsExhausted));
     drop(session);
     drop(zone);
-    makes_after(&rt, alloc, u64::MAX, XfrMode::Axfr, (exhausted, 0));
-    makes_after(&rt, alloc, u64::MAX, XfrMode::Ixfr, (exhausted, 0));
-    makes_after(&rt, alloc, u64::MAX - 1, XfrMode::Ixfr, (exhausted, 1));
+    let exhausted = Err(SyncError::VersionsExhausted);
+    says_after(&rt, alloc, u64::MAX, XfrMode::Axfr, (exhausted, 0));
+    says_after(&rt, alloc, u64::MAX, XfrMode::Ixfr, (exhausted, 0));
+    says_after(&rt, alloc, u64::MAX - 1, XfrMode::Ixfr, (exhausted, 1));
     let updated = Ok(SyncOk::Updated);
-    makes_after(&rt, alloc, u64::MAX - 1, XfrMode::Axfr, (updated, 1));
-    makes_after(&rt, alloc, u64::MAX - 2, XfrMode::Ixfr, (updated, 2));
+    says_after(&rt, alloc, u64::MAX - 1, XfrMode::Axfr, (updated, 1));
+    says_after(&rt, alloc, u64::MAX - 2, XfrMode::Ixfr, (updated, 2));
 }
