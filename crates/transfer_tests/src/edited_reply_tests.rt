@@ -1,5 +1,5 @@
-//! Transfers in three messages over a link that edits the replies: one record alone in each of them but for the SOA records that begin an incremental
-//! transfer, since no two others have room in one message.
+//! Transfers in three messages over a link that edits the replies: one record alone in each of them but for the SOA records that begin an
+//! incremental transfer, since no two others have room in one message.
 use crate::common::{KEY, empty_zone, is, shared_key};
 use crate::exchanges::{commit_and_push, edit, provider_of, stack_of, transfer, zone_of};
 use crate::signed_vector_tests::{add, short_key, txt};
@@ -13,8 +13,9 @@ use zone_sync::{MemoryLink, ReplyEdit, XfrClient, XfrMode};
 
 /// In each row: what it shows; the edits of the replies; the answer; and how many versions are committed.
 ///
-/// The first reply has 142 octets: header and question 25, the SOA record 41, the TSIG 76, of which the MAC begins with octet 104, the moment ends with
-/// 99, and the original id is 136 and 137. The second has 65,520, its TSIG begins with octet 65,444. The third is like the first.
+/// The first reply has 142 octets: header and question 25, the SOA record 41, the TSIG 76, of which the MAC begins with octet 104, the
+/// moment ends with 99, and the original id is 136 and 137. The second has 65,520, its TSIG begins with octet 65,444. The third is like
+/// the first.
 const WHOLE: &str = "\
 no edit;;Ok(Updated);1
 a bit of the MAC's first octet;flip 0 104;Err(Tsig(BadSig));0
@@ -36,8 +37,8 @@ the second one without its TSIG, which ARCOUNT no longer counts;cut 1 65444 flip
 an edit of what isn't there;flip 3 0 cut 3 0 drop 3 repeat 3 swap 0 3 flip 0 142;Ok(Updated);1
 two that undo each other;swap 0 2 swap 2 0;Ok(Updated);1";
 
-/// The same of a transfer of what is newer. Its first reply has 224 octets, since three SOA records stand in it; once that is taken, the version that
-/// stands is committed again.
+/// The same of a transfer of what is newer. Its first reply has 224 octets, since three SOA records stand in it; once that is taken, the
+/// version that stands is committed again.
 const NEWER: &str = "\
 no edit;;Ok(Updated);2
 a bit of the MAC's first octet;flip 0 186;Err(Tsig(BadSig));0

@@ -28,7 +28,8 @@ pub(crate) fn stored_at<R: Abort>(rt: &R, alloc: Global, word: &str) -> StoredRe
     record
 }
 
-/// A zone that opens with the records of words, as the version of this number; it is `jain.ad.jp.` where the first word says so, else `example.`
+/// A zone that opens with the records of words, as the version of this number; it is `jain.ad.jp.` where the first word says so, else
+/// `example.`
 pub(crate) fn zone_of<R: Abort>(rt: &R, alloc: Global, words: &str, number: u64) -> ZoneApex {
     let [jain, example] = APEXES;
     let apex = if words.starts_with("jain") {

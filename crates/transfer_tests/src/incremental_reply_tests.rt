@@ -1,4 +1,5 @@
-//! Signed replies as dnspython writes them, to a request for what is newer (RFC 1995, 4) and for the whole zone (RFC 5936, 2.2), taken one by one.
+//! Signed replies as dnspython writes them, to a request for what is newer (RFC 1995, 4) and for the whole zone (RFC 5936, 2.2), taken one
+//! by one.
 
 use crate::common::{KEY, is, octets_of, shared_key};
 use crate::exchanges::{spelt_versions, versions_of, zone_of};
@@ -9,8 +10,9 @@ use std::process::Abort;
 use zone_store::{ReadZone, WriteZone};
 use zone_sync::{XfrClient, XfrMode};
 
-/// In each row a stream of replies to a request for what is newer; what is answered to each of them, and how many versions there are then; and the versions
-/// that were committed, `|` before each, where a serial stands for the records of that version. The first batch of all commits the version that stands.
+/// In each row a stream of replies to a request for what is newer; what is answered to each of them, and how many versions there are then;
+/// and the versions that were committed, `|` before each, where a serial stands for the records of that version. The first batch of all
+/// commits the version that stands.
 const NEWER: &str = "\
 steps;Ok(Some(Updated)) 4;| 1 | 2 | 3 | 4
 batches;Ok(None) 1 Ok(None) 2 Ok(Some(Updated)) 4;| 1 | 2 | 3 | 4

@@ -10,9 +10,9 @@ use std::process::Abort;
 use zone_store::{CommitError, ReadZone, ReadableZone, WriteZone};
 use zone_sync::{MemoryLink, SyncError, SyncOk, XfrMode};
 
-/// In each row: what it shows; the records that the primary's zone opens with; the edits of its commits, with `|` between them; the records that
-/// the secondary's zone opens with; the answer; the versions that are committed, `|` before each; and questions of the secondary afterwards, each the
-/// owner and type of a record, the rcode, and how many records stand in answer and authority.
+/// In each row: what it shows; the records that the primary's zone opens with; the edits of its commits, with `|` between them; the
+/// records that the secondary's zone opens with; the answer; the versions that are committed, `|` before each; and questions of the
+/// secondary afterwards, each the owner and type of a record, the rcode, and how many records stand in answer and authority.
 const CASES: &str = "\
 the example of RFC 1995, 7;jain-1 jain-ns jain-a NEZU;-jain-1 +jain-2 -NEZU +BB-4 +BB-2|-jain-2 +jain-3 -BB-4 +BB-3;jain-1 jain-ns jain-a nezu;\
 Ok(Updated);| jain-ns jain-1 nezu jain-a | jain-ns jain-2 bb-4 bb-2 jain-a | jain-ns jain-3 bb-2 bb-3 jain-a;nezu NXDOMAIN 0 1,bb-2 NOERROR 2 0
@@ -149,8 +149,8 @@ fn what_is_newer_comes(rt: HostRuntime) {
     }
 }
 
-/// Asserts what a secondary whose only record is an SOA of serial 1, in the version of this number, answers a primary whose zone opened alike and has
-/// these commits since, over a link that takes requests of so many octets, and how many versions it makes.
+/// Asserts what a secondary whose only record is an SOA of serial 1, in the version of this number, answers a primary whose zone opened
+/// alike and has these commits since, over a link that takes requests of so many octets, and how many versions it makes.
 fn says<R: Abort>(
     rt: &R,
     alloc: Global,

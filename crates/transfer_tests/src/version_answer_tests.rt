@@ -13,8 +13,8 @@ const FIRST: &str = "-soa-1 +soa-2 -a +b";
 
 const BOTH: &str = "-soa-1 +soa-2 -a +b|-soa-2 +soa-3 -b +c";
 
-/// What is answered in the versions 0 to 5, in a line each: the opening one, those of a transfer of what is newer by one difference, of another one after it,
-/// and of the whole zone again.
+/// What is answered in the versions 0 to 5, in a line each: the opening one, those of a transfer of what is newer by one difference, of
+/// another one after it, and of the whole zone again.
 const ANSWERS: &str = "\
 a NOERROR 1 0,b NXDOMAIN 0 1,old NOERROR 1 0
 a NOERROR 1 0,b NXDOMAIN 0 1,old NOERROR 1 0
