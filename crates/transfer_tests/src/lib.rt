@@ -6,6 +6,16 @@ mod client_example_tests;
 #[cfg(test)]
 mod common;
 #[cfg(test)]
+mod edited_reply_tests;
+#[cfg(test)]
+mod exchanges;
+#[cfg(test)]
+mod incremental_reply_tests;
+#[cfg(test)]
+mod incremental_tests;
+#[cfg(test)]
+mod incremental_vectors;
+#[cfg(test)]
 mod provider_tests;
 #[cfg(test)]
 mod reply_vector_tests;
@@ -19,6 +29,8 @@ mod transfer_replies_tests;
 mod transfer_vectors;
 #[cfg(test)]
 mod updater_tests;
+#[cfg(test)]
+mod version_answer_tests;
 #[cfg(test)]
 mod xfr_client_tests;
 #[cfg(test)]

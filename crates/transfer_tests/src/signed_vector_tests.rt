@@ -346,7 +346,7 @@ const SOA: &str =
     "076578616d706c65000006000100000e10001600000000000200000000000000000000000000000000";
 
 /// A TXT record of `example.` whose data have 65,400 octets: as many strings of none.
-fn txt<R: Abort>(rt: &R, alloc: Global) -> Vec<u8> {
+pub(crate) fn txt<R: Abort>(rt: &R, alloc: Global) -> Vec<u8> {
     let mut octets = octets_of(rt, alloc, "076578616d706c65000010000100000e10ff78");
     for _ in 0..65_400u16 {
         octets.push(0).expect(rt, "memory");
@@ -355,7 +355,9 @@ fn txt<R: Abort>(rt: &R, alloc: Global) -> Vec<u8> {
 }
 
 /// Adds a record.
-fn add<R: Abort>(rt: &R, session: &mut WriteZone<'_>, octets: Vec<u8>) {
+pub(crate) fn add<R: Abort>(rt: &R, session: &mut WriteZone<'_>, octets: Vec<u8>)
+    ensures { session.new.current ≡ session.old.current }
+{
     let found = record_from_octets(octets.as_slice()).expect(rt, "a record");
     session.add_read(&found).expect(rt, "an edit");
     drop(found);
@@ -376,7 +378,7 @@ fn large_zone<R: Abort>(rt: &R, alloc: Global) -> ReadZone {
 }
 
 /// The key whose MACs have 16 octets.
-fn short_key<R: Abort>(rt: &R) -> Key {
+pub(crate) fn short_key<R: Abort>(rt: &R) -> Key {
     let name = NameRef::from_octets(KEY).expect(rt, "a name");
     let name = name.to_key_name();
     let made = Key::new(Algorithm::Sha256, &[0, 1, 2], name, Some(16), Some(16));

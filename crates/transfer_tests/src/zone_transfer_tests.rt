@@ -199,7 +199,11 @@ fn push_reply(
 }
 
 /// One of them.
-fn reply(alloc: Global, id: u16, words: &str) -> Result<AdditionalBuilder, ServiceError> {
+pub(crate) fn reply(
+    alloc: Global,
+    id: u16,
+    words: &str,
+) -> Result<AdditionalBuilder, ServiceError> {
     let (question, answers) = match words.split_once(' ') {
         Some(parts) => parts,
         None => (words, ""),
@@ -437,7 +441,7 @@ fn a_request_that_the_link_has_no_room_for(rt: HostRuntime) {
 }
 
 /// A reply of one SOA, which the server signs.
-fn signed_soa<R: Abort>(
+pub(crate) fn signed_soa<R: Abort>(
     rt: &R,
     alloc: Global,
     server: &mut ServerSequence<Key>,
