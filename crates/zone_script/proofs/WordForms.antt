@@ -1,13 +1,10 @@
 -- Which words ask for a transfer without reader threads.
-use Rattle.std.proofs.Common.{◌≡◌, ◌≢◌, ℕ, ◌^◌, Bool, true, false, if◌then◌else◌, List, [], ◌∷◌, refl, sym, ap, ◌∙◌, Option, Some, None, IfSome, codes, bytes_eq}
+use Rattle.std.proofs.Common.{◌≡◌, ◌≢◌, ℕ, ◌^◌, Bool, true, false, if◌then◌else◌, List, [], ◌∷◌, length, refl, sym, ap, ◌∙◌, Option, Some, None, IfSome, codes, bytes_eq}
 use Rattle.std.specs.Prelude.{option_map, option_and_then, IfNone}
 use Rattle.zone_model.specs.TransferText.{Mode, Axfr, Ixfr}
 use Rattle.xfr_services.specs.declared.modes.XfrMode.{XfrMode}
 use Rattle.zone_script.specs.Script.{number_of, number_below}
 use Rattle.zone_script.specs.Words.{Form, Transfer, Generate, form_of, mode_of, with_readers, with_sizes, between}
-
-some_inverse : {A : Type 0} (x y : A) → Some x ≡ Some y → x ≡ y
-some_inverse x y h = cc
 
 not_none : {A : Type 0} (x : A) → None ≢ Some x
 not_none x h = cc
@@ -62,30 +59,8 @@ pub alone_other : (r : Option XfrMode) (w : List ℕ) → IsNoMode r w → IfNon
 alone_other None w h = λ m. h [] m 0
 alone_other (Some m) w h = tt
 
--- with no reader threads
-pub with_none : (r : Option XfrMode) (w k : List ℕ) → number_below 17 k ≡ Some 0 → IsMode r w → IfSome r (λ m. form_of (w ∷ k ∷ []) ≡ Some (Transfer (mode_of m) 0))
-with_none None w k e h = tt
-with_none (Some m) w k e h = h (k ∷ []) ∙ ap (option_map (Transfer (mode_of m))) e
-
-pub with_none_other : (r : Option XfrMode) (w k : List ℕ) → IsNoMode r w → IfNone r ((m : Mode) → form_of (w ∷ k ∷ []) ≢ Some (Transfer m 0))
-with_none_other None w k h = λ m. h (k ∷ []) m 0
-with_none_other (Some m) w k h = tt
-
--- with others, or with more words
-readers_of : (m n : Mode) (o : Option ℕ) → option_map (Transfer m) o ≡ Some (Transfer n 0) → o ≡ Some 0
-readers_of m n None h = absurd (not_none (Transfer n 0) h)
-readers_of m n (Some k) h = cc
-
-pub with_some : (w k : List ℕ) (m : Mode) → number_below 17 k ≢ Some 0 → form_of (w ∷ k ∷ []) ≢ Some (Transfer m 0)
-with_some w k m ne e = by (bytes_eq w (codes "axfr")) (bytes_eq w (codes "ixfr")) (bytes_eq w (codes "gen")) e
-  where
-    by : (a b c : Bool) → (if a then with_readers Axfr (k ∷ []) else if b then with_readers Ixfr (k ∷ []) else if c then with_sizes (k ∷ []) else None) ≡ Some (Transfer m 0) → ⊥
-    by true b c f = ne (readers_of Axfr m (number_below 17 k) f)
-    by false true c f = ne (readers_of Ixfr m (number_below 17 k) f)
-    by false false true f = not_none (Transfer m 0) f
-    by false false false f = not_none (Transfer m 0) f
-
-pub too_many : (w k l : List ℕ) (more : List (List ℕ)) (m : Mode) → form_of (w ∷ k ∷ l ∷ more) ≢ Some (Transfer m 0)
+-- more words than two, or none
+too_many : (w k l : List ℕ) (more : List (List ℕ)) (m : Mode) → form_of (w ∷ k ∷ l ∷ more) ≢ Some (Transfer m 0)
 too_many w k l more m e = by (bytes_eq w (codes "axfr")) (bytes_eq w (codes "ixfr")) (bytes_eq w (codes "gen")) e
   where
     by : (a b c : Bool) → (if a then None else if b then None else if c then with_sizes (k ∷ l ∷ more) else None) ≡ Some (Transfer m 0) → ⊥
@@ -93,3 +68,9 @@ too_many w k l more m e = by (bytes_eq w (codes "axfr")) (bytes_eq w (codes "ixf
     by false true c f = not_none (Transfer m 0) f
     by false false true f = sizes_other (k ∷ l ∷ more) m 0 f
     by false false false f = not_none (Transfer m 0) f
+
+pub other_count : (words : List (List ℕ)) → length words ≢ 1 → length words ≢ 2 → (m : Mode) → form_of words ≢ Some (Transfer m 0)
+other_count [] one two m e = not_none (Transfer m 0) e
+other_count (w ∷ []) one two m e = one refl
+other_count (w ∷ k ∷ []) one two m e = two refl
+other_count (w ∷ k ∷ l ∷ more) one two m e = too_many w k l more m e
