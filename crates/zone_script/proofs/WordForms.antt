@@ -1,5 +1,5 @@
 -- Which words ask for a transfer without reader threads.
-use Rattle.std.proofs.Common.{◌≡◌, ◌≢◌, ℕ, ◌^◌, Bool, true, false, if◌then◌else◌, List, [], ◌∷◌, length, refl, sym, ap, ◌∙◌, Option, Some, None, IfSome, codes, bytes_eq}
+use Rattle.std.proofs.Common.{◌≡◌, ◌≢◌, ◌≤◌, ◌<◌, ℕ, ◌^◌, Bool, true, false, if◌then◌else◌, List, [], ◌∷◌, length, map, get_or, refl, sym, ap, subst, arith, ◌∙◌, Option, Some, None, IfSome, codes, bytes_eq}
 use Rattle.std.specs.Prelude.{option_map, option_and_then, IfNone}
 use Rattle.zone_model.specs.TransferText.{Mode, Axfr, Ixfr}
 use Rattle.xfr_services.specs.declared.modes.XfrMode.{XfrMode}
@@ -50,14 +50,26 @@ IsMode r w = IfSome r (λ m. (more : List (List ℕ)) → form_of (w ∷ more) �
 abbrev IsNoMode : Option XfrMode → List ℕ → Type 0
 IsNoMode r w = IfNone r ((more : List (List ℕ)) (m : Mode) (readers : ℕ) → form_of (w ∷ more) ≢ Some (Transfer m readers))
 
--- it alone
-pub alone : (r : Option XfrMode) (w : List ℕ) → IsMode r w → IfSome r (λ m. form_of (w ∷ []) ≡ Some (Transfer (mode_of m) 0))
-alone None w h = tt
-alone (Some m) w h = h []
+-- one word
+one_word : {A : Type 0} (words : List A) (x : A) → 1 ≤ length words → length words < 2 → x ≡ get_or words 0 x → words ≡ x ∷ []
+one_word [] x least most e = absurd (omega (arith, least))
+one_word (w ∷ []) x least most e = ap (λ y. y ∷ []) (sym e)
+one_word (w ∷ k ∷ more) x least most e = absurd (omega (arith, most))
 
-pub alone_other : (r : Option XfrMode) (w : List ℕ) → IsNoMode r w → IfNone r ((m : Mode) → form_of (w ∷ []) ≢ Some (Transfer m 0))
-alone_other None w h = λ m. h [] m 0
-alone_other (Some m) w h = tt
+module _ {A : Type 0} (f : A → List ℕ) (words : List A) (x : A) (least : 1 ≤ length words) (most : length words < 2) (is : x ≡ get_or words 0 x) where
+  pub alone : (r : Option XfrMode) → IsMode r (f x) → IfSome r (λ m. form_of (map f words) ≡ Some (Transfer (mode_of m) 0))
+  alone r h = subst (λ ws. IfSome r (λ m. form_of (map f ws) ≡ Some (Transfer (mode_of m) 0))) (sym (one_word words x least most is)) (by r h)
+    where
+      by : (r : Option XfrMode) → IsMode r (f x) → IfSome r (λ m. form_of (f x ∷ []) ≡ Some (Transfer (mode_of m) 0))
+      by None h = tt
+      by (Some m) h = h []
+
+  pub alone_other : (r : Option XfrMode) → IsNoMode r (f x) → IfNone r ((m : Mode) → form_of (map f words) ≢ Some (Transfer m 0))
+  alone_other r h = subst (λ ws. IfNone r ((m : Mode) → form_of (map f ws) ≢ Some (Transfer m 0))) (sym (one_word words x least most is)) (by r h)
+    where
+      by : (r : Option XfrMode) → IsNoMode r (f x) → IfNone r ((m : Mode) → form_of (f x ∷ []) ≢ Some (Transfer m 0))
+      by None h = λ m. h [] m 0
+      by (Some m) h = tt
 
 -- more words than two, or none
 too_many : (w k l : List ℕ) (more : List (List ℕ)) (m : Mode) → form_of (w ∷ k ∷ l ∷ more) ≢ Some (Transfer m 0)
@@ -69,8 +81,8 @@ too_many w k l more m e = by (bytes_eq w (codes "axfr")) (bytes_eq w (codes "ixf
     by false false true f = sizes_other (k ∷ l ∷ more) m 0 f
     by false false false f = not_none (Transfer m 0) f
 
-pub other_count : (words : List (List ℕ)) → length words ≢ 1 → length words ≢ 2 → (m : Mode) → form_of words ≢ Some (Transfer m 0)
-other_count [] one two m e = not_none (Transfer m 0) e
-other_count (w ∷ []) one two m e = one refl
-other_count (w ∷ k ∷ []) one two m e = two refl
-other_count (w ∷ k ∷ l ∷ more) one two m e = too_many w k l more m e
+pub other_count : {A : Type 0} (f : A → List ℕ) (words : List A) → length words ≢ 1 → length words ≢ 2 → (m : Mode) → form_of (map f words) ≢ Some (Transfer m 0)
+other_count f [] one two m e = not_none (Transfer m 0) e
+other_count f (w ∷ []) one two m e = one refl
+other_count f (w ∷ k ∷ []) one two m e = two refl
+other_count f (w ∷ k ∷ l ∷ more) one two m e = too_many (f w) (f k) (f l) (map f more) m e
