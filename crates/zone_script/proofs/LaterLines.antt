@@ -1,5 +1,5 @@
 -- What the code keeps of a script's edits and questions, and what the definition says of them.
-use Rattle.std.proofs.Common.{◌≡◌, ℕ, ◌+◌, ◌==◌, Bool, true, false, ◌&&◌, ◌||◌, not, nat_le, nat_lt, if◌then◌else◌, List, [], ◌∷◌, ◌++◌, refl, sym, ap, ◌∙◌, subst, arith, Option, Some, None, is_some, Result, Ok, Err}
+use Rattle.std.proofs.Common.{◌≡◌, ℕ, ◌+◌, ◌==◌, Bool, true, false, ◌&&◌, ◌||◌, not, nat_le, nat_lt, if◌then◌else◌, List, [], ◌∷◌, ◌++◌, refl, sym, ap, ◌∙◌, subst, arith, Option, Some, None, is_some, Result, Ok, Err, IfSome}
 use Rattle.std.proofs.lemmas.Bool.Decides.{nat_tests}
 use Rattle.std.specs.Prelude.{option_map}
 use Rattle.std.specs.Result.{result_ok, result_unwrap_or}
@@ -13,11 +13,14 @@ use Rattle.zone_model.specs.Offer.{difference_if}
 use Rattle.zone_model.specs.Commits as zones
 use Rattle.zone_model.specs.Classify.{opened}
 use Rattle.zone_script.specs.Script as scripts
-use Rattle.zone_script.specs.Script.{Line, ZoneLine, KeyLine, AtLine, PrimaryLine, SecondaryLine, ChangeLine, QueryLine, Change, Plus, Minus, Commit, stage_of, is_skipped, read_line, read_lines, read_next, next_line, take_from, or_line, begun, opened_before, opening_fault, changed, committed_by}
+use Rattle.zone_script.specs.Script.{Line, ZoneLine, KeyLine, AtLine, PrimaryLine, SecondaryLine, ChangeLine, QueryLine, Change, Plus, Minus, Commit, stage_of, is_skipped, script_lines, read_line, read_lines, read_next, next_line, take_from, or_line, begun, opened_before, opening_fault, changed, committed_by}
 use Rattle.zone_script.specs.ScriptReaders.{wire_readers}
 use Rattle.zone_script.specs.Keeping.{is_of_class, Edited, with_pending, with_commit, make_change, may_change, take_change, take_later, take_later_read, take_later_text, take_rest, script_with, told_commits, Gives}
 use Rattle.zone_script.specs.declared.reading.Opened.{Opened}
 use Rattle.zone_script.specs.declared.script.Script.{Script}
+use Rattle.zone_script.specs.declared.script.ScriptError.{ScriptError}
+use Rattle.zone_script.specs.declared.script.ScriptError.TheVariants as at
+use Rattle.zone_script.specs.Causes.{line_in}
 
 abbrev pub GivesAlike : Result Script ℕ → Result (scripts.Script TsigKey) ℕ → Type 0
 GivesAlike (Ok g) (Ok t) = Gives t g
@@ -295,3 +298,14 @@ rest_alike o (Ok e) (Err d) n lines h = absurd h
 rest_alike o (Err m) (Ok s) n lines h = absurd h
 rest_alike o (Err m) (Err d) n [] h = h
 rest_alike o (Err m) (Err d) n (l ∷ more) h = h
+
+-- where a line is refused
+stays : (m n : ℕ) (lines : List (List ℕ)) → take_rest (Err m) n lines ≡ Err m
+stays m n [] = refl
+stays m n (l ∷ more) = refl
+
+pub rest_refused : (error : ScriptError) (e : Edited) (n : ℕ) (line rest behind : List ℕ) (whole : Result Edited ℕ) → IfSome (line_in error) (λ m. take_later_text e n line ≡ Err m) → script_lines rest ≡ line ∷ script_lines behind
+    → take_rest (Ok e) n (script_lines rest) ≡ whole → IfSome (line_in error) (λ m. whole ≡ Err m)
+rest_refused (at.Line m) e n line rest behind whole bad lines is =
+    sym is ∙ ap (take_rest (Ok e) n) lines ∙ ap (λ x. take_rest x (n + 1) (script_lines behind)) bad ∙ stays m (n + 1) (script_lines behind)
+rest_refused at.Memory e n line rest behind whole bad lines is = tt

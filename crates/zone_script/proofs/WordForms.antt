@@ -1,13 +1,10 @@
 -- Which words ask for a transfer without reader threads.
-use Rattle.std.proofs.Common.{◌≡◌, ◌≢◌, ℕ, ◌^◌, Bool, true, false, if◌then◌else◌, List, [], ◌∷◌, refl, sym, ap, ◌∙◌, Option, Some, None, IfSome, codes, bytes_eq}
+use Rattle.std.proofs.Common.{◌≡◌, ◌≢◌, ◌≤◌, ◌<◌, ℕ, ◌^◌, Bool, true, false, if◌then◌else◌, List, [], ◌∷◌, length, map, get_or, refl, sym, ap, subst, arith, ◌∙◌, Option, Some, None, IfSome, codes, bytes_eq}
 use Rattle.std.specs.Prelude.{option_map, option_and_then, IfNone}
 use Rattle.zone_model.specs.TransferText.{Mode, Axfr, Ixfr}
 use Rattle.xfr_services.specs.declared.modes.XfrMode.{XfrMode}
 use Rattle.zone_script.specs.Script.{number_of, number_below}
 use Rattle.zone_script.specs.Words.{Form, Transfer, Generate, form_of, mode_of, with_readers, with_sizes, between}
-
-some_inverse : {A : Type 0} (x y : A) → Some x ≡ Some y → x ≡ y
-some_inverse x y h = cc
 
 not_none : {A : Type 0} (x : A) → None ≢ Some x
 not_none x h = cc
@@ -53,39 +50,29 @@ IsMode r w = IfSome r (λ m. (more : List (List ℕ)) → form_of (w ∷ more) �
 abbrev IsNoMode : Option XfrMode → List ℕ → Type 0
 IsNoMode r w = IfNone r ((more : List (List ℕ)) (m : Mode) (readers : ℕ) → form_of (w ∷ more) ≢ Some (Transfer m readers))
 
--- it alone
-pub alone : (r : Option XfrMode) (w : List ℕ) → IsMode r w → IfSome r (λ m. form_of (w ∷ []) ≡ Some (Transfer (mode_of m) 0))
-alone None w h = tt
-alone (Some m) w h = h []
+-- one word
+one_word : {A : Type 0} (words : List A) (x : A) → 1 ≤ length words → length words < 2 → x ≡ get_or words 0 x → words ≡ x ∷ []
+one_word [] x least most e = absurd (omega (arith, least))
+one_word (w ∷ []) x least most e = ap (λ y. y ∷ []) (sym e)
+one_word (w ∷ k ∷ more) x least most e = absurd (omega (arith, most))
 
-pub alone_other : (r : Option XfrMode) (w : List ℕ) → IsNoMode r w → IfNone r ((m : Mode) → form_of (w ∷ []) ≢ Some (Transfer m 0))
-alone_other None w h = λ m. h [] m 0
-alone_other (Some m) w h = tt
+module _ {A : Type 0} (f : A → List ℕ) (words : List A) (x : A) (least : 1 ≤ length words) (most : length words < 2) (is : x ≡ get_or words 0 x) where
+  pub alone : (r : Option XfrMode) → IsMode r (f x) → IfSome r (λ m. form_of (map f words) ≡ Some (Transfer (mode_of m) 0))
+  alone r h = subst (λ ws. IfSome r (λ m. form_of (map f ws) ≡ Some (Transfer (mode_of m) 0))) (sym (one_word words x least most is)) (by r h)
+    where
+      by : (r : Option XfrMode) → IsMode r (f x) → IfSome r (λ m. form_of (f x ∷ []) ≡ Some (Transfer (mode_of m) 0))
+      by None h = tt
+      by (Some m) h = h []
 
--- with no reader threads
-pub with_none : (r : Option XfrMode) (w k : List ℕ) → number_below 17 k ≡ Some 0 → IsMode r w → IfSome r (λ m. form_of (w ∷ k ∷ []) ≡ Some (Transfer (mode_of m) 0))
-with_none None w k e h = tt
-with_none (Some m) w k e h = h (k ∷ []) ∙ ap (option_map (Transfer (mode_of m))) e
+  pub alone_other : (r : Option XfrMode) → IsNoMode r (f x) → IfNone r ((m : Mode) → form_of (map f words) ≢ Some (Transfer m 0))
+  alone_other r h = subst (λ ws. IfNone r ((m : Mode) → form_of (map f ws) ≢ Some (Transfer m 0))) (sym (one_word words x least most is)) (by r h)
+    where
+      by : (r : Option XfrMode) → IsNoMode r (f x) → IfNone r ((m : Mode) → form_of (f x ∷ []) ≢ Some (Transfer m 0))
+      by None h = λ m. h [] m 0
+      by (Some m) h = tt
 
-pub with_none_other : (r : Option XfrMode) (w k : List ℕ) → IsNoMode r w → IfNone r ((m : Mode) → form_of (w ∷ k ∷ []) ≢ Some (Transfer m 0))
-with_none_other None w k h = λ m. h (k ∷ []) m 0
-with_none_other (Some m) w k h = tt
-
--- with others, or with more words
-readers_of : (m n : Mode) (o : Option ℕ) → option_map (Transfer m) o ≡ Some (Transfer n 0) → o ≡ Some 0
-readers_of m n None h = absurd (not_none (Transfer n 0) h)
-readers_of m n (Some k) h = cc
-
-pub with_some : (w k : List ℕ) (m : Mode) → number_below 17 k ≢ Some 0 → form_of (w ∷ k ∷ []) ≢ Some (Transfer m 0)
-with_some w k m ne e = by (bytes_eq w (codes "axfr")) (bytes_eq w (codes "ixfr")) (bytes_eq w (codes "gen")) e
-  where
-    by : (a b c : Bool) → (if a then with_readers Axfr (k ∷ []) else if b then with_readers Ixfr (k ∷ []) else if c then with_sizes (k ∷ []) else None) ≡ Some (Transfer m 0) → ⊥
-    by true b c f = ne (readers_of Axfr m (number_below 17 k) f)
-    by false true c f = ne (readers_of Ixfr m (number_below 17 k) f)
-    by false false true f = not_none (Transfer m 0) f
-    by false false false f = not_none (Transfer m 0) f
-
-pub too_many : (w k l : List ℕ) (more : List (List ℕ)) (m : Mode) → form_of (w ∷ k ∷ l ∷ more) ≢ Some (Transfer m 0)
+-- more words than two, or none
+too_many : (w k l : List ℕ) (more : List (List ℕ)) (m : Mode) → form_of (w ∷ k ∷ l ∷ more) ≢ Some (Transfer m 0)
 too_many w k l more m e = by (bytes_eq w (codes "axfr")) (bytes_eq w (codes "ixfr")) (bytes_eq w (codes "gen")) e
   where
     by : (a b c : Bool) → (if a then None else if b then None else if c then with_sizes (k ∷ l ∷ more) else None) ≡ Some (Transfer m 0) → ⊥
@@ -93,3 +80,9 @@ too_many w k l more m e = by (bytes_eq w (codes "axfr")) (bytes_eq w (codes "ixf
     by false true c f = not_none (Transfer m 0) f
     by false false true f = sizes_other (k ∷ l ∷ more) m 0 f
     by false false false f = not_none (Transfer m 0) f
+
+pub other_count : {A : Type 0} (f : A → List ℕ) (words : List A) → length words ≢ 1 → length words ≢ 2 → (m : Mode) → form_of (map f words) ≢ Some (Transfer m 0)
+other_count f [] one two m e = not_none (Transfer m 0) e
+other_count f (w ∷ []) one two m e = one refl
+other_count f (w ∷ k ∷ []) one two m e = two refl
+other_count f (w ∷ k ∷ l ∷ more) one two m e = too_many (f w) (f k) (f l) (map f more) m e

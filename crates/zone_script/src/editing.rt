@@ -100,6 +100,7 @@ impl Editing {
     }
 
     /// Whether an edit may come: before the questions, and with a record of the zone's class.
+    #[tactic(auto, unfolding(crate::specs::Keeping::may_change))]
     fn may_change(&self, change: &Change) -> bool
         ensures { result ≡ keeping.may_change self.now (change_of change.now) }
     {

@@ -7,7 +7,6 @@ use crate::numbers::number_below;
 use xfr_services::XfrMode;
 
 /// The kind of transfer that the words ask for, where no reader threads are asked for: `axfr` or `ixfr`, alone or with `0` after it.
-#[tactic(auto, using(crate::proofs::WordForms::alone, crate::proofs::WordForms::alone_other, crate::proofs::WordForms::with_none, crate::proofs::WordForms::with_none_other, crate::proofs::WordForms::with_some, crate::proofs::WordForms::too_many))]
 pub fn transfer_of(words: &[String]) -> Option<XfrMode>
     ensures asked { IfSome result (λ m. form_of (map string_bytes words.now) ≡ Some (Transfer (mode_of m) 0)) }
     ensures other { IfNone result ((m : Mode) → form_of (map string_bytes words.now) ≢ Some (Transfer m 0)) }
