@@ -29,7 +29,7 @@ longer h qs xs ys =
 
 -- ---- a record has ten octets at least, so a message has room for fewer than can be counted
 
-record_long : (r : Record) → 10 ≤ length (record_wire r)
+pub record_long : (r : Record) → 10 ≤ length (record_wire r)
 record_long r =
     let d = data_wire r.fields in
     let a = name_wire r.owner ++ u16_octets r.rtype in

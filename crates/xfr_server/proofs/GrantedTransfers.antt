@@ -1,5 +1,5 @@
 -- What a primary sends in a transfer that is granted.
-use Rattle.std.proofs.Common.{◌≡◌, ℕ, ◌+◌, ◌-◌, ◌≤◌, Bool, true, false, ◌&&◌, not, List, [], ◌∷◌, ◌++◌, map, Option, Some, None, min, refl, sym, ap, ◌∙◌, arith, subst}
+use Rattle.std.proofs.Common.{◌≡◌, ℕ, ◌+◌, ◌-◌, ◌≤◌, Bool, true, false, ◌&&◌, ◌||◌, not, List, [], ◌∷◌, ◌++◌, map, Option, Some, None, min, refl, sym, ap, ◌∙◌, arith, subst}
 use Rattle.std.specs.Prelude.{IsTrue, flat_map, option_map, is_some, Result, Ok}
 use Rattle.std.specs.Option.{option_map_or}
 use Rattle.std.specs.List.{AllByRecursion, list_all}
@@ -46,6 +46,11 @@ use Rattle.xfr_server.proofs.SignedPages.{can_sign_page, page_fits, first_signed
 pub found_key : {K : Type 0} (the_key : K → TsigKey) (known : Option K) (key : TsigKey) → option_map the_key known ≡ Some key → (k : K) × ((known ≡ Some k) × (the_key k ≡ key))
 found_key the_key None key e = cc
 found_key the_key (Some k) key e = (k, (refl, cc))
+
+-- any is answered by a stream
+by_stream : (mode : XfrMode) → (is_ixfr mode || not false) ≡ true
+by_stream Axfr = refl
+by_stream Ixfr = refl
 
 -- what is chosen is what is sent of the offer
 names_one : (mode : XfrMode) (asked : Option ℕ) (serial : ℕ) → OnIxfr (mode_of mode) (asked ≡ Some serial) → (is_ixfr mode && not (is_some asked)) ≡ false
@@ -118,7 +123,7 @@ soa_alone_of : (v : Version) (ttl : ℕ) (items : List (List Field)) → begins_
 soa_alone_of v ttl [] e = cc
 soa_alone_of v ttl (d ∷ more) e = (record { owner = v.apex; rtype = type_soa; class = v.class; ttl = ttl; fields = d }, refl)
 
-soa_alone_by : (v : Version) (o : Option RecordSet) → begins_with_soa (records_of_option v.apex type_soa v.class (option_map first_only o)) ≡ true
+pub soa_alone_by : (v : Version) (o : Option RecordSet) → begins_with_soa (records_of_option v.apex type_soa v.class (option_map first_only o)) ≡ true
     → (r : Record) × (records_of_option v.apex type_soa v.class (option_map first_only o) ≡ r ∷ [])
 soa_alone_by v None e = cc
 soa_alone_by v (Some s) e = soa_alone_of v s.ttl s.items e
@@ -144,7 +149,7 @@ choice_given told mode message known k transport reserved n given choice own is 
     let own_l = subst (λ l. SendsChoice message l false (chosen (told (Some k)) mode false message) given) (limit_left n) own_r in
     subst (λ c. SendsChoice message (65535 - n) false c given) chooses own_l
 
-some_text : (x a : List Record) (y b : Bool) → ◌≡◌ {A = Option (List Record × Bool)} (Some (x, y)) (Some (a, b)) → (x ≡ a) × (y ≡ b)
+pub some_text : (x a : List Record) (y b : Bool) → ◌≡◌ {A = Option (List Record × Bool)} (Some (x, y)) (Some (a, b)) → (x ≡ a) × (y ≡ b)
 some_text x a y b e =
     (ap (λ (o : Option (List Record × Bool)). option_map_or (λ p. p.0) o x) e, ap (λ (o : Option (List Record × Bool)). option_map_or (λ p. p.1) o y) e)
 
@@ -214,4 +219,4 @@ whole_sent IsDefault the_key keys Next told r key mode serial offer sent g sends
     choice_given (told message) mode message by_key.known found.0 r.transport r.reserved n by_key.given choice own found.1.0 g.stream g.fresh
     (offer_chosen (told message (Some found.0)) mode message serial offer g.names (g.granted found.0 found.1.1)) in
     choice_sent r key sent by_key.given by_key.signed g.macs choice (text_of offer (mode_of mode) serial) (in_singles (mode_of mode) offer.compatibility) g.pages
-    (text_is_chosen mode (sole_question_in message) (asked_serial message) serial offer g.names g.apex g.one_soa) (texts_begin mode serial offer g.one_soa) g.cut sends_choice
+    (text_is_chosen mode false (sole_question_in message) (asked_serial message) serial offer (by_stream mode) g.names g.apex g.one_soa) (texts_begin mode serial offer g.one_soa) g.cut sends_choice

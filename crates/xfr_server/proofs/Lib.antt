@@ -10,7 +10,9 @@ pub mod SentTexts
 pub mod Room
 pub mod Pages
 pub mod SignedPages
+pub mod OutOfRoom
 pub mod GrantedTransfers
 pub mod SignedAnswers
+pub mod JoinedAnswers
 pub mod LongRequests
 pub mod Accepted

@@ -1,5 +1,5 @@
 -- The text that is chosen to be sent.
-use Rattle.std.proofs.Common.{◌≡◌, ℕ, suc, Bool, true, false, ◌&&◌, not, cond, List, [], ◌∷◌, ◌++◌, length, filter, Option, Some, None, refl, sym, ap, ◌∙◌, arith}
+use Rattle.std.proofs.Common.{◌≡◌, ℕ, suc, Bool, true, false, ◌&&◌, not, cond, List, [], ◌∷◌, ◌++◌, length, filter, Some, refl, ap, ◌∙◌, arith}
 use Rattle.std.specs.Prelude.{◌==◌, flat_map}
 use Rattle.std.specs.List.{list_all}
 use Rattle.std.proofs.lemmas.Bool.Decides.{nat_tests}
@@ -43,23 +43,19 @@ news_by offer true = refl
 news_by offer false = changes_by offer offer.differences refl
 
 pub text_is_chosen : TextIsChosen
-text_is_chosen Axfr question asked serial offer names apex one = rw (apex, one) refl
-text_is_chosen Ixfr question asked serial offer names apex one = rw (names, apex, one) (news_by offer (serial_upto (zone_serial offer.version) serial))
+text_is_chosen Axfr true question asked serial offer takes names apex one = cc
+text_is_chosen Axfr false question asked serial offer takes names apex one = rw (apex, one) refl
+text_is_chosen Ixfr udp question asked serial offer takes names apex one = rw (names, apex, one) (news_by offer (serial_upto (zone_serial offer.version) serial))
 
 -- ---- each text begins with an SOA
 
-begins_by : (v : Version) (rest : List Record) → has_one_apex_soa v ≡ true → begins_with_soa (apex_soa_record v ++ rest) ≡ true
-begins_by v rest one =
-    let soa = soa_of v (set_at v v.apex type_soa) one in
-    ap (λ rs. begins_with_soa (rs ++ rest)) soa.1.0 ∙ soa.1.1
-
-whole_begins : (v : Version) → has_one_apex_soa v ≡ true → begins_with_soa (whole_text v) ≡ true
+pub whole_begins : (v : Version) → has_one_apex_soa v ≡ true → begins_with_soa (whole_text v) ≡ true
 whole_begins v one =
     let middle = filter (λ r. not (is_apex_soa v r)) (records_of_version v) in
     let soa = soa_of v (set_at v v.apex type_soa) one in
     ap (λ rs. begins_with_soa ((rs ++ middle) ++ apex_soa_record v)) soa.1.0 ∙ soa.1.1
 
-changes_begin : (v : Version) (ds : List Difference) → has_one_apex_soa v ≡ true → begins_with_soa (changes_text v ds) ≡ true
+pub changes_begin : (v : Version) (ds : List Difference) → has_one_apex_soa v ≡ true → begins_with_soa (changes_text v ds) ≡ true
 changes_begin v ds one =
     let middle = flat_map (difference_text v) ds in
     let soa = soa_of v (set_at v v.apex type_soa) one in

@@ -1,9 +1,8 @@
 -- What a primary sends to a signed request that it accepts.
-use Rattle.std.proofs.Common.{◌≡◌, ℕ, ◌+◌, ◌-◌, ◌≤◌, Bool, true, false, cond, List, [], ◌∷◌, ◌++◌, length, map, Option, Some, None, min, refl, sym, ap, ◌∙◌, arith, subst}
+use Rattle.std.proofs.Common.{◌≡◌, ℕ, ◌+◌, ◌-◌, ◌≤◌, Bool, true, false, cond, List, [], ◌∷◌, ◌++◌, length, map, Option, Some, None, min, refl, ap, ◌∙◌, arith, subst}
 use Rattle.std.specs.Prelude.{IsTrue, option_map, Result, if◌then◌else◌}
 use Rattle.std.specs.Option.{option_map_or}
-use Rattle.std.specs.List.{AllByRecursion, list_all}
-use Rattle.std.proofs.lemmas.Bool.Decides.{nat_tests}
+use Rattle.std.specs.List.{list_all}
 use Rattle.dns_name.specs.Codes.{servfail}
 use Rattle.dns_rdata.specs.Records.{Record}
 use Rattle.dns_wire.specs.Wire.{Building, Message, message_wire, fits}
@@ -22,18 +21,19 @@ use Rattle.xfr_server.specs.Items.Sending.{Given, Failed}
 use Rattle.xfr_server.specs.Replying.{error_reply}
 use Rattle.xfr_server.specs.Transfers.{Choice, chosen, is_udp, most_octets, reply_limit, soa_reply, udp_reply, sent_once, SendsAnswer, SendsChoice}
 use Rattle.xfr_server.specs.Transfers.Choice.{Refuse, SoaAlone, Text}
-use Rattle.xfr_server.specs.Signing.{can_be_signed, signed_reply, signed_items, reply_tsig}
+use Rattle.xfr_server.specs.Signing.{can_be_signed, signed_items}
 use Rattle.xfr_server.specs.Serving.{SendsIn, SendsTransfer}
 use Rattle.xfr_server.specs.SignedServing.{SendsBy, SendsSigned, accepted_request, signer_for, SendsChecked}
 use Rattle.xfr_server.specs.GrantedTransfers.{IsSentInTurn}
-use Rattle.xfr_server.specs.SignedAnswers.{soa_answer, udp_answer, ArePages, Tell, IsAccepted, TransferIsAnswered, OtherIsHandedOn}
+use Rattle.xfr_server.specs.SignedAnswers.{soa_answer, udp_answer, Tell, IsAccepted, TransferIsAnswered, OtherIsHandedOn}
 use Rattle.xfr_services.specs.Failing.{bare_len}
 use Rattle.xfr_server.specs.declared.providers.XfrDataProviderError.{XfrDataProviderError}
 use Rattle.xfr_services.specs.declared.requests.Request.{Request}
 use Rattle.xfr_services.specs.declared.services.ServiceFeedback.TheVariants.{BeginTransaction, EndTransaction}
 use Rattle.xfr_services.specs.declared.signing.Signing.TheVariants.{First, All}
 use Rattle.xfr_services.specs.declared.modes.XfrMode.{XfrMode}
-use Rattle.xfr_server.proofs.Pages.{IsPage, each_page}
+use Rattle.xfr_server.proofs.OutOfRoom.{chosen_begins, choice_fails}
+use Rattle.xfr_server.proofs.Pages.{each_page}
 use Rattle.xfr_server.proofs.GrantedTransfers.{found_key}
 use Rattle.xfr_server.proofs.SignedPages.{fits_whole, can_sign, can_sign_page, first_signed, last_signed, EndsWith, pages_signed}
 
@@ -129,22 +129,37 @@ module _ {M : Type 0} (r : Request M) (key : TsigKey) (sent given : Option (List
   Told udp choice = (answers : List Message) × (Tell request limit udp choice answers × (bare_len request + compose_len key ≤ 65535 → IsSentInTurn r key answers sent))
 
   choice_told : (udp : Bool) (choice : Choice) → SendsChoice request limit udp choice given → Told udp choice
-  choice_told udp (Refuse rcode) sends =
-      (empty_answer request rcode ∷ [], (refl, λ room. one_answer r key sent given signed macs room limit small (empty_answer request rcode) (error_reply request rcode)
-      (error_stands r key sent given signed macs room limit small rcode) sends))
-  choice_told udp (SoaAlone v) sends =
-      (soa_answer request limit v ∷ [], (refl, λ room. one_answer r key sent given signed macs room limit small (soa_answer request limit v) (soa_reply request limit v)
-      (soa_stands r key sent given signed macs room limit small v) sends))
-  choice_told true (Text v singles text) sends =
-      (udp_answer request limit v text ∷ [], (refl, λ room. one_answer r key sent given signed macs room limit small (udp_answer request limit v text) (udp_reply request limit v text)
-      (udp_stands r key sent given signed macs room limit small v text) sends))
+  choice_told udp (Refuse rcode) sends = (
+    empty_answer request rcode ∷ [],
+    (
+      refl,
+      λ room. one_answer r key sent given signed macs room limit small (empty_answer request rcode) (error_reply request rcode)
+          (error_stands r key sent given signed macs room limit small rcode) sends,
+    ),
+  )
+  choice_told udp (SoaAlone v) sends = (
+    soa_answer request limit v ∷ [],
+    (
+      refl,
+      λ room. one_answer r key sent given signed macs room limit small (soa_answer request limit v) (soa_reply request limit v)
+          (soa_stands r key sent given signed macs room limit small v) sends,
+    ),
+  )
+  choice_told true (Text v singles text) sends = (
+    udp_answer request limit v text ∷ [],
+    (
+      refl,
+      λ room. one_answer r key sent given signed macs room limit small (udp_answer request limit v text) (udp_reply request limit v text)
+          (udp_stands r key sent given signed macs room limit small v text) sends,
+    ),
+  )
   choice_told false (Text v singles text) sends = (
-      map (page_answer request) sends.2.2.pages ++ (if list_all (has_page (page_room request limit)) text then [] else empty_answer request servfail ∷ []),
-      (
-        record { pages = sends.2.2.pages; cut = sends.2.2.cut; all = refl },
-        λ room. text_sent r key sent given signed macs room limit small singles text sends,
-      ),
-    )
+    map (page_answer request) sends.2.2.pages ++ (if list_all (has_page (page_room request limit)) text then [] else empty_answer request servfail ∷ []),
+    (
+      record { pages = sends.2.2.pages; cut = sends.2.2.cut; all = refl },
+      λ room. text_sent r key sent given signed macs room limit small singles text sends,
+    ),
+  )
 
 -- ---- the laws
 
@@ -166,9 +181,22 @@ module _ {M K : Type 0} (IsDefault : Option K → Type 0) (the_key : K → TsigK
       let own : SendsAnswer (told request by_key.known) mode r.transport reserved request by_key.given = subst P asks by_key.next in
       let Q : Option K → Type 0 = λ o. SendsAnswer (told request o) mode r.transport reserved request by_key.given in
       let answer = subst Q found.1.0 own in
-      let made = choice_told r key sent by_key.given by_key.signed a.macs (reply_limit r.transport reserved) (limit_small (most_octets r.transport) r.reserved (compose_len key) a.octets)
-          (is_udp r.transport) (chosen (told request (Some found.0)) mode (is_udp r.transport) request) answer in
-      record { found = found.0; is_found = found.1.1; given = by_key.given; answer = answer; signed = by_key.signed; answers = made.0; tell = made.1.0; in_turn = made.1.1 }
+      let limit = reply_limit r.transport reserved in
+      let small : limit ≤ 65535 - compose_len key = limit_small (most_octets r.transport) r.reserved (compose_len key) a.octets in
+      let choice : Choice = chosen (told request (Some found.0)) mode (is_udp r.transport) request in
+      let made = choice_told r key sent by_key.given by_key.signed a.macs limit small (is_udp r.transport) choice answer in
+      record {
+        found = found.0;
+        is_found = found.1.1;
+        given = by_key.given;
+        answer = answer;
+        signed = by_key.signed;
+        answers = made.0;
+        tell = made.1.0;
+        in_turn = made.1.1;
+        no_room = λ long received.
+            choice_fails r key sent by_key.given by_key.signed a.macs limit small long received (is_udp r.transport) choice (chosen_begins (told request (Some found.0)) mode (is_udp r.transport) request) answer;
+      }
 
   pub other_handed : ((m : Option K) → IsDefault m → m ≡ None) → (sent : Option (List Sending)) → OtherIsHandedOn (SendsChecked the_key keys (SendsTransfer IsDefault Next told)) keys Next r key sent
   other_handed none sent a asks sends =

@@ -12,3 +12,5 @@ pub mod Serving
 pub mod SentTexts
 pub mod GrantedTransfers
 pub mod SignedAnswers
+pub mod JoinedAnswers
+pub mod AnswerRows

@@ -1,5 +1,5 @@
 -- What a primary sends to a signed request that it accepts (RFC 5936, 2.2; RFC 1995, 2 and 4; RFC 8945, 5.3).
-use Rattle.std.specs.Prelude.{◌≡◌, ℕ, ◌+◌, ◌≤◌, Bool, true, false, List, [], ◌∷◌, ◌++◌, map, min, Option, Some, None, option_map, IsTrue, Result, if◌then◌else◌}
+use Rattle.std.specs.Prelude.{◌≡◌, ℕ, ◌+◌, ◌≤◌, ◌<◌, Bool, true, false, List, [], ◌∷◌, ◌++◌, map, min, Option, Some, None, option_map, IsTrue, Result, if◌then◌else◌}
 use Rattle.std.specs.List.{list_all}
 use Rattle.dns_name.specs.Names.{fold}
 use Rattle.dns_name.specs.Codes.{servfail}
@@ -14,7 +14,7 @@ use Rattle.zone_model.specs.Version.{Version}
 use Rattle.zone_model.specs.Answer.{apex_soa_record}
 use Rattle.zone_model.specs.Offer.{Offer, IsCutInto}
 use Rattle.xfr_replies.specs.TransferPages.{page_answer, page_room, has_page, sendable}
-use Rattle.xfr_server.specs.Items.{Sending}
+use Rattle.xfr_server.specs.Items.{Sending, sent_by}
 use Rattle.xfr_server.specs.Requests.{is_udp}
 use Rattle.xfr_server.specs.Signing.{signed_items}
 use Rattle.xfr_server.specs.SignedServing.{accepted_request, signer_for}
@@ -59,8 +59,13 @@ pub record IsAccepted {M : Type 0} (keys : Keys) (r : Request M) (key : TsigKey)
   pub macs : IsTrue (is_mac_len key.algorithm key.signing_len)
   pub octets : most_octets r.transport ≤ 65535
 
+-- a service fails without a message
+abbrev pub SendsNothing : Option (List Sending) → Type 0
+SendsNothing None = Unit {0}
+SendsNothing (Some items) = sent_by items ≡ record { messages = []; fails = true }
+
 -- a transfer request is answered as what is chosen of the provider's offer to this key, in messages that leave room for the key's TSIG: each item of
--- that is signed in its turn; and where the questions alone leave room for a TSIG, what is sent is the messages that tell the choice
+-- that is signed in its turn; where the questions alone leave room for a TSIG, what is sent is the messages that tell the choice, and else nothing
 pub record IsAnswered {M K : Type 0} (the_key : K → TsigKey) (told : List ℕ → Option K → Option ℕ → Result Offer XfrDataProviderError) (r : Request M) (key : TsigKey) (mode : XfrMode) (sent : Option (List Sending)) : Type 0 where
   pub found : K
   pub is_found : the_key found ≡ key
@@ -71,6 +76,7 @@ pub record IsAnswered {M K : Type 0} (the_key : K → TsigKey) (told : List ℕ 
   pub tell : Tell (taken_message r.message) (reply_limit r.transport (min (r.reserved + compose_len key) 65535)) (is_udp r.transport)
       (chosen (told (taken_message r.message) (Some found)) mode (is_udp r.transport) (taken_message r.message)) answers
   pub in_turn : bare_len (taken_message r.message) + compose_len key ≤ 65535 → IsSentInTurn r key answers sent
+  pub no_room : 65535 < bare_len (taken_message r.message) + compose_len key → 65535 < bare_len r.message + compose_len key → SendsNothing sent
 
 -- any other request is answered by the next service, which isn't told the key; its first reply is signed, and those of a transaction one after
 -- another; one without room for the TSIG is replaced by its start, with TC (RFC 8945, 5.3)

@@ -1,11 +1,16 @@
 // Worked replies of a primary, proved by computation.
 ghost use Rattle.std.specs.Prelude.{map, ◌≡◌, [], ◌∷◌, true, false, Some, None};
-ghost use Rattle.dns_name.specs.Codes.{type_axfr, type_ixfr, type_soa};
+ghost use Rattle.dns_name.specs.Codes.{servfail, type_axfr, type_ixfr, type_soa};
+ghost use Rattle.dns_wire.specs.Reply.{empty_answer};
 ghost use Rattle.zone_model.specs.Difference.{difference};
 ghost use Rattle.zone_model.specs.Offer.{offer_of, whole_text};
 ghost use Rattle.zone_model.specs.ZoneRows as rows;
 ghost use Rattle.xfr_model.specs.ReplyRows as replies;
+ghost use Rattle.xfr_replies.specs.TransferPages.{page_answer};
+ghost use Rattle.xfr_server.specs.AnswerRows.{request_of};
 ghost use Rattle.xfr_server.specs.Offers.{offer_alone};
+ghost use Rattle.xfr_server.specs.SentTexts.{sent_records};
+ghost use Rattle.xfr_server.specs.SignedAnswers.{udp_answer};
 ghost use Rattle.xfr_server.specs.Transfers as transfers;
 ghost use Rattle.xfr_server.specs.Transfers.Choice.{Refuse, SoaAlone, Text};
 ghost use Rattle.xfr_services.specs.declared.modes.XfrMode.TheVariants.{Axfr, Ixfr};
@@ -39,4 +44,21 @@ pub fn text_row()
     ensures none { transfers.choice_of Ixfr false (Some (replies.asked type_ixfr)) (Some 0) (offer_of rows.history_3 rows.history_differences true 0) ≡ Text rows.history_3 false (whole_text rows.history_3) }
     ensures full { transfers.choice_of Axfr false (Some (replies.asked type_axfr)) (Some 1) (offer_of rows.history_3 rows.history_differences true 1) ≡ Text rows.history_3 true (whole_text rows.history_3) }
     ensures unsendable { transfers.choice_of Ixfr false (Some (replies.asked type_ixfr)) (Some 0) (offer_of rows.history_3 (difference rows.empty_zone rows.history_3 ∷ []) false 0) ≡ Text rows.history_3 false (whole_text rows.history_3) }
+{}
+
+/// The records of what is chosen, and whether each message holds one: none of a refusal, differences, the SOA alone, and the whole zone, of
+/// which alone a message holds one record where the provider wants that.
+pub fn records_row()
+    ensures refused { sent_records (Refuse servfail) ≡ None }
+    ensures changes { sent_records (transfers.choice_of Ixfr false (Some (replies.asked type_ixfr)) (Some 1) (offer_of rows.history_3 rows.history_differences true 1)) ≡ Some (rows.history_text, false) }
+    ensures caught_up { sent_records (transfers.choice_of Ixfr true (Some (replies.asked type_ixfr)) (Some 3) (offer_of rows.history_3 rows.history_differences true 3)) ≡ Some (rows.soa 3 ∷ [], false) }
+    ensures whole { sent_records (transfers.choice_of Axfr false (Some (replies.asked type_axfr)) None (offer_of rows.history_3 rows.history_differences true 0)) ≡ Some (whole_text rows.history_3, true) }
+{}
+
+/// One message by its room: a text, else the SOA alone, else SERVFAIL.
+#[tactic(auto, unfolding(tsig_port::proofs::OnLiterals::on_literals))]
+pub fn one_message_row()
+    ensures whole { udp_answer (request_of type_ixfr) 512 rows.history_1 (whole_text rows.history_1) ≡ page_answer (request_of type_ixfr) (whole_text rows.history_1) }
+    ensures soa { udp_answer (request_of type_ixfr) 100 rows.history_1 (whole_text rows.history_1) ≡ page_answer (request_of type_ixfr) (rows.soa 1 ∷ []) }
+    ensures none { udp_answer (request_of type_ixfr) 50 rows.history_1 (whole_text rows.history_1) ≡ empty_answer (request_of type_ixfr) servfail }
 {}

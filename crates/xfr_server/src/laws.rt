@@ -7,6 +7,7 @@ ghost use Rattle.xfr_server.specs.Offers.{CommitsMayBePushed, HistoryGrants, His
 ghost use Rattle.xfr_server.specs.SentTexts.{TextIsChosen};
 ghost use Rattle.xfr_server.specs.GrantedTransfers.{SendsWhole, TextsBegin, WholeIsTaken, TransferIsMessage};
 ghost use Rattle.xfr_server.specs.SignedAnswers.{OtherIsHandedOn, TransferIsAnswered};
+ghost use Rattle.xfr_server.specs.JoinedAnswers.{AnswersJoin};
 ghost use Rattle.xfr_services.specs.Failing.{fails, FailsWhereLong, IsTooLong};
 ghost use Rattle.xfr_services.specs.declared.requests.Request.{Request as RequestOf};
 ghost use Rattle.xfr_services.specs.declared.modes.XfrMode.{XfrMode as ModeOf};
@@ -15,7 +16,7 @@ ghost use Rattle.tsig_port.specs.ServerCheck.{verdict};
 use crate::{PrimaryStack, Service, XfrDataProvider, XfrMiddlewareSvc};
 use tsig_port::KeyStore;
 
-/// By a stream, what is sent of an offer is the model's text in answer to the serial that is named, and each text begins with an SOA.
+/// What is sent of an offer is the model's text in answer to the serial that is named, but to who asks for AXFR by UDP; each text begins with an SOA.
 pub fn texts_are_chosen()
     ensures chosen { TextIsChosen }
     ensures begin { TextsBegin }
@@ -43,6 +44,11 @@ pub fn signed_requests_are_answered<
         → TransferIsAnswered (⟦<PrimaryStack<N, X, KS> as Service<()>>⟧.Sends ((next, provider), keys)) KS.Key.the_key (KS.key_of keys) (X.told provider) r key mode sent }
     ensures others { (next : N) (provider : X) (keys : KS) (r : RequestOf (Unit {0})) (key : TsigKey) (sent : Option (List Sending))
         → OtherIsHandedOn (⟦<PrimaryStack<N, X, KS> as Service<()>>⟧.Sends ((next, provider), keys)) (KS.key_of keys) (N.Sends next) r key sent }
+{}
+
+/// The messages that tell a text join to it, where it has room: by UDP whole in the one message, by a stream each record in one of its own.
+pub fn answers_join()
+    ensures { AnswersJoin }
 {}
 
 /// Nothing refuses these messages as the answers to their request, and each has a wire form where its records have one.
