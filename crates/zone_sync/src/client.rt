@@ -143,8 +143,10 @@ impl XfrClient {
     }
 
     /// Takes a reply: checks its signature, and applies the updates that it says. The outcome, where the transfer ends with it, is
-    /// told, and so is a refusal; after either the client isn't open and nothing is pending. Each version that is committed gives
-    /// a handle at the end of `made`. Nothing waits, so nothing is asked of `rt`.
+    /// told, and so is a refusal; after either the client isn't open and nothing is pending. `UpToDate` is told where the first reply
+    /// to a question for what is newer is one SOA record alone, with the serial that was asked with (RFC 1995, 2); with another serial
+    /// that is `Iteration(SingleSoaIxfrTcpRetrySignal)`. Each version that is committed gives a handle at the end of `made`. Nothing
+    /// waits, so nothing is asked of `rt`.
     pub fn take<R>(
         &mut self,
         rt: &R,
