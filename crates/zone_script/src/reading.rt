@@ -1,5 +1,5 @@
 //! The lines of a script up to the first edit or question, and the zones that they open.
-ghost use Rattle.std.specs.Prelude.{◌≡◌, Ok, Err, IfOk, IfErr, IfSome, IsSomeAnd, OnOk};
+ghost use Rattle.std.specs.Prelude.{◌≡◌, ◌==◌, Ok, Err, IfOk, IfErr, IfSome, IsSomeAnd, OnOk};
 ghost use Rattle.zone_script.specs.Script.{stage_of};
 ghost use Rattle.zone_script.specs.Keeping as keeping;
 ghost use Rattle.zone_script.specs.Lines.{line_of};

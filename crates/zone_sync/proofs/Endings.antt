@@ -64,7 +64,7 @@ script_granted SendsOf grants mode text t key longest spelt fit =
 
 module _ (SendsOf : Provider → TsigKey → ℕ → List ℕ → Option (List Sending) → Type 0) (grants : Granting SendsOf) (mode : Mode)
     (text : List ℕ) (t : scripts.Script TsigKey) (key : TsigKey) (link : Crossed) (taken_old taken_new : Option (List ℕ)) (spelt : script_of wire_readers text ≡ Ok t) (fits : FitsLink mode t key link.longest) (honest : WasHonest link.lists_old link.lists_new link.faults_old link.faults_new) where
-  form : Option Form
+  abbrev pub form : Option Form
   form = Some (Transfer mode 0)
 
   same_script : (u : scripts.Script TsigKey) → script_of wire_readers text ≡ Ok u → t ≡ u

@@ -1,5 +1,5 @@
 -- The report of a transfer, from what its parts ensure.
-use Rattle.std.specs.Prelude.{◌≡◌, ◌≢◌, ◌<◌, ℕ, List, [], length, Option, Result, Ok, Err, IsTrue}
+use Rattle.std.specs.Prelude.{◌≡◌, ◌≢◌, ◌<◌, ℕ, List, [], length, Bool, true, false, Option, Result, Ok, Err, IsTrue}
 use Rattle.std.proofs.Common.{refl, sym, ap, ◌∙◌, subst, arith}
 use Rattle.dns_name.specs.Names.{Name}
 use Rattle.dns_rdata.specs.Records.{record_wire}
@@ -21,7 +21,8 @@ use Rattle.zone_sync.specs.Report.{report}
 use Rattle.zone_sync.specs.Notices.{is_reported}
 use Rattle.zone_sync.specs.Reported.{crossed, Crossed, Transferred, TransfersOn, Reports, ReportsOn, status_by}
 use Rattle.zone_sync.specs.declared.program.Status.{Status}
-use Rattle.zone_sync.specs.declared.program.Status.TheVariants.{LinkFault}
+use Rattle.zone_sync.specs.declared.program.Status.TheVariants.{LinkFault, Memory}
+use Rattle.zone_sync.specs.contracts.program.StatusPartialEq.TheImpl as derived
 
 -- a status that comes with a report
 pub ends_reported : (answer : Result SyncOk SyncError) (status : Status) → status ≡ status_by answer → answer ≢ Err why.Memory → IsTrue (is_reported status)
@@ -32,6 +33,13 @@ ends_reported answer status e known = subst (λ t. IsTrue (is_reported t)) (sym 
     by (Err why.LinkFault) h = refl
     by (Err why.Memory) h = absurd (h refl)
     by (Err e) h = refl
+
+-- an answer that isn't want of memory, by its status
+pub known_by_status : (answer : Result SyncOk SyncError) (status : Status) → status ≡ status_by answer → derived.ghosts.eq status Memory ≡ false → answer ≢ Err why.Memory
+known_by_status answer status e test memory =
+    let same : status ≡ Memory = e ∙ ap status_by memory in
+    let clash : true ≡ false = ap (λ s. derived.ghosts.eq s Memory) (sym same) ∙ test in
+    absurd cc
 
 -- a status of a failed link is that of its answer
 pub link_failed : (answer : Result SyncOk SyncError) (status : Status) → status ≡ status_by answer → status ≡ LinkFault → answer ≡ Err why.LinkFault

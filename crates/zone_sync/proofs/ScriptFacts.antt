@@ -1,8 +1,8 @@
 -- What holds of every script that is spelt: its key is one to sign with, and both its zones are of one apex and class.
-use Rattle.std.specs.Prelude.{◌≡◌, ℕ, ◌+◌, ◌^◌, suc, Bool, true, false, not, nat_lt, nat_le, ◌&&◌, ◌==◌, if◌then◌else◌, List, [], ◌∷◌, length, Option, Some, None, is_some, option_map, option_and_then, unwrap_or, Result, Ok, Err, IsTrue, codes, bytes_eq, filter, fold as fold_list}
+use Rattle.std.specs.Prelude.{◌≡◌, ℕ, ◌+◌, ◌^◌, ◌<◌, suc, Bool, true, false, not, nat_lt, nat_le, ◌&&◌, ◌==◌, if◌then◌else◌, List, [], ◌∷◌, length, Option, Some, None, is_some, option_map, option_and_then, unwrap_or, Result, Ok, Err, IsTrue, codes, bytes_eq, filter, fold as fold_list}
 use Rattle.std.specs.Result.{result_ok, result_unwrap_or}
 use Rattle.std.specs.List.{AllByRecursion, list_all, slice_split}
-use Rattle.std.proofs.Common.{refl, sym, ap, ◌∙◌, subst, lt-ltb}
+use Rattle.std.proofs.Common.{refl, sym, ap, ◌∙◌, subst, arith, lt-ltb}
 use Rattle.hex.specs.Hex as hex
 use Rattle.hex.specs.declared.error.FromHexError.{FromHexError}
 use Rattle.hex.proofs.HexLemmas.{decode_of-ok}
@@ -30,7 +30,7 @@ use Rattle.zone_sync.specs.Reported.{FitsLink, asking_in, offer_in, provider_in,
 -- ---- options
 
 -- what an option has, if anything, is so
-Holds : {A : Type 0} → (A → Type 0) → Option A → Type 0
+abbrev Holds : {A : Type 0} → (A → Type 0) → Option A → Type 0
 Holds P None = Unit {0}
 Holds P (Some x) = P x
 
@@ -78,7 +78,7 @@ self_holds (Some x) = refl
 abbrev pub IsSigner : TsigKey → Type 0
 IsSigner k = IsTrue (is_name k.name) × IsTrue (is_mac_len k.algorithm k.signing_len)
 
-AreOctets : List ℕ → Type 0
+abbrev AreOctets : List ℕ → Type 0
 AreOctets xs = IsTrue (list_all (λ c. nat_lt c 256) xs)
 
 bytes_below : (xs : List ℕ) → hex.IsBytes xs → AreOctets xs
@@ -92,7 +92,7 @@ hex_holds text = if_holds AreOctets (length text == 0) None (result_ok (hex.deco
     decoded (Ok bytes) e = bytes_below bytes ((decode_of-ok text bytes e).3)
     decoded (Err e) f = tt
 
-IsName : Name → Type 0
+abbrev IsName : Name → Type 0
 IsName n = IsTrue (is_name n)
 
 in_holds : (octets : List ℕ) → AreOctets octets → Holds IsName (name_in octets)
@@ -125,7 +125,7 @@ key_holds (a ∷ b ∷ c ∷ d ∷ e ∷ f ∷ more) = tt
 
 -- ---- a line
 
-LineSound : scripts.Line TsigKey → Type 0
+abbrev LineSound : scripts.Line TsigKey → Type 0
 LineSound (scripts.KeyLine k) = IsSigner k
 LineSound _ = Unit {0}
 
@@ -170,7 +170,7 @@ pub record Sound (s : scripts.Script TsigKey) : Type 0 where
   pub class : s.secondary.class ≡ s.primary.class
   pub key : (k : TsigKey) → s.key ≡ Some k → IsSigner k
 
-Sounds : Result (scripts.Script TsigKey) ℕ → Type 0
+abbrev Sounds : Result (scripts.Script TsigKey) ℕ → Type 0
 Sounds (Ok s) = Sound s
 Sounds (Err n) = Unit {0}
 
@@ -222,7 +222,7 @@ lines_sound (Ok s) n (l ∷ more) h =
     lines_sound (if scripts.is_skipped l then Ok s else scripts.read_next s n (scripts.read_line wire_readers l)) (n + 1) more
     (either (scripts.is_skipped l) (Ok s) (scripts.read_next s n (scripts.read_line wire_readers l)) h (next_sound s n (scripts.read_line wire_readers l) (fields_hold (slice_split (λ o. o == 32) l)) h))
 
-nothing_sound : Sound (scripts.no_script {TsigKey})
+nothing_sound : Sound (scripts.no_script {K = TsigKey})
 nothing_sound = record { apex = refl; class = refl; key = λ k e. cc e }
 
 pub script_sound : (text : List ℕ) (s : scripts.Script TsigKey) → script_of wire_readers text ≡ Ok s → Sound s
@@ -243,7 +243,10 @@ module _ (apex : Name) (class : ℕ) (v : Version) (h : IsOf apex class v) where
   one_of true x y = h
   one_of false x y = h
 
-  put_of : (b : Bool) (x y : Sets) → IsOf apex class (result_unwrap_or (Ok {E = Refusal} (if b then with_sets v x else with_sets v y)) v)
+  abbrev put : Bool → Sets → Sets → Result Version Refusal
+  put b x y = Ok (if b then with_sets v x else with_sets v y)
+
+  put_of : (b : Bool) (x y : Sets) → IsOf apex class (result_unwrap_or (put b x y) v)
   put_of b x y = one_of b x y
 
   added_of : (r : Record) → IsOf apex class (changed v (scripts.Plus r))
@@ -280,6 +283,9 @@ kept_in s key =
 
 -- ---- the premises of success that hold of every script
 
+none_before : (n m : ℕ) → n < m → 0 + n < m
+none_before n m h = omega (arith, h)
+
 pub script_fits : (mode : Mode) (text : List ℕ) (s : scripts.Script TsigKey) (key : TsigKey) (longest : ℕ) → script_of wire_readers text ≡ Ok s → FitsLink mode s key longest → Fits (asking_in mode s key) s.at_primary (offer_in mode s key)
 script_fits mode text s key longest spelt f =
     let sound = script_sound text s spelt in
@@ -293,5 +299,5 @@ script_fits mode text s key longest spelt f =
       records_fit = f.records_fit;
       base_matches = f.base_matches;
       same_zone = record { apex = (same_name-Decides (opened s.secondary).apex (provider_in s key).kept.apex).1 (ap fold (base.0 ∙ sound.apex ∙ sym kept.0)); class = base.1 ∙ sound.class ∙ sym kept.1 };
-      room = f.room;
+      room = none_before _ _ f.room;
     }

@@ -359,9 +359,10 @@ fn transfer<R, L: Link>(
         &mut made,
     );
     let last = session.handle()?;
-    if outcome == Err(SyncError::Memory) {
+    let status = status_of(&outcome);
+    if status == Status::Memory {
         return Err(AllocError);
     }
     let report = report_octets(alloc, &outcome, made.len(), &last, queries.as_slice())?;
-    Ok((report, status_of(&outcome)))
+    Ok((report, status))
 }

@@ -1,24 +1,29 @@
-use Rattle.std.proofs.Common.{refl, inl}
-use Rattle.zone_sync.specs.declared.program.Status.TheVariants.{Usage, SourceFault, TooLong}
-use Rattle.zone_sync.proofs.Dues.{untouched, along, written_of_source, first_of_source, wrote_last, wrote_nothing}
+use Rattle.std.specs.Prelude.{map, string_bytes}
+use Rattle.std.proofs.Common.{refl, sym, subst, inl, absurd}
+use Rattle.zone_script.specs.Words.{form_of}
+use Rattle.zone_sync.specs.Reported.{IsDue, Wrote}
+use Rattle.zone_sync.specs.declared.program.Status.TheVariants.{Usage}
+use Rattle.zone_sync.proofs.Asked.{asked_form, not_other, words_asked, script_asked, words_other, is_sink}
+use Rattle.zone_sync.proofs.Dues.{untouched, wrote_last}
 use Rattle.zone_sync.proofs.program.run.Goals as goal
 
-pub returns-then-not-is_axfr-clause-wrote : goal.returns-then-not-is_axfr-clause-wrote
-returns-then-not-is_axfr-clause-wrote g c = wrote_last _ _ Usage _ _ _ (refl, untouched) c.write_last.ensures.done c.write_last.ensures.written c.write_last.ensures.part
+pub returns-in-Some-clause-wrote : goal.returns-in-Some-clause-wrote
+returns-in-Some-clause-wrote g c = rw (← asked_form c.in-Some.mode _ c.in-Some.ensures.asked) c.run_mode.ensures.wrote
 
-pub returns-in-Ok-clause-wrote : goal.returns-in-Ok-clause-wrote
-returns-in-Ok-clause-wrote g c =
-    let read = along _ c.in-Ok.text.items c.as_slice.result.now c.in-Ok.ensures.all c.as_slice.ensures.value in
-    record {
-      whole = λ no_sink. written_of_source _ _ c.as_slice.result.now _ _ _ c.run_script.result read (c.run_script.ensures.wrote.whole no_sink);
-      part = λ failed. first_of_source _ _ c.as_slice.result.now _ _ _ read (c.run_script.ensures.wrote.part failed);
-    }
+pub returns-in-Some-clause-by_words : goal.returns-in-Some-clause-by_words
+returns-in-Some-clause-by_words g c = words_asked c.in-Some.mode _ c.run_mode.result c.in-Some.ensures.asked c.run_mode.ensures.others
 
-pub returns-in-Err-Failed-clause-wrote : goal.returns-in-Err-Failed-clause-wrote
-returns-in-Err-Failed-clause-wrote g c = wrote_last _ _ SourceFault _ _ _ (refl, untouched) c.write_last-in-Err-Failed.ensures.done c.write_last-in-Err-Failed.ensures.written c.write_last-in-Err-Failed.ensures.part
+pub returns-in-Some-clause-unread : goal.returns-in-Some-clause-unread
+returns-in-Some-clause-unread g c = λ other. absurd (not_other c.in-Some.mode _ c.in-Some.ensures.asked other)
 
-pub returns-in-Err-TooLong-clause-wrote : goal.returns-in-Err-TooLong-clause-wrote
-returns-in-Err-TooLong-clause-wrote g c = wrote_last _ _ TooLong _ _ _ (refl, untouched) c.write_last-in-Err-TooLong.ensures.done c.write_last-in-Err-TooLong.ensures.written c.write_last-in-Err-TooLong.ensures.part
+pub returns-in-Some-clause-by_script : goal.returns-in-Some-clause-by_script
+returns-in-Some-clause-by_script g c = λ mode text asked had. script_asked c.in-Some.mode _ text _ _ _ _ _ c.run_mode.result c.in-Some.ensures.asked (c.run_mode.ensures.by_script text had) mode asked
 
-pub returns-in-Err-Memory-clause-wrote : goal.returns-in-Err-Memory-clause-wrote
-returns-in-Err-Memory-clause-wrote g c = wrote_nothing _ _ _ (refl, inl untouched) refl
+pub returns-in-None-clause-wrote : goal.returns-in-None-clause-wrote
+returns-in-None-clause-wrote g c = wrote_last _ _ Usage _ _ _ (refl, untouched) c.write_last.ensures.done c.write_last.ensures.written c.write_last.ensures.part
+
+pub returns-in-None-clause-by_words : goal.returns-in-None-clause-by_words
+returns-in-None-clause-by_words g c = words_other _ c.write_last.result c.in-None.ensures.other c.write_last.ensures.done (is_sink c.write_last.result)
+
+pub returns-in-None-clause-by_script : goal.returns-in-None-clause-by_script
+returns-in-None-clause-by_script g c = λ mode text asked had. absurd (c.in-None.ensures.other mode asked)

@@ -1,0 +1,36 @@
+// Laws of the program's scripts, each the contract of a function with an empty body.
+ghost use Rattle.std.specs.Prelude.{◌≡◌, ℕ, List, Ok};
+ghost use Rattle.tsig_port.specs.Tsig.{TsigKey};
+ghost use Rattle.zone_model.specs.TransferText.{Mode};
+ghost use Rattle.zone_script.specs.Script.{Script, script_of};
+ghost use Rattle.zone_script.specs.ScriptReaders.{wire_readers};
+ghost use Rattle.zone_sync.specs.Serving.{request_at};
+ghost use Rattle.zone_sync.specs.Fitting.{Fits};
+ghost use Rattle.zone_sync.specs.Delivery.{IsGranted};
+ghost use Rattle.zone_sync.specs.Primaries.{refuser};
+ghost use Rattle.zone_sync.specs.Reported.{FitsLink, asking_in, offer_in, provider_in};
+
+use crate::laws::history_primaries_grant;
+use tsig_port::Key;
+use xfr_server::{HistoryProvider, PrimaryStack, RefuseSvc, Service};
+
+/// Of every script that octets spell it holds that both sides have one key, with lengths that its algorithm allows, and that the
+/// zones are of one apex and class. So what `FitsLink` asks is all that is left of the premises of success ..
+pub fn scripts_fit()
+    ensures { (mode : Mode) (text : List ℕ) (script : Script TsigKey) (key : TsigKey) (longest : ℕ)
+        → script_of wire_readers text ≡ Ok script → FitsLink mode script key longest
+        → Fits (asking_in mode script key) script.at_primary (offer_in mode script key) }
+{}
+
+/// .. and the program's primary, which keeps the versions of the script and grants the last of them to its key, grants the request.
+pub fn scripts_grant()
+    ensures { (mode : Mode) (text : List ℕ) (script : Script TsigKey) (key : TsigKey) (longest : ℕ)
+        → script_of wire_readers text ≡ Ok script → FitsLink mode script key longest
+        → IsGranted
+        (λ m. ⟦<PrimaryStack<RefuseSvc, HistoryProvider, Key> as Service<()>>⟧.Sends
+        ((refuser, provider_in script key), key) (request_at m script.at_primary))
+        (asking_in mode script key) script.at_primary longest (provider_in script key).kept }
+{
+    // For the proof: the law of such a primary.
+    history_primaries_grant();
+}
