@@ -29,4 +29,4 @@ returns c =
     let at = c.loop-handle in
     let empty : into_iter_items at.handle-iterator ≡ [] = none_left _ (sym at.invariant.2 ∙ c.in-None.ensures.steps.0) in
     ap (λ cs. pushed_all at.provider (versions_of cs)) (sym empty) ∙ at.invariant.0
-    ∙ ap (λ cs. pushed_all c.args.provider.now (versions_of cs)) (c.into_iter-handle-iterator.ensures.into_iter_gives.0 ∙ c.into_entries.ensures)
+    ∙ ap (λ cs. pushed_all c.args.provider.now (versions_of cs)) (c.into_iter-handle-iterator.ensures.into_iter_gives.0 ∙ c.into_entries-handle-items.ensures)
