@@ -126,7 +126,7 @@ pub(crate) fn commit_and_push<R: Abort>(
     provider.push(next, told).expect(rt, "memory");
 }
 
-/// Makes these edits, of which there are eight at most, commits them, and pushes the version with its difference.
+/// Makes these edits, at most eight, commits them, and pushes the version with its difference.
 fn push_edits<R: Abort>(
     rt: &R,
     alloc: Global,
