@@ -33,9 +33,9 @@ the second one comes twice;repeat 1;Err(Tsig(BadSig));0
 the last one comes twice, and isn't taken again;repeat 2;Ok(Updated);1
 two of them change places;swap 1 2;Err(Tsig(BadSig));0
 none is left;none;Err(Ended);0
-the second one without its TSIG, which ARCOUNT no longer counts;cut 1 65444 flip 1 11;Err(Tsig(TooManyUnsigned));0
-an edit of what isn't there;flip 3 0 cut 3 0 drop 3 repeat 3 swap 0 3 flip 0 142;Ok(Updated);1
-two that undo each other;swap 0 2 swap 2 0;Ok(Updated);1";
+the second one without its TSIG, which ARCOUNT no longer counts;cut 1 65444,flip 1 11;Err(Tsig(TooManyUnsigned));0
+an edit of what isn't there;flip 3 0,cut 3 0,drop 3,repeat 3,swap 0 3,flip 0 142;Ok(Updated);1
+two that undo each other;swap 0 2,swap 2 0;Ok(Updated);1";
 
 /// The same of a transfer of what is newer. Its first reply has 224 octets, since three SOA records stand in it; once that is taken, the
 /// version that stands is committed again.
@@ -49,7 +49,7 @@ the second one is lost;drop 1;Err(Tsig(BadSig));1
 the last one is lost;drop 2;Err(Ended);1
 the second one comes twice;repeat 1;Err(Tsig(BadSig));1
 two of them change places;swap 1 2;Err(Tsig(BadSig));1
-the second one without its TSIG;cut 1 65444 flip 1 11;Err(Tsig(TooManyUnsigned));1
+the second one without its TSIG;cut 1 65444,flip 1 11;Err(Tsig(TooManyUnsigned));1
 none is left;none;Err(Ended);0";
 
 /// The same as the first of these, with a key whose MACs have 16 octets: the last one of the second reply's is octet 65,497.
@@ -67,23 +67,21 @@ fn number<'a, I: Iterator<Item = &'a str>>(words: &mut I) -> Option<usize> {
     }
 }
 
-/// The edit that begins with this word.
-fn edit_of<'a, I: Iterator<Item = &'a str>>(
-    alloc: Global,
-    word: &str,
-    words: &mut I,
-) -> Option<ReplyEdit> {
+/// The edit that words say.
+fn edit_of(alloc: Global, text: &str) -> Option<ReplyEdit> {
+    let mut words = text.split_ascii_whitespace();
+    let word = words.next()?;
     if word == "none" {
         return Some(ReplyEdit::Replace(Vec::new(alloc)));
     }
-    let reply = number(words)?;
+    let reply = number(&mut words)?;
     if word == "drop" {
         return Some(ReplyEdit::Drop { reply });
     }
     if word == "repeat" {
         return Some(ReplyEdit::Repeat { reply });
     }
-    let other = number(words)?;
+    let other = number(&mut words)?;
     if word == "flip" {
         return Some(ReplyEdit::Flip {
             reply,
@@ -99,13 +97,14 @@ fn edit_of<'a, I: Iterator<Item = &'a str>>(
     })
 }
 
-/// The edits that words say.
+/// The edits that words say, with a comma between them.
 fn edits_of<R: Abort>(rt: &R, alloc: Global, text: &str) -> Vec<ReplyEdit> {
     let mut edits = Vec::new(alloc);
-    let mut words = text.split_ascii_whitespace();
-    while let Some(word) = words.next() {
-        let found = edit_of(alloc, word, &mut words).expect(rt, "an edit");
-        edits.push(found).ok().expect(rt, "memory");
+    for words in text.split(',') {
+        if !words.is_empty() {
+            let found = edit_of(alloc, words).expect(rt, "an edit");
+            edits.push(found).ok().expect(rt, "memory");
+        }
     }
     edits
 }

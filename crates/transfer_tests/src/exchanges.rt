@@ -9,6 +9,7 @@ use dns_name::Class;
 use dns_rdata::{StoredRecord, record_from_octets};
 use std::alloc::Global;
 use std::process::Abort;
+use std::str::SplitAsciiWhitespace;
 use tsig_port::Key;
 use xfr_server::{
     HistoryProvider, RefuseSvc, TsigMiddlewareSvc, XfrMiddlewareSvc, commits_may_be_pushed,
@@ -49,21 +50,64 @@ pub(crate) fn zone_of<R: Abort>(rt: &R, alloc: Global, words: &str, number: u64)
     builder.build_at(number).expect(rt, "memory")
 }
 
+/// Deletes the record of a word from the pending version.
+fn delete<R: Abort>(rt: &R, alloc: Global, session: &mut WriteZone<'_>, word: &str)
+    ensures { session.new.current ≡ session.old.current }
+{
+    let deleted = stored_at(rt, alloc, word);
+    let done = session.delete_record(&deleted);
+    drop(deleted);
+    done.expect(rt, "a record of the zone");
+}
+
+/// Adds the record of a word to the pending version.
+fn add<R: Abort>(rt: &R, alloc: Global, session: &mut WriteZone<'_>, word: &str)
+    ensures { session.new.current ≡ session.old.current }
+{
+    let added = stored_at(rt, alloc, word);
+    session.add_record(added).expect(rt, "a new record");
+}
+
 /// Edits the pending version: `-` and a word delete the record, `+` and a word add it.
 pub(crate) fn edit<R: Abort>(rt: &R, alloc: Global, session: &mut WriteZone<'_>, edit: &str)
     ensures { session.new.current ≡ session.old.current }
 {
-    if let Some(word) = edit.strip_prefix("-") {
-        let deleted = stored_at(rt, alloc, word);
-        session
-            .delete_record(&deleted)
-            .expect(rt, "a record of the zone");
-        drop(deleted);
+    match edit.strip_prefix("-") {
+        Some(word) => delete(rt, alloc, session, word),
+        None => {
+            let word = edit.strip_prefix("+").expect(rt, "an edit");
+            add(rt, alloc, session, word);
+        }
     }
-    if let Some(word) = edit.strip_prefix("+") {
-        let added = stored_at(rt, alloc, word);
-        session.add_record(added).expect(rt, "a new record");
+}
+
+/// Makes the next edit, where one is left.
+fn next_edit<R: Abort>(
+    rt: &R,
+    alloc: Global,
+    session: &mut WriteZone<'_>,
+    words: &mut SplitAsciiWhitespace<'_>,
+)
+    ensures { session.new.current ≡ session.old.current }
+{
+    if let Some(word) = words.next() {
+        edit(rt, alloc, session, word);
     }
+}
+
+/// Makes the next four edits, or as many as are left.
+fn four_edits<R: Abort>(
+    rt: &R,
+    alloc: Global,
+    session: &mut WriteZone<'_>,
+    words: &mut SplitAsciiWhitespace<'_>,
+)
+    ensures { session.new.current ≡ session.old.current }
+{
+    next_edit(rt, alloc, session, words);
+    next_edit(rt, alloc, session, words);
+    next_edit(rt, alloc, session, words);
+    next_edit(rt, alloc, session, words);
 }
 
 /// Commits what is pending, and pushes it with the difference that the commit tells.
@@ -82,7 +126,7 @@ pub(crate) fn commit_and_push<R: Abort>(
     provider.push(next, told).expect(rt, "memory");
 }
 
-/// Makes these edits, commits them, and pushes the version with its difference.
+/// Makes these edits, at most eight, commits them, and pushes the version with its difference.
 fn push_edits<R: Abort>(
     rt: &R,
     alloc: Global,
@@ -94,9 +138,11 @@ fn push_edits<R: Abort>(
     ensures { provider.new.kept ≡ session.new.current.version }
 {
     session.want_difference(true);
-    for word in edits.split_ascii_whitespace() {
-        edit(rt, alloc, session, word);
-    }
+    let mut words = edits.split_ascii_whitespace();
+    four_edits(rt, alloc, session, &mut words);
+    four_edits(rt, alloc, session, &mut words);
+    let are_made = words.next().is_none();
+    assert!(rt; are_made);
     commit_and_push(rt, session, provider);
 }
 

@@ -185,16 +185,21 @@ fn says<R: Abort>(
     drop(zone);
 }
 
+/// Asserts that a request has too many octets for a link.
+fn is_too_long<R: Abort>(rt: &R, alloc: Global, max_len: usize, mode: XfrMode) {
+    let refused = Err(SyncError::Request(PushError::ShortBuf));
+    says(rt, alloc, 0, "", max_len, mode, (refused, 0));
+}
+
 // A header has 12 octets, the question 13, the TSIG 76, and the SOA record of a request for what is newer 41.
 #[test]
 fn requests_of_101_and_of_142_octets(rt: HostRuntime) {
     let alloc = rt.alloc();
-    let refused = Err(SyncError::Request(PushError::ShortBuf));
     let updated = Ok(SyncOk::Updated);
     let current = Ok(SyncOk::UpToDate);
-    says(&rt, alloc, 0, "", 100, XfrMode::Axfr, (refused, 0));
+    is_too_long(&rt, alloc, 100, XfrMode::Axfr);
     says(&rt, alloc, 0, "", 101, XfrMode::Axfr, (updated, 1));
-    says(&rt, alloc, 0, "", 141, XfrMode::Ixfr, (refused, 0));
+    is_too_long(&rt, alloc, 141, XfrMode::Ixfr);
     says(&rt, alloc, 0, "", 142, XfrMode::Ixfr, (current, 0));
 }
 
@@ -209,6 +214,18 @@ fn says_after<R: Abort>(
     says(rt, alloc, number, "-soa-1 +soa-2 +a", 65_535, mode, wanted);
 }
 
+/// Asserts that no version number is left for it, after so many versions.
+fn is_exhausted<R: Abort>(rt: &R, alloc: Global, number: u64, mode: XfrMode, count: usize) {
+    let exhausted = Err(SyncError::VersionsExhausted);
+    says_after(rt, alloc, number, mode, (exhausted, count));
+}
+
+/// Asserts that it comes, in so many versions.
+fn is_updated<R: Abort>(rt: &R, alloc: Global, number: u64, mode: XfrMode, count: usize) {
+    let updated = Ok(SyncOk::Updated);
+    says_after(rt, alloc, number, mode, (updated, count));
+}
+
 #[test]
 fn no_version_number_is_left(rt: HostRuntime) {
     let alloc = rt.alloc();
@@ -220,11 +237,9 @@ fn no_version_number_is_left(rt: HostRuntime) {
     is(&rt, refused, Some(CommitError::VersionsExhausted));
     drop(session);
     drop(zone);
-    let exhausted = Err(SyncError::VersionsExhausted);
-    says_after(&rt, alloc, u64::MAX, XfrMode::Axfr, (exhausted, 0));
-    says_after(&rt, alloc, u64::MAX, XfrMode::Ixfr, (exhausted, 0));
-    says_after(&rt, alloc, u64::MAX - 1, XfrMode::Ixfr, (exhausted, 1));
-    let updated = Ok(SyncOk::Updated);
-    says_after(&rt, alloc, u64::MAX - 1, XfrMode::Axfr, (updated, 1));
-    says_after(&rt, alloc, u64::MAX - 2, XfrMode::Ixfr, (updated, 2));
+    is_exhausted(&rt, alloc, u64::MAX, XfrMode::Axfr, 0);
+    is_exhausted(&rt, alloc, u64::MAX, XfrMode::Ixfr, 0);
+    is_exhausted(&rt, alloc, u64::MAX - 1, XfrMode::Ixfr, 1);
+    is_updated(&rt, alloc, u64::MAX - 1, XfrMode::Axfr, 1);
+    is_updated(&rt, alloc, u64::MAX - 2, XfrMode::Ixfr, 2);
 }
