@@ -6,7 +6,7 @@ use Rattle.zone_sync.proofs.Endings.{delivers_so}
 use Rattle.zone_sync.proofs.program.run_script.Goals as goal
 
 pub run_transfer-requires : goal.run_transfer-requires
-run_transfer-requires g c = script_told c.args.text.now c.in-Ok.script c.in-Ok.ensures.ok
+run_transfer-requires g c = record { told = script_told c.args.text.now c.in-Ok.script c.in-Ok.ensures.ok }
 
 pub returns-in-Ok-clause-wrote : goal.returns-in-Ok-clause-wrote
 returns-in-Ok-clause-wrote g c = record {
@@ -17,7 +17,7 @@ returns-in-Ok-clause-wrote g c = record {
 pub returns-in-Err-Line-clause-wrote : goal.returns-in-Err-Line-clause-wrote
 returns-in-Err-Line-clause-wrote g c =
     wrote_line _ _ c.args.text.now _ c.in-Err-Line.number _ _ c.write_bad_line.result untouched (rw c.in-Err-Line.field-0-is at c.in-Err-Line.ensures.bad)
-    c.write_bad_line.ensures.written c.write_bad_line.ensures.part c.write_bad_line.ensures.nothing c.write_bad_line.ensures.others
+    (rw c.in-Err-Line.field-0-is at c.write_bad_line.ensures.written) (rw c.in-Err-Line.field-0-is at c.write_bad_line.ensures.part) c.write_bad_line.ensures.nothing c.write_bad_line.ensures.others
 
 pub returns-in-Ok-clause-delivers : goal.returns-in-Ok-clause-delivers
 returns-in-Ok-clause-delivers g c script key spelt fits honest no_sink =
