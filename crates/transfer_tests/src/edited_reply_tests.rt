@@ -7,6 +7,7 @@ use crate::xfr_server_tests::{Primary, at};
 use crate::zone_transfer_tests::{reply, signed_soa};
 use std::alloc::Global;
 use std::process::Abort;
+use std::str::SplitAsciiWhitespace;
 use tsig_port::{Key, ServerSequence};
 use zone_store::WriteZone;
 use zone_sync::{MemoryLink, ReplyEdit, XfrClient, XfrMode};
@@ -59,7 +60,7 @@ a bit of the second MAC's last octet;flip 1 65497;Err(Tsig(BadSig));0
 two of them change places;swap 1 2;Err(Tsig(BadSig));0";
 
 /// The next number of an edit.
-fn number<'a, I: Iterator<Item = &'a str>>(words: &mut I) -> Option<usize> {
+fn number(words: &mut SplitAsciiWhitespace<'_>) -> Option<usize> {
     let word = words.next()?;
     match word.parse::<usize>() {
         Ok(number) => Some(number),
