@@ -1,10 +1,11 @@
 -- The worked transfers meet their premises.
-use Rattle.std.proofs.Common.{ℕ, ◌≤◌, [], ◌∷◌, length, min, refl, arith, lit<, lit≤}
+use Rattle.std.proofs.Common.{ℕ, ◌≤◌, List, [], ◌∷◌, length, min, refl, arith, lit<, lit≤}
 use Rattle.dns_wire.specs.Wire.{message_wire}
 use Rattle.dns_wire.specs.Written.{IsRecord}
 use Rattle.tsig_port.specs.Tsig.{compose_len}
 use Rattle.tsig_port.specs.Signing.{IsKey}
 use Rattle.zone_model.specs.Version.{Version}
+use Rattle.zone_model.specs.Difference.{Difference}
 use Rattle.zone_model.specs.TransferText.{Mode, Axfr, Ixfr}
 use Rattle.zone_model.specs.TransferLaws.{IsPublished}
 use Rattle.zone_model.specs.ZoneRows as rows
@@ -42,8 +43,8 @@ host_is n = record { owner = refl; rtype = lit< tt; class = lit< tt; ttl = lit< 
 server_is : IsRecord (rows.ns rows.e rows.ns_host)
 server_is = record { owner = refl; rtype = lit< tt; class = lit< tt; ttl = lit< tt; len = lit< tt }
 
-pub whole_fits : Fits (grants.asks Axfr rows.empty_zone) 1000 (grants.offered Axfr rows.empty_zone)
-whole_fits = record {
+pub whole_fits_with : (differences : List Difference) → Fits (grants.asks Axfr rows.empty_zone) 1000 (grants.with_differences differences)
+whole_fits_with differences = record {
   one_key = is_key;
   close_moments = record { primary = lit< tt; secondary = lit< tt; near = lit≤ tt };
   one_soa = record { history = rows.history_3 ∷ []; told = record { ends = refl; tells = refl; newer = refl; distinct = refl }; each = (third, tt) };
@@ -62,6 +63,9 @@ whole_fits = record {
   same_zone = record { apex = refl; class = refl };
   room = lit< tt;
 }
+
+pub whole_fits : Fits (grants.asks Axfr rows.empty_zone) 1000 (grants.offered Axfr rows.empty_zone)
+whole_fits = whole_fits_with []
 
 pub changes_fit : Fits (grants.asks Ixfr rows.history_1) 1300 (grants.offered Ixfr rows.history_1)
 changes_fit = record {

@@ -14,7 +14,8 @@ use Rattle.zone_model.specs.Version.{Version, has_one_soa, has_one_apex_soa}
 use Rattle.zone_model.specs.Difference.{zone_serial}
 use Rattle.zone_model.specs.TransferText.{Mode, Axfr, Ixfr, OnIxfr}
 use Rattle.zone_model.specs.TransferLaws.{IsPublished}
-use Rattle.zone_model.specs.Offer.{Offer, IsCutInto}
+use Rattle.zone_model.specs.Offer.{Offer, IsCutInto, text_of}
+use Rattle.zone_model.specs.Spells.{spelling}
 use Rattle.xfr_model.specs.Messages.{read_of}
 use Rattle.xfr_model.specs.Read.{request_fault}
 use Rattle.xfr_model.specs.Carried.{Carrier, Carries}
@@ -31,7 +32,7 @@ use Rattle.xfr_course.proofs.Clients.{met_decides}
 use Rattle.xfr_course.proofs.Succeeding.{granted_succeeds}
 use Rattle.zone_sync.specs.SoFar.{Asking, asked_id, asked_question, asked_course, course_so_far, checked_so_far, fault_so_far, client_so_far}
 use Rattle.zone_sync.specs.Standing.{Passed}
-use Rattle.zone_sync.specs.Fitting.{answer_room, sent_text, page_answers, sent_pages, begins_together, has_more, BaseMatches, Fits, GrantedSucceed}
+use Rattle.zone_sync.specs.Fitting.{answer_room, told_offer, sent_text, page_answers, sent_pages, begins_together, has_more, BaseMatches, Fits, GrantedSucceed}
 use Rattle.zone_sync.proofs.Outcomes.{comes, passed_course, stop_few}
 use Rattle.zone_sync.proofs.Replying.{so_far}
 use Rattle.zone_sync.proofs.HonestRequests.{kind_of}
@@ -61,7 +62,7 @@ both b c h k = rw (h, k) refl
 
 abbrev pub ends : Asking → ℕ → Offer → List Version → Ends
 ends a at offer history = record {
-  offer = offer;
+  offer = told_offer a.mode offer;
   history = history;
   mode = a.mode;
   base = a.base.version;
@@ -81,6 +82,11 @@ ends a at offer history = record {
 all_one_soa : (apex : Name) (history : List Version) → AllByRecursion (IsPublished apex) history → list_all has_one_soa history ≡ true
 all_one_soa apex [] h = refl
 all_one_soa apex (v ∷ more) h = both (has_one_soa v) (list_all has_one_soa more) h.0.one_soa (all_one_soa apex more h.1)
+
+-- the text depends on what the mode tells alone
+same_text : (offer : Offer) (m : Mode) (n : ℕ) → text_of (told_offer m offer) m n ≡ text_of offer m n
+same_text offer Axfr n = refl
+same_text offer Ixfr n = refl
 
 module _ (a : Asking) (at : ℕ) (offer : Offer) (f : Fits a at offer) where
   abbrev e : Ends
@@ -110,6 +116,9 @@ module _ (a : Asking) (at : ℕ) (offer : Offer) (f : Fits a at offer) where
   abbrev class : a.base.version.class < 2 ^ 16
   class = replies.small_class a at offer f
 
+  same : text_of e.offer a.mode (zone_serial a.base.version) ≡ text
+  same = same_text offer a.mode (zone_serial a.base.version)
+
   near : abs_diff at a.at ≤ 300
   near = f.close_moments.near
 
@@ -122,16 +131,16 @@ module _ (a : Asking) (at : ℕ) (offer : Offer) (f : Fits a at offer) where
     secondary_clock = omega (arith, near);
     one_soa = all_one_soa a.base.version.apex f.one_soa.history f.one_soa.each;
     pages = pages;
-    cut = f.records_fit.cut;
+    cut = subst (λ (l : List Record). IsCutInto (answer_room a) singles l pages) (sym same) f.records_fit.cut;
     few = f.records_fit.few;
-    together = on_both a.mode (both (begins_together (answer_room a) text) (has_more text)) f.records_fit.together f.records_fit.more;
+    together = subst (λ (l : List Record). OnIxfr a.mode (IsTrue (begins_together (answer_room a) l && has_more l))) (sym same) (on_both a.mode (both (begins_together (answer_room a) text) (has_more text)) f.records_fit.together f.records_fit.more);
     asks = on_map a.mode (λ (m : BaseMatches a.base.version offer f.one_soa.history). both (has_one_apex_soa a.base.version) (not (serial_lt (zone_serial offer.version) (zone_serial a.base.version))) m.one_apex_soa m.not_ahead) f.base_matches;
     caught_up = on_map a.mode (λ (m : BaseMatches a.base.version offer f.one_soa.history). m.caught_up) f.base_matches;
     starts = on_map a.mode (λ (m : BaseMatches a.base.version offer f.one_soa.history). m.starts) f.base_matches;
     same_apex = f.same_zone.apex;
     same_class = f.same_zone.class;
     request_fits = lit≤ tt;
-    numbers_left = f.room;
+    numbers_left = subst (λ (l : List Record). a.base.number + length (spelling a.mode l a.base.version).versions < 2 ^ 64) (sym same) f.room;
   }
 
   -- ---- what the messages carry
@@ -187,8 +196,8 @@ module _ (a : Asking) (at : ℕ) (offer : Offer) (f : Fits a at offer) where
       let carry : CarrySent e id (carrier_of (page_answer request page)) (map carrier_of (page_answers a more)) = record {
         first = record { sound = ap (λ n. request_fault n q true (read_of (page_answer request page))) (sym taken_id) ∙ taken.0; answers = refl; full = is_full (length page) each.0.0 };
         later = carry_later more each.1 taken.1;
-        text = texts (page ∷ more) ∙ cut.joined;
-        together = first_page page more cut;
+        text = texts (page ∷ more) ∙ cut.joined ∙ sym same;
+        together = subst (λ (l : List Record). OnIxfr a.mode (IsTrue (nat_le (length l) 1 || nat_le 2 (length page)))) (sym same) (first_page page more cut);
       } in
       granted_succeeds e id (carrier_of (page_answer request page)) (map carrier_of (page_answers a more)) stop granting f.one_soa.each carry
 

@@ -1,5 +1,5 @@
 -- When an honest transfer succeeds, from the secondary's request on (RFC 5936, 2 and 6; RFC 1995, 2 to 4; RFC 8945, 5).
-use Rattle.std.specs.Prelude.{◌≡◌, ℕ, ◌+◌, ◌-◌, ◌^◌, ◌≤◌, ◌<◌, Bool, true, ◌||◌, not, ◌==◌, nat_le, List, map, length, take, IsTrue}
+use Rattle.std.specs.Prelude.{◌≡◌, ℕ, ◌+◌, ◌-◌, ◌^◌, ◌≤◌, ◌<◌, Bool, true, ◌||◌, not, ◌==◌, nat_le, List, [], map, length, take, IsTrue}
 use Rattle.std.specs.Int.{abs_diff}
 use Rattle.std.specs.List.{AllByRecursion}
 use Rattle.dns_name.specs.Names.{Name, same_name}
@@ -11,8 +11,8 @@ use Rattle.tsig_port.specs.Tsig.{mac_in, compose_len, signed_answers}
 use Rattle.tsig_port.specs.Checked.{taken_message}
 use Rattle.tsig_port.specs.Signing.{IsKey}
 use Rattle.zone_model.specs.Version.{Version, Same, has_one_apex_soa}
-use Rattle.zone_model.specs.Difference.{zone_serial}
-use Rattle.zone_model.specs.TransferText.{OnIxfr}
+use Rattle.zone_model.specs.Difference.{Difference, zone_serial}
+use Rattle.zone_model.specs.TransferText.{Mode, Axfr, Ixfr, OnIxfr}
 use Rattle.zone_model.specs.Spells.{spelling}
 use Rattle.zone_model.specs.TransferLaws.{IsPublished}
 use Rattle.zone_model.specs.Offer.{Offer, IsHistory, IsCutInto, text_of, room_of, first_is}
@@ -50,10 +50,18 @@ pub record AreClose (at_primary at_secondary : ℕ) : Type 0 where
   pub secondary : at_secondary < 2 ^ 48
   pub near : abs_diff at_primary at_secondary ≤ 300
 
--- each version of the offer's history may be published as one of this zone: it has one SOA record, at the apex
-pub record ArePublished (apex : Name) (offer : Offer) : Type 0 where
+-- what a mode tells of an offer: a whole zone tells no difference
+abbrev pub differences_in : Mode → List Difference → List Difference
+differences_in Axfr differences = []
+differences_in Ixfr differences = differences
+
+abbrev pub told_offer : Mode → Offer → Offer
+told_offer mode offer = record offer { differences = differences_in mode offer.differences }
+
+-- each version of the history that is told may be published as one of this zone: it has one SOA record, at the apex
+pub record ArePublished (mode : Mode) (apex : Name) (offer : Offer) : Type 0 where
   pub history : List Version
-  pub told : IsHistory offer history
+  pub told : IsHistory (told_offer mode offer) history
   pub each : AllByRecursion (IsPublished apex) history
 
 -- the second record of a text comes in the first message, if there is one: an incremental answer isn't begun by its SOA alone (RFC 1995, 2)
@@ -94,7 +102,7 @@ pub record AreOfOneZone (v w : Version) : Type 0 where
 pub record Fits (a : Asking) (at : ℕ) (offer : Offer) : Type 0 where
   pub one_key : IsKey a.key
   pub close_moments : AreClose at a.at
-  pub one_soa : ArePublished a.base.version.apex offer
+  pub one_soa : ArePublished a.mode a.base.version.apex offer
   pub records_fit : RecordsFit a offer
   pub base_matches : OnIxfr a.mode (BaseMatches a.base.version offer one_soa.history)
   pub same_zone : AreOfOneZone a.base.version offer.version

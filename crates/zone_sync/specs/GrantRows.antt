@@ -5,6 +5,7 @@ use Rattle.tsig_port.specs.Tsig.{TsigKey}
 use Rattle.tsig_keys.specs.Hmac.{block_key}
 use Rattle.tsig_keys.specs.declared.algorithms.Algorithm.TheVariants.{Sha256}
 use Rattle.zone_model.specs.Version.{Version}
+use Rattle.zone_model.specs.Difference.{Difference}
 use Rattle.zone_model.specs.TransferText.{Mode, Axfr}
 use Rattle.zone_model.specs.Offer.{Offer, Provider}
 use Rattle.zone_model.specs.ZoneRows as rows
@@ -29,6 +30,10 @@ asks_last = asks_with key Axfr 1000 (record { number = 18446744073709551615; ver
 
 abbrev pub offered : Mode → Version → Offer
 offered mode base = history_offer provider (asks mode base)
+
+-- the last version, offered with any differences
+abbrev pub with_differences : List Difference → Offer
+with_differences differences = record { version = rows.history_3; differences = differences; compatibility = false }
 
 -- the whole text of the version that is kept
 abbrev pub whole : List Record

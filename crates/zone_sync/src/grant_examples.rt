@@ -1,5 +1,6 @@
 // Worked examples of transfers that have to succeed, proved by computation.
-ghost use Rattle.std.specs.Prelude.{◌≡◌, [], ◌∷◌};
+ghost use Rattle.std.specs.Prelude.{◌≡◌, List, [], ◌∷◌};
+ghost use Rattle.zone_model.specs.Difference.{Difference};
 ghost use Rattle.zone_model.specs.TransferText.{Axfr, Ixfr};
 ghost use Rattle.zone_model.specs.ZoneRows as rows;
 ghost use Rattle.zone_sync.specs.Serving.{request_at};
@@ -24,8 +25,11 @@ pub fn sent_row()
 {}
 
 /// The premises of success can be met together, in either mode: that primary grants the request of each of
-/// these, over a link that takes 65,535 octets. Here the whole zone is asked for.
+/// these, over a link that takes 65,535 octets. Here the whole zone is asked for, which is sent the same way
+/// whatever differences are offered with it.
 pub fn whole_row()
+    ensures untold { (differences : List Difference) → Fits (grants.asks Axfr rows.empty_zone) 1000
+        (grants.with_differences differences) }
     ensures fits { Fits (grants.asks Axfr rows.empty_zone) 1000 (grants.offered Axfr rows.empty_zone) }
     ensures granted { IsGranted
         (λ m. ⟦<PrimaryStack<RefuseSvc, HistoryProvider, Key> as Service<()>>⟧.Sends

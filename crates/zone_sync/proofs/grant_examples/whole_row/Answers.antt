@@ -3,8 +3,11 @@ use Rattle.zone_model.specs.TransferText.{Axfr}
 use Rattle.zone_model.specs.ZoneRows as rows
 use Rattle.zone_sync.specs.Primaries.{refuser}
 use Rattle.zone_sync.specs.GrantRows as grants
-use Rattle.zone_sync.proofs.GrantedRows.{whole_fits, whole_short}
+use Rattle.zone_sync.proofs.GrantedRows.{whole_fits_with, whole_fits, whole_short}
 use Rattle.zone_sync.proofs.grant_examples.whole_row.Goals as goal
+
+pub returns-clause-untold : goal.returns-clause-untold
+returns-clause-untold c = whole_fits_with
 
 pub returns-clause-fits : goal.returns-clause-fits
 returns-clause-fits c = whole_fits
