@@ -1,5 +1,5 @@
 #!/usr/bin/env python3
-"""Time and peak memory of `zonesync axfr` against the number of records, and where the time goes.
+"""Time and peak memory of `zonesync axfr` and `ixfr` against the number of records, and where the time goes.
 
 usage: python3 bench/transfer.py [--program FILE] [--runs N] [--shape WORD]
 
@@ -14,6 +14,9 @@ It prints, for each shape of zone:
 - how time, heap and instructions grow where the number of records doubles: about 2.0 says in proportion to it, 4.0 by its square;
 - how time and resident memory grow up to a script of 16 MiB, the longest that is read;
 - the share of each step in the instructions, and the functions that take most.
+
+Then both sides begin with the same zone, and commits of one new address each go over as differences (`ixfr`): how time, heap and instructions grow
+where the number of commits doubles, less those of the same script without commits, and how they grow with the zone, for one number of commits.
 
 Time is the processor's, the least of the runs. Heap and instructions come from valgrind, and are left out where there is none. What is
 printed holds for one machine and one build: only ratios say something elsewhere. A whole run takes some minutes.
@@ -71,6 +74,19 @@ def cuts(number):
     return record(label(number) + APEX, NS, b"\x02ns\x05other\0")
 
 
+def changed(count, commits):
+    """A script whose primary and secondary have so many owners with one address each; each commit adds one more, with the next serial."""
+    def soa(serial):
+        return record(APEX, SOA, b"\0\0" + serial.to_bytes(4, "big") + bytes(16)).hex()
+
+    lines = [f"zone {APEX.hex()} 1", f"key {KEY_NAME.hex()} hmac-sha256 000102 - -", "at 1000 1000"]
+    for word in "ps":
+        lines += [f"{word} {soa(1)}"] + [f"{word} {owners(it).hex()}" for it in range(count)]
+    for it in range(commits):
+        lines += [f"- {soa(it + 1)}", f"+ {soa(it + 2)}", f"+ {owners(count + it).hex()}", "commit"]
+    return "\n".join(lines).encode() + b"\n"
+
+
 SHAPES = {"owners": owners, "cuts": cuts, "addresses": addresses, "servers": servers}
 
 
@@ -101,18 +117,18 @@ def longest(shape):
     return (16 * 2**20 - head) // len(f"p {shape(16**5 - 1).hex()}\n")
 
 
-def run(program, given):
+def run(program, given, word="axfr"):
     """The output of one run, its status and its peak memory in KB."""
     with open(given, "rb") as file:
-        how = ["/usr/bin/time", "-f", "%M", program, "axfr"]
+        how = ["/usr/bin/time", "-f", "%M", program, word]
         done = subprocess.run(how, stdin=file, capture_output=True)
     return done.stdout, done.returncode, int(done.stderr.split()[-1])
 
 
-def processor_time(program, given):
+def processor_time(program, given, word="axfr"):
     """The processor time in seconds of one run."""
     with open(given, "rb") as file, open(os.devnull, "wb") as nowhere:
-        child = subprocess.Popen([program, "axfr"], stdin=file, stdout=nowhere)
+        child = subprocess.Popen([program, word], stdin=file, stdout=nowhere)
         _, _, usage = os.wait4(child.pid, 0)
         child.returncode = 0
     return usage.ru_utime + usage.ru_stime
@@ -120,6 +136,8 @@ def processor_time(program, given):
 
 class Bench:
     """Runs of the program on scripts of one shape."""
+
+    word = "axfr"
 
     def __init__(self, program, folder, runs):
         self.program = program
@@ -130,8 +148,11 @@ class Bench:
         path = f"{self.folder}/{name}-{count}"
         if not os.path.exists(path):
             with open(path, "wb") as it:
-                it.write(script(SHAPES[name], count))
+                it.write(self.script(name, count))
         return path
+
+    def script(self, name, count):
+        return script(SHAPES[name], count)
 
     def checked(self, name, count):
         """Peak memory in KB of a run, whose answer is looked at."""
@@ -143,13 +164,13 @@ class Bench:
 
     def time(self, name, count, most_runs=None):
         path = self.given(name, count)
-        return min(processor_time(self.program, path) for _ in range(min(self.runs, most_runs or self.runs)))
+        return min(processor_time(self.program, path, self.word) for _ in range(min(self.runs, most_runs or self.runs)))
 
     def heap(self, name, count):
         """The octets of heap at the moment when they are most, by valgrind; 0 without it."""
         if not HAS_VALGRIND:
             return 0
-        how = ["valgrind", "--tool=dhat", "--dhat-out-file=/dev/null", self.program, "axfr"]
+        how = ["valgrind", "--tool=dhat", "--dhat-out-file=/dev/null", self.program, self.word]
         with open(self.given(name, count), "rb") as file:
             said = subprocess.run(how, stdin=file, stdout=subprocess.DEVNULL, stderr=subprocess.PIPE, text=True).stderr
         return int(re.search(r"At t-gmax: ([\d,]+) bytes", said)[1].replace(",", ""))
@@ -162,10 +183,28 @@ class Bench:
     def counted(self, name, count, callers):
         """The instructions of a run, by the chain of functions that they were counted in, innermost first."""
         out = f"{self.folder}/counts"
-        how = ["valgrind", "--tool=callgrind", f"--callgrind-out-file={out}", f"--separate-callers={callers}", self.program, "axfr"]
+        how = ["valgrind", "--tool=callgrind", f"--callgrind-out-file={out}", f"--separate-callers={callers}", self.program, self.word]
         with open(self.given(name, count), "rb") as file:
             subprocess.run(how, stdin=file, stdout=subprocess.DEVNULL, stderr=subprocess.DEVNULL, check=True)
         return self_counts(out)
+
+
+class ChangeBench(Bench):
+    """Runs by IXFR on zones of so many owners, each named by its number, with so many commits."""
+
+    word = "ixfr"
+
+    def script(self, name, count):
+        return changed(int(name), count)
+
+    def checked(self, name, count):
+        """Peak memory in KB of a run, whose answer is looked at: the differences begin at one version, and end at one for each commit."""
+        out, status, peak = run(self.program, self.given(name, count), self.word)
+        lines = out.splitlines()
+        first = b"updated %d" % (count + 1) if count else b"up-to-date"
+        if (status, lines[:1], len(lines)) != (0, [first], int(name) + count + 2):
+            sys.exit(f"{count} commits over {name} owners: status {status}, {len(lines)} lines, first {lines[:1]}")
+        return peak
 
 
 def self_counts(path):
@@ -286,11 +325,28 @@ def shares(bench, name, count):
         print(f"{100 * cost / total:>6.1f}%  {step:<22} {function}")
 
 
+def changes(bench):
+    """What commits cost that go over as differences, by their number and by the zone's."""
+    for count in [16, 64]:
+        bench.checked("1000", count)
+    doublings(bench, "1000", [16, 32, 64, 128])
+    print()
+    print(f"{'owners':>8} {'ms':>9} {'growth':>7} {'instructions':>13} {'growth':>7}")
+    before = None
+    for name in ["250", "500", "1000", "2000", "4000"]:
+        with_edits, without = bench.measured(name, 64), bench.measured(name, 0)
+        now = [with_edits[it] - without[it] for it in (0, 2)]
+        grown = [f"{a / b:7.2f}" if b > 0 else "      -" for a, b in zip(now, before)] if before else [" " * 7] * 2
+        print(f"{name:>8} {now[0] * 1e3:>9.2f} {grown[0]} {now[1]:>13} {grown[1]}", flush=True)
+        before = now
+
+
 def main():
     parser = argparse.ArgumentParser(description=__doc__, formatter_class=argparse.RawDescriptionHelpFormatter)
     parser.add_argument("--program", default=f"{TOP}/crates/zonesync/out/zonesync")
     parser.add_argument("--runs", type=int, default=15, help="runs for each time, of which the least counts")
     parser.add_argument("--shape", choices=sorted(SHAPES), action="append", help="only zones of this shape")
+    parser.add_argument("--changes", action="store_true", help="only changes of a zone")
     asked = parser.parse_args()
     if not os.path.exists(asked.program):
         sys.exit(f"no {asked.program}: run rt run in crates/zonesync first")
@@ -298,7 +354,7 @@ def main():
         sys.exit("no /usr/bin/time")
     with tempfile.TemporaryDirectory(prefix="bench-") as folder:
         bench = Bench(asked.program, folder, asked.runs)
-        for name in asked.shape or SHAPES:
+        for name in asked.shape or ([] if asked.changes else SHAPES):
             print(f"\n== {name}: {SHAPES[name].__doc__}")
             sizes(bench, name)
             print()
@@ -307,6 +363,9 @@ def main():
             up_to_longest(bench, name)
             print()
             shares(bench, name, 1000)
+        if not asked.shape:
+            print(f"\n== changes: {ChangeBench.__doc__}")
+            changes(ChangeBench(asked.program, folder, asked.runs))
 
 
 if __name__ == "__main__":
