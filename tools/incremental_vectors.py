@@ -5,7 +5,7 @@ usage: tools/incremental_vectors.py
 
 It needs dnspython, by Debian's package for Debian's own Python: apt-get update && apt-get install -y python3-dnspython
 
-What it prints is pasted into the constants of crates/transfer_tests/src/incremental_vectors.rt, whose names stand above their lines:
+What it prints is pasted into the constants of crates/exchange_tests/src/incremental_vectors.rt, whose names stand above their lines:
 
 RECORDS: in each line a word, and the record that it stands for, with its names written out.
 VERSIONS: in each line the records of a version, in the order of a walk (RFC 4034, 6.1).

@@ -1,9 +1,10 @@
 //! Transfers in three messages over a link that edits the replies: one record alone in each of them but for the SOA records that begin an
 //! incremental transfer, since no two others have room in one message.
-use crate::common::{KEY, empty_zone, is, shared_key};
-use crate::exchanges::{commit_and_push, edit, provider_of, stack_of, transfer, zone_of};
-use crate::signed_vector_tests::{add, short_key, txt};
-use crate::xfr_server_tests::{Primary, at};
+use crate::common::{empty_zone, is, shared_key, short_key};
+use crate::cut_mac_tests::{add, txt};
+use crate::exchanges::{
+    Primary, at, commit_and_push, edit, provider_of, stack_of, transfer, zone_of,
+};
 use crate::zone_transfer_tests::{reply, signed_soa};
 use std::alloc::Global;
 use std::process::Abort;
@@ -176,14 +177,14 @@ fn are_so<R: Abort>(rt: &R, alloc: Global, key: &Key, mode: XfrMode, table: &'st
 
 #[test]
 fn edits_of_a_whole_zone(rt: HostRuntime) {
-    let key = shared_key(&rt, KEY);
+    let key = shared_key(&rt);
     are_so(&rt, rt.alloc(), &key, XfrMode::Axfr, WHOLE);
     drop(key);
 }
 
 #[test]
 fn edits_of_what_is_newer(rt: HostRuntime) {
-    let key = shared_key(&rt, KEY);
+    let key = shared_key(&rt);
     are_so(&rt, rt.alloc(), &key, XfrMode::Ixfr, NEWER);
     drop(key);
 }
@@ -238,7 +239,7 @@ fn replies_with<R: Abort>(
 
 /// Asserts that the first unsigned reply of these is refused, and that nothing is committed.
 fn refuses_unsigned<R: Abort>(rt: &R, alloc: Global, count: u8, is_signed: bool) {
-    let key = shared_key(rt, KEY);
+    let key = shared_key(rt);
     let mut zone = empty_zone(rt, alloc);
     let mut session = zone.write(alloc);
     let replies = replies_with(rt, alloc, &mut session, &key, count, is_signed);

@@ -1,10 +1,9 @@
 //! Signed replies as dnspython writes them, to a request for what is newer (RFC 1995, 4) and for the whole zone (RFC 5936, 2.2), taken one
 //! by one.
 
-use crate::common::{KEY, is, octets_of, shared_key};
-use crate::exchanges::{spelt_versions, versions_of, zone_of};
+use crate::common::{is, line_of, octets_of, shared_key};
+use crate::exchanges::{at, spelt_versions, versions_of, zone_of};
 use crate::incremental_vectors::{STREAMS, VERSIONS};
-use crate::xfr_server_tests::at;
 use std::alloc::Global;
 use std::process::Abort;
 use zone_store::{ReadZone, WriteZone};
@@ -40,13 +39,7 @@ other-type;Err(OtherAnswer) 0;";
 
 /// The stream of a word: its request and its replies.
 fn stream_of(word: &str) -> Option<(&'static str, &'static str)> {
-    for line in STREAMS.split('\n') {
-        let (name, octets) = line.split_once(' ')?;
-        if name == word {
-            return octets.split_once(' ');
-        }
-    }
-    None
+    line_of(STREAMS, word)?.split_once(' ')
 }
 
 /// Makes the request of a client, which is the one that dnspython makes, and gives it the replies: what is answered to each of them.
@@ -59,7 +52,7 @@ fn answers<R: Abort>(
     word: &str,
 ) -> String {
     let (asked, replies) = stream_of(word).expect(rt, "a stream");
-    let key = shared_key(rt, KEY);
+    let key = shared_key(rt);
     let mut client = XfrClient::new(alloc, &key, mode, at());
     drop(key);
     let request = client.request(session, 65_535).expect(rt, "a request");

@@ -1,8 +1,8 @@
 //! Transfers of what is newer (RFC 1995) from a primary with a history, through all of both halves, over a link in memory.
-use crate::common::{KEY, is, shared_key};
-use crate::exchanges::{primary_of, spelt_versions, stored_at, transfer, versions_of, zone_of};
-use crate::incremental_vectors::RECORDS;
-use crate::transfer_vectors::octets_at;
+use crate::common::{is, shared_key};
+use crate::exchanges::{
+    octets_at, primary_of, spelt_versions, stored_at, transfer, versions_of, zone_of,
+};
 use dns_rdata::record_from_octets;
 use dns_wire::PushError;
 use std::alloc::Global;
@@ -74,7 +74,7 @@ fn answer_to<R: Abort>(
     session: &mut WriteZone<'_>,
     made: &mut Vec<ReadZone>,
 ) -> Result<SyncOk, SyncError> {
-    let key = shared_key(rt, KEY);
+    let key = shared_key(rt);
     let primary = primary_of(rt, alloc, case.opening, case.commits, &key);
     let mut link = MemoryLink::new(alloc, 65_535, Vec::new(alloc));
     let answer = transfer(
@@ -106,7 +106,7 @@ fn how_many(records: AnswerRecords<'_>) -> u64 {
 pub(crate) fn replies<R: Abort>(rt: &R, alloc: Global, version: &ReadZone, question: &str) {
     let mut words = question.split_ascii_whitespace();
     let word = words.next().expect(rt, "a word");
-    let octets = octets_at(rt, alloc, RECORDS, word);
+    let octets = octets_at(rt, alloc, word);
     let asked = record_from_octets(octets.as_slice()).expect(rt, "a record");
     let found = version
         .look_up(asked.owner(), asked.rtype())
@@ -170,7 +170,7 @@ fn says<R: Abort>(
     mode: XfrMode,
     wanted: (Result<SyncOk, SyncError>, usize),
 ) {
-    let key = shared_key(rt, KEY);
+    let key = shared_key(rt);
     let primary = primary_of(rt, alloc, "soa-1", commits, &key);
     let mut zone = zone_of(rt, alloc, "soa-1", number);
     let mut session = zone.write(alloc);

@@ -1,7 +1,7 @@
 //! The README's example: a zone transfer over a link of one's own.
 
-use crate::common::{KEY, empty_zone, shared_key};
-use crate::xfr_server_tests::{Primary, at, primary};
+use crate::common::{empty_zone, shared_key};
+use crate::exchanges::{Primary, at, primary_of};
 use dns_wire::MessageBuf;
 use std::alloc::Global;
 use tsig_port::{Key, Time48};
@@ -72,10 +72,10 @@ impl Connection {
 #[test]
 fn a_zone_comes_over_a_link_of_ones_own(rt: HostRuntime) {
     let alloc = rt.alloc();
-    let key = shared_key(&rt, KEY);
+    let key = shared_key(&rt);
     let mut connection = Connection {
         alloc,
-        primary: primary(&rt, alloc, true),
+        primary: primary_of(&rt, alloc, "soa-1 cut-1 t-1 t-2", "", &key),
         replies: Vec::new(alloc),
     };
     let mut zone = empty_zone(&rt, alloc);

@@ -1,18 +1,17 @@
 //! What tests of transfers over a link in memory share: zones of records that words name, a primary with a history, and the transfer.
 ghost use Rattle.std.specs.Prelude.{◌≡◌};
 
-use crate::common::{append_set, octets_of, stored_name};
+use crate::common::{append_set, line_of, octets_of};
 use crate::incremental_vectors::RECORDS;
-use crate::transfer_vectors::{digits_at, octets_at};
-use crate::xfr_server_tests::{Primary, at};
-use dns_name::Class;
+use dns_name::{Class, NameRef};
 use dns_rdata::{StoredRecord, record_from_octets};
 use std::alloc::Global;
 use std::process::Abort;
 use std::str::SplitAsciiWhitespace;
-use tsig_port::Key;
+use tsig_port::{Key, Time48};
 use xfr_server::{
-    HistoryProvider, RefuseSvc, TsigMiddlewareSvc, XfrMiddlewareSvc, commits_may_be_pushed,
+    HistoryProvider, PrimaryStack, RefuseSvc, TsigMiddlewareSvc, XfrMiddlewareSvc,
+    commits_may_be_pushed,
 };
 use zone_store::{ReadZone, WriteZone, ZoneApex, ZoneBuilder};
 use zone_sync::{MemoryLink, Moments, SyncError, SyncOk, XfrMode, sync_zone};
@@ -20,9 +19,23 @@ use zone_sync::{MemoryLink, Moments, SyncError, SyncOk, XfrMode, sync_zone};
 /// `jain.ad.jp.`, the zone of RFC 1995, 7, and `example.`
 const APEXES: [&str; 2] = ["046a61696e026164026a7000", "076578616d706c6500"];
 
+/// The services of a primary whose provider has the zone's history.
+pub(crate) type Primary = PrimaryStack<RefuseSvc, HistoryProvider, Key>;
+
+/// The moment of all requests and replies.
+pub(crate) fn at() -> Time48 {
+    Time48::from_u64(1000)
+}
+
+/// The octets of a word's record.
+pub(crate) fn octets_at<R: Abort>(rt: &R, alloc: Global, word: &str) -> Vec<u8> {
+    let digits = line_of(RECORDS, word).expect(rt, "a word of the records");
+    octets_of(rt, alloc, digits)
+}
+
 /// The record of a word.
 pub(crate) fn stored_at<R: Abort>(rt: &R, alloc: Global, word: &str) -> StoredRecord {
-    let octets = octets_at(rt, alloc, RECORDS, word);
+    let octets = octets_at(rt, alloc, word);
     let found = record_from_octets(octets.as_slice()).expect(rt, "a record");
     let record = found.flatten(alloc).expect(rt, "memory");
     drop(octets);
@@ -39,7 +52,8 @@ pub(crate) fn zone_of<R: Abort>(rt: &R, alloc: Global, words: &str, number: u64)
         example
     };
     let octets = octets_of(rt, alloc, apex);
-    let apex = stored_name(rt, alloc, octets.as_slice());
+    let name = NameRef::from_octets(octets.as_slice()).expect(rt, "a name");
+    let apex = name.store(alloc).expect(rt, "memory");
     drop(octets);
     let mut builder = ZoneBuilder::new(alloc, apex, Class::IN);
     for word in words.split_ascii_whitespace() {
@@ -229,7 +243,7 @@ pub(crate) fn versions_of<R: Abort>(rt: &R, alloc: Global, versions: &[ReadZone]
 pub(crate) fn spelt_versions<R: Abort>(rt: &R, alloc: Global, words: &str) -> Vec<u8> {
     let mut all = Vec::new(alloc);
     for word in words.split_ascii_whitespace() {
-        match digits_at(RECORDS, word) {
+        match line_of(RECORDS, word) {
             Some(digits) => {
                 let octets = octets_of(rt, alloc, digits);
                 let appended = all.extend_from_slice(octets.as_slice());

@@ -1,6 +1,6 @@
 //! What each version answers after transfers, whichever came since.
 
-use crate::common::{KEY, is, shared_key};
+use crate::common::{is, shared_key};
 use crate::exchanges::{primary_of, transfer, zone_of};
 use crate::incremental_tests::replies;
 use std::alloc::Global;
@@ -47,7 +47,7 @@ fn fetch<R: Abort>(
     edits: Vec<ReplyEdit>,
     made: &mut Vec<ReadZone>,
 ) -> Result<SyncOk, SyncError> {
-    let key = shared_key(rt, KEY);
+    let key = shared_key(rt);
     let primary = primary_of(rt, alloc, "soa-1 a", commits, &key);
     let mut link = MemoryLink::with_edits(alloc, 65_535, Vec::new(alloc), edits);
     let answer = transfer(rt, alloc, &primary, session, &key, mode, &mut link, made);

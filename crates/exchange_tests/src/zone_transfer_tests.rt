@@ -2,7 +2,7 @@
 ghost use Rattle.std.specs.Prelude.{◌≡◌};
 ghost use Rattle.xfr_server.specs.Items.{Calls, all_given};
 
-use crate::common::{KEY, append_set, assert_texts, empty_zone, is, octets_of, shared_key};
+use crate::common::{append_set, empty_zone, is, line_of, octets_of, shared_key};
 use dns_rdata::{StoredRecord, record_from_octets};
 use dns_wire::{
     AdditionalBuilder, AnswerBuilder, Header, MessageBuilder, PushError, Question, ShortMessage,
@@ -133,17 +133,6 @@ fn row_of(rows: &'static str, number: usize) -> Option<Case> {
     })
 }
 
-/// The digits that a word stands for.
-fn word_digits(word: &str) -> Option<&'static str> {
-    for row in WORDS.split('\n') {
-        let (name, digits) = row.split_once(' ')?;
-        if name == word {
-            return Some(digits);
-        }
-    }
-    None
-}
-
 /// A primary that sends the replies of a case, whatever it is asked.
 #[derive(Clone, Copy, Debug)]
 struct Sender {
@@ -242,7 +231,7 @@ fn push_record(section: &mut AnswerBuilder, alloc: Global, word: &str) -> Result
 
 /// The octets of a word.
 fn spelt(alloc: Global, word: &str) -> Result<Vec<u8>, ServiceError> {
-    let Some(digits) = word_digits(word) else {
+    let Some(digits) = line_of(WORDS, word) else {
         return Err(ServiceError::InternalError);
     };
     match hex::decode(alloc, digits.as_bytes()) {
@@ -307,7 +296,7 @@ fn answer_in<R: Abort>(
     session: &mut WriteZone<'_>,
     made: &mut Vec<ReadZone>,
 ) -> Result<SyncOk, SyncError> {
-    let key = shared_key(rt, KEY);
+    let key = shared_key(rt);
     let primary = TsigMiddlewareSvc::new(Sender { case }, key.duplicate());
     let mut link = MemoryLink::new(alloc, max_len, Vec::new(alloc));
     let moments = Moments {
@@ -476,7 +465,7 @@ fn makes_nothing<R: Abort>(
 fn an_unsigned_reply_after_a_signed_one(rt: HostRuntime) {
     let alloc = rt.alloc();
     let now = Time48::from_u64(1000);
-    let key = shared_key(&rt, KEY);
+    let key = shared_key(&rt);
     let mut zone = empty_zone(&rt, alloc);
     let mut session = zone.write(alloc);
     let mut client = XfrClient::new(alloc, &key, XfrMode::Axfr, now);
@@ -555,7 +544,7 @@ fn stored<R: Abort>(rt: &R, alloc: Global, digits: &str) -> StoredRecord {
 #[test]
 fn makes_a_first_part_in_want_of_memory(rt: HostRuntime) {
     let alloc = rt.alloc();
-    let first = word_digits("first").expect(&rt, "a word");
+    let first = line_of(WORDS, "first").expect(&rt, "a word");
     let first = stored(&rt, alloc, first);
     let mut zone = empty_zone(&rt, alloc);
     let mut session = zone.write(alloc);
@@ -578,6 +567,19 @@ fn makes_a_first_part_in_want_of_memory(rt: HostRuntime) {
     drop(session);
     drop(zone);
     drop(first);
+}
+
+/// Asserts what errors print, each the line of its place.
+fn print_so<R: Abort>(rt: &R, alloc: Global, errors: &[SyncError], texts: &str) {
+    let mut lines = texts.split('\n');
+    for error in errors {
+        let line = lines.next().expect(rt, "a text");
+        let text = format!(in alloc; "{error}").expect(rt, "memory");
+        is(rt, text.as_str(), line);
+        drop(text);
+    }
+    let are_all = lines.next().is_none();
+    assert!(rt; are_all);
 }
 
 #[test]
@@ -612,7 +614,6 @@ the reply isn't one of a transfer
 a record can't be read where it stands
 an update doesn't fit the zone
 there is no further version number
-out of memory
-";
-    assert_texts(&rt, rt.alloc(), &errors, texts);
+out of memory";
+    print_so(&rt, rt.alloc(), &errors, texts);
 }
