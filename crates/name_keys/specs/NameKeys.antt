@@ -1,0 +1,43 @@
+-- Names as strings of octets whose order, octet by octet, is canonical order (RFC 4034, 6.1; RFC 4343, 3).
+use Rattle.std.specs.Prelude.{◌≡◌, ℕ, zero, suc, ◌+◌, ◌-◌, nat_lt, List, [], ◌∷◌, ◌++◌, length, take, reverse, flat_map, IsTrue, if◌then◌else◌}
+use Rattle.dns_name.specs.Names.{Name, fold, is_name}
+
+-- an octet of a label within a key: 0 as 1 1 and 1 as 1 2, so that 0 is free to end a label, and any other as itself
+abbrev pub octet_key : ℕ → List ℕ
+octet_key c = if nat_lt c 2 then 1 ∷ (c + 1) ∷ [] else c ∷ []
+
+-- a label within a key: its octets, then a 0
+abbrev pub label_key : List ℕ → List ℕ
+label_key label = flat_map octet_key label ++ 0 ∷ []
+
+-- the key of a name: its labels in lower case, from the right, without the root label
+abbrev pub name_key : Name → List ℕ
+name_key name = flat_map label_key (reverse (fold name))
+
+-- ---- reading back
+
+-- an octet goes before those of the first label
+abbrev pub with_octet : ℕ → List (List ℕ) → List (List ℕ)
+with_octet c [] = (c ∷ []) ∷ []
+with_octet c (label ∷ labels) = (c ∷ label) ∷ labels
+
+-- the labels of a key, in its order: 0 ends a label, 1 stands before an octet that is written one higher
+abbrev pub labels_of_key : List ℕ → List (List ℕ)
+labels_of_key [] = []
+labels_of_key (zero ∷ key) = [] ∷ labels_of_key key
+labels_of_key (suc zero ∷ suc c ∷ key) = with_octet c (labels_of_key key)
+labels_of_key (c ∷ key) = with_octet c (labels_of_key key)
+
+-- the name, in lower case, that a key spells
+abbrev pub name_of_key : List ℕ → Name
+name_of_key key = reverse (labels_of_key key)
+
+-- ---- keys
+
+-- octets are the key of a name that has a wire form
+abbrev pub IsNameKey : List ℕ → Type 0
+IsNameKey octets = (name : Name) × IsTrue (is_name name) × (name_key name ≡ octets)
+
+-- the first string after all that begin with these octets, of which the last is a 0: a 1 in its place
+abbrev pub key_end : List ℕ → List ℕ
+key_end octets = take (length octets - 1) octets ++ 1 ∷ []

@@ -1,0 +1,2 @@
+// Worked examples, proved by computation.
+ghost use Rattle.std.specs.Prelude.{◌≡◌, ◌∷◌, [], codes, length, replicate};

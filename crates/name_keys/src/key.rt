@@ -1,0 +1,133 @@
+// Keys of names.
+ghost use Rattle.std.specs.Prelude.{◌≡◌, ◌≤◌, ◌∷◌, [], ◌<◌, ◌+◌, ◌-◌, ◌≢◌, ℕ, List, IfOk, IsTrue, MatchOption, length, slice_index};
+ghost use Rattle.std.specs.Box.{boxed_slice_items};
+ghost use Rattle.dns_name.specs.Names.{is_name, fold, under};
+ghost use Rattle.name_keys.specs.NameKeys.{IsNameKey, name_key, name_of_key};
+
+use crate::key_octets::KeyOctets;
+use dns_name::{KeyName, Labelled, Name};
+use std::alloc::{AllocError, Global};
+use std::boxed::BoxedSlice;
+use std::convert::AsSlice;
+use std::marker::Model;
+
+/// The key of a name: a string of octets whose order, octet by octet, is canonical order of the names (RFC 4034, 6.1). It is seen as
+/// the name that it spells, in lower case.
+#[derive(Drop)]
+pub struct Key<Octs: AsSlice<u8>> {
+    octets: Octs,
+}
+
+/// A key in place, which takes no memory.
+pub type NameKey = Key<KeyOctets>;
+
+/// A key whose octets are lent, as by a map.
+pub type NameKeyRef<'a> = Key<&'a [u8]>;
+
+impl<Octs: AsSlice<u8>> Model for Key<Octs> {
+    ghost use Rattle.std.specs.Prelude.{◌≡◌, ℕ, List, IsTrue};
+    ghost use Rattle.dns_name.specs.Names.{is_name};
+    ghost use Rattle.name_keys.specs.NameKeys.{name_key, name_of_key};
+
+    ghost Value = { List (List ℕ) };
+
+    ghost view = { λ k. name_of_key (Octs.items k.octets) };
+
+    ghost invariant = { λ k. IsTrue (is_name (name_of_key (Octs.items k.octets))) × (name_key (name_of_key (Octs.items k.octets)) ≡ Octs.items k.octets) };
+}
+
+impl Key<KeyOctets> {
+    /// The key of a name.
+    pub fn of<N: Labelled>(name: &N) -> NameKey
+        ensures { result ≡ fold (N.labels name.now) }
+    {
+        NameKey::of_name(&name.to_key_name())
+    }
+
+    /// The key of a name in wire form, which isn't copied.
+    pub fn of_name<Octs: AsSlice<u8>>(name: &Name<Octs>) -> NameKey
+        ensures { result ≡ fold name.now }
+    {
+        let mut octets = KeyOctets::new();
+        let mut rest = name.borrowed();
+        while let Some((label, tail)) = rest.split_first() {
+            octets.put_label(label.as_slice());
+            rest = tail;
+        }
+        Key { octets }
+    }
+}
+
+impl<Octs: AsSlice<u8>> Key<Octs> {
+    /// The octets.
+    pub fn as_slice(&self) -> &[u8]
+        ensures value { result.now ≡ name_key self.now }
+        ensures name { IsTrue (is_name self.now) }
+        ensures folded { fold self.now ≡ self.now }
+        ensures bound { length result.now ≤ 504 }
+    {
+        self.octets.as_slice()
+    }
+
+    /// The key, its octets lent.
+    pub fn borrowed(&self) -> NameKeyRef<'_>
+        ensures value { result ≡ self.now }
+        ensures name { IsTrue (is_name self.now) }
+        ensures folded { fold self.now ≡ self.now }
+    {
+        Key {
+            octets: self.as_slice(),
+        }
+    }
+
+    /// Whether the name is the other one or below it, ASCII case aside (RFC 1034, 3.1).
+    pub fn is_under<Others: AsSlice<u8>>(&self, other: &Key<Others>) -> bool
+        ensures { result ≡ under self.now other.now }
+    {
+        self.as_slice().starts_with(other.as_slice())
+    }
+
+    /// The octets in memory of their own, as the key of a map's entry.
+    pub fn to_boxed(&self, alloc: Global) -> Result<BoxedSlice<u8>, AllocError>
+        ensures { IfOk result (λ b. boxed_slice_items b ≡ name_key self.now) }
+    {
+        BoxedSlice::from_slice(alloc, self.as_slice())
+    }
+}
+
+impl<'a> Key<&'a [u8]> {
+    /// The key that these octets are.
+    pub fn of_octets(octets: &'a [u8]) -> NameKeyRef<'a>
+        requires { IsNameKey octets.now }
+        ensures { result ≡ name_of_key octets.now }
+    {
+        Key { octets }
+    }
+
+    /// The key of the name without its first label, if this isn't the root's: these octets without those of the last label.
+    pub fn parent(&self) -> Option<NameKeyRef<'a>>
+        ensures { MatchOption result (self.now ≡ []) (λ p. (label : List ℕ) × (self.now ≡ label ∷ p)) }
+    {
+        let octets = self.octets;
+        if octets.is_empty() {
+            return None;
+        }
+        Some(Key {
+            octets: &octets[..last_label_start(octets)],
+        })
+    }
+}
+
+/// Where the last label of a key begins that isn't the root's: after the last 0 before its end.
+fn last_label_start(octets: &[u8]) -> usize
+    requires { 0 < length octets.now }
+    ensures within { result < length octets.now }
+    ensures after { 0 < result → slice_index octets.now (result - 1) ≡ 0 }
+    ensures plain { (k : ℕ) → result ≤ k → k + 1 < length octets.now → slice_index octets.now k ≢ 0 }
+{
+    let mut start = octets.len() - 1;
+    while start > 0 && octets[start - 1] != 0 {
+        start -= 1;
+    }
+    start
+}

@@ -1,0 +1,42 @@
+// Laws of the definitions, each the contract of a function with an empty body.
+ghost use Rattle.std.specs.Prelude.{◌≡◌, ◌≤◌, ◌↔◌, ◌∷◌, ◌++◌, ℕ, List, length, eqb, IsTrue, false};
+ghost use Rattle.std.specs.List.{starts_with};
+ghost use Rattle.std.specs.Ordering.{nat_cmp, is_gt};
+ghost use Rattle.std.specs.declared.cmp.Ordering.TheVariants.{Less};
+ghost use Rattle.std.specs.Cmp.Lexicographic.{slice_cmp};
+ghost use Rattle.dns_name.specs.Names.{Name, is_name, fold, same_name, under, canonical_cmp};
+ghost use Rattle.name_keys.specs.NameKeys.{name_key, name_of_key, key_end};
+
+/// The order of keys as strings of octets is canonical order of the names (RFC 4034, 6.1).
+pub fn keys_compare_as_names()
+    ensures { (m n : Name) → slice_cmp nat_cmp (name_key m) (name_key n) ≡ canonical_cmp m n }
+{}
+
+/// Names are equal exactly where their keys are (RFC 4343, 3).
+pub fn equal_names_have_one_key()
+    ensures { (m n : Name) → IsTrue (same_name m n) ↔ (name_key m ≡ name_key n) }
+{}
+
+/// A name is at or below another exactly where its key begins with the other's (RFC 1034, 3.1).
+pub fn keys_begin_with_those_above()
+    ensures test { (n m : Name) → under n m ≡ starts_with eqb (name_key n) (name_key m) }
+    ensures rest { (n m : Name) → IsTrue (under n m) ↔ ((rest : List ℕ) × (name_key n ≡ name_key m ++ rest)) }
+{}
+
+/// The keys at or below a name that isn't the root are those from its own up to, and without, `key_end` of it: the bounds of a map's
+/// range.
+pub fn keys_under_a_name_are_a_range()
+    ensures { (n : Name) (label : List ℕ) (m : Name) → IsTrue (under n (label ∷ m))
+        ↔ ((is_gt (slice_cmp nat_cmp (name_key (label ∷ m)) (name_key n)) ≡ false)
+        × (slice_cmp nat_cmp (name_key n) (key_end (name_key (label ∷ m))) ≡ Less)) }
+{}
+
+/// A key spells its name in lower case.
+pub fn keys_are_read_back()
+    ensures { (n : Name) → name_of_key (name_key n) ≡ fold n }
+{}
+
+/// The key of a name that has a wire form has 504 octets at most.
+pub fn keys_are_short()
+    ensures { (n : Name) → IsTrue (is_name n) → length (name_key n) ≤ 504 }
+{}
