@@ -4,3 +4,6 @@ pub mod Reading
 pub mod Nesting
 pub mod Ranges
 pub mod Bounds
+pub mod Putting
+pub mod Parents
+pub mod Spelling

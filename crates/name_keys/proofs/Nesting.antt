@@ -8,8 +8,8 @@ use Rattle.std.proofs.lemmas.Grind.{flat_map-append}
 use Rattle.std.proofs.lemmas.List.{reverse-reverse, reverse-append, take-append-drop, take_at}
 use Rattle.dns_name.specs.Names.{Name, fold, under}
 use Rattle.dns_name.proofs.FoldedLabels.{names_under}
-use Rattle.name_keys.specs.NameKeys.{label_key, name_key, labels_of_key}
-use Rattle.name_keys.proofs.Reading.{read_labels, read_back}
+use Rattle.name_keys.specs.NameKeys.{label_key, name_key}
+use Rattle.name_keys.proofs.Reading.{labels_of_key, read_labels, read_back}
 
 -- what is left of a key behind the other
 abbrev pub Begins : List ℕ → List ℕ → Type 0

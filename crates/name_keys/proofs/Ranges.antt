@@ -53,7 +53,7 @@ between_so p s (rest, e) = subst (Between p) (sym e) (at_rest p rest)
         (ap is_gt (same_first a (p ++ 0 ∷ []) ((p ++ 0 ∷ []) ++ rest)) ∙ r.0, same_first a ((p ++ 0 ∷ []) ++ rest) (p ++ 1 ∷ []) ∙ r.1)
 
 -- a key that isn't the root's ends with a 0
-ends : (label : List ℕ) (m : Name) → (p : List ℕ) × (name_key (label ∷ m) ≡ p ++ 0 ∷ [])
+pub ends : (label : List ℕ) (m : Name) → (p : List ℕ) × (name_key (label ∷ m) ≡ p ++ 0 ∷ [])
 ends label m =
     let octets = flat_map octet_key (str_to_ascii_lowercase label) in
     (name_key m ++ octets, last_label label m ∙ sym (append_assoc (name_key m) octets (0 ∷ [])))

@@ -1,5 +1,5 @@
 -- Names as strings of octets whose order, octet by octet, is canonical order (RFC 4034, 6.1; RFC 4343, 3).
-use Rattle.std.specs.Prelude.{◌≡◌, ℕ, zero, suc, ◌+◌, ◌-◌, nat_lt, List, [], ◌∷◌, ◌++◌, length, take, reverse, flat_map, IsTrue, if◌then◌else◌}
+use Rattle.std.specs.Prelude.{◌≡◌, ℕ, zero, suc, ◌+◌, ◌-◌, nat_lt, List, [], ◌∷◌, ◌++◌, length, take, reverse, map, flat_map, IsTrue, if◌then◌else◌}
 use Rattle.dns_name.specs.Names.{Name, fold, is_name}
 
 -- an octet of a label within a key: 0 as 1 1 and 1 as 1 2, so that 0 is free to end a label, and any other as itself
@@ -16,21 +16,26 @@ name_key name = flat_map label_key (reverse (fold name))
 
 -- ---- reading back
 
--- an octet goes before those of the first label
+-- an octet goes before those of the first piece
 abbrev pub with_octet : ℕ → List (List ℕ) → List (List ℕ)
 with_octet c [] = (c ∷ []) ∷ []
-with_octet c (label ∷ labels) = (c ∷ label) ∷ labels
+with_octet c (piece ∷ pieces) = (c ∷ piece) ∷ pieces
 
--- the labels of a key, in its order: 0 ends a label, 1 stands before an octet that is written one higher
-abbrev pub labels_of_key : List ℕ → List (List ℕ)
-labels_of_key [] = []
-labels_of_key (zero ∷ key) = [] ∷ labels_of_key key
-labels_of_key (suc zero ∷ suc c ∷ key) = with_octet c (labels_of_key key)
-labels_of_key (c ∷ key) = with_octet c (labels_of_key key)
+-- the pieces of a key, each ended by a 0
+abbrev pub pieces : List ℕ → List (List ℕ)
+pieces [] = []
+pieces (zero ∷ key) = [] ∷ pieces key
+pieces (c ∷ key) = with_octet c (pieces key)
+
+-- the octets of the label that a piece spells: 1 stands before an octet that is written one higher
+abbrev pub label_of : List ℕ → List ℕ
+label_of [] = []
+label_of (suc zero ∷ c ∷ piece) = (c - 1) ∷ label_of piece
+label_of (c ∷ piece) = c ∷ label_of piece
 
 -- the name, in lower case, that a key spells
 abbrev pub name_of_key : List ℕ → Name
-name_of_key key = reverse (labels_of_key key)
+name_of_key key = reverse (map label_of (pieces key))
 
 -- ---- keys
 

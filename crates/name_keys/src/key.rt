@@ -1,11 +1,11 @@
 // Keys of names.
-ghost use Rattle.std.specs.Prelude.{◌≡◌, ◌≤◌, ◌∷◌, [], ◌<◌, ◌+◌, ◌-◌, ◌≢◌, ℕ, List, IfOk, IsTrue, MatchOption, length, slice_index};
+ghost use Rattle.std.specs.Prelude.{◌≡◌, ◌≤◌, ◌∷◌, ◌++◌, [], ◌<◌, ◌+◌, ◌-◌, ◌≢◌, ℕ, List, IfOk, IsTrue, MatchOption, length, drop, slice_index};
 ghost use Rattle.std.specs.Box.{boxed_slice_items};
 ghost use Rattle.dns_name.specs.Names.{is_name, fold, under};
-ghost use Rattle.name_keys.specs.NameKeys.{IsNameKey, name_key, name_of_key};
+ghost use Rattle.name_keys.specs.NameKeys.{IsNameKey, label_of, name_key, name_of_key};
 
 use crate::key_octets::KeyOctets;
-use dns_name::{KeyName, Labelled, Name};
+use dns_name::{KeyName, Labelled, Name, NameOctets};
 use std::alloc::{AllocError, Global};
 use std::boxed::BoxedSlice;
 use std::convert::AsSlice;
@@ -87,6 +87,24 @@ impl<Octs: AsSlice<u8>> Key<Octs> {
         self.as_slice().starts_with(other.as_slice())
     }
 
+    /// The name that the key spells, in lower case.
+    pub fn to_name(&self) -> KeyName
+        ensures { result ≡ self.now }
+    {
+        let mut wire = NameOctets::new();
+        let mut rest = self.borrowed();
+        while let Some(parent) = rest.parent() {
+            let octets = rest.as_slice();
+            append_label(
+                &mut wire,
+                &octets[parent.as_slice().len()..octets.len() - 1],
+            );
+            rest = parent;
+        }
+        let _ = wire.append(&[0]);
+        KeyName::from_wire(wire)
+    }
+
     /// The octets in memory of their own, as the key of a map's entry.
     pub fn to_boxed(&self, alloc: Global) -> Result<BoxedSlice<u8>, AllocError>
         ensures { IfOk result (λ b. boxed_slice_items b ≡ name_key self.now) }
@@ -130,4 +148,36 @@ fn last_label_start(octets: &[u8]) -> usize
         start -= 1;
     }
     start
+}
+
+/// Puts the label that a piece of a key spells at the end of a wire form that has room for it.
+fn append_label(wire: &mut NameOctets, piece: &[u8])
+    requires label { length (label_of piece.now) ≤ 63 }
+    requires room { length wire.old + length (label_of piece.now) < 255 }
+    ensures { wire.new ≡ wire.old ++ length (label_of piece.now) ∷ label_of piece.now }
+{
+    let mut label = [0; 63];
+    let mut len = 0;
+    let mut at = 0;
+    while at < piece.len() {
+        let (octet, after) = octet_at(piece, at);
+        label[len] = octet;
+        len += 1;
+        at = after;
+    }
+    let _ = wire.append_label(&label[..len]);
+}
+
+/// The octet that a piece spells at place `at`, and the place after it.
+fn octet_at(piece: &[u8], at: usize) -> (u8, usize)
+    requires { at < length piece.now }
+    ensures octet { label_of (drop at piece.now) ≡ result.0 ∷ label_of (drop result.1 piece.now) }
+    ensures after { (at < result.1) × (result.1 ≤ length piece.now) }
+{
+    let next = at + 1;
+    if piece[at] == 1 && next < piece.len() {
+        (piece[next].saturating_sub(1), next + 1)
+    } else {
+        (piece[at], next)
+    }
 }
