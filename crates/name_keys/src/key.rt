@@ -58,6 +58,15 @@ impl Key<KeyOctets> {
     }
 }
 
+impl Key<KeyOctets> {
+    /// The key of the name without its first label, if this isn't the root's: these octets without those of the last label.
+    pub fn parent(&self) -> Option<NameKeyRef<'_>>
+        ensures { MatchOption result (self.now ≡ []) (λ p. (label : List ℕ) × (self.now ≡ label ∷ p)) }
+    {
+        self.borrowed().parent()
+    }
+}
+
 impl<Octs: AsSlice<u8>> Key<Octs> {
     /// The octets.
     pub fn as_slice(&self) -> &[u8]
@@ -81,6 +90,7 @@ impl<Octs: AsSlice<u8>> Key<Octs> {
     }
 
     /// Whether the name is the other one or below it, ASCII case aside (RFC 1034, 3.1).
+    #[tactic(auto, using(crate::proofs::Nesting::under_by_test))]
     pub fn is_under<Others: AsSlice<u8>>(&self, other: &Key<Others>) -> bool
         ensures { result ≡ under self.now other.now }
     {
