@@ -49,11 +49,7 @@ impl Key<KeyOctets> {
         ensures { result ≡ fold name.now }
     {
         let mut octets = KeyOctets::new();
-        let mut rest = name.borrowed();
-        while let Some((label, tail)) = rest.split_first() {
-            octets.put_label(label.as_slice());
-            rest = tail;
-        }
+        octets.fill(name);
         Key { octets }
     }
 }
@@ -132,6 +128,16 @@ impl<'a> Key<&'a [u8]> {
         Key { octets }
     }
 
+    /// The key of a name, put into `octets` in place of what was there: no octets are copied but these.
+    pub fn put<Octs: AsSlice<u8>>(octets: &'a mut KeyOctets, name: &Name<Octs>) -> NameKeyRef<'a>
+        ensures { result ≡ fold name.now }
+    {
+        octets.fill(name);
+        Key {
+            octets: octets.as_slice(),
+        }
+    }
+
     /// The key of the name without its first label, if this isn't the root's: these octets without those of the last label.
     pub fn parent(&self) -> Option<NameKeyRef<'a>>
         ensures { MatchOption result (self.now ≡ []) (λ p. (label : List ℕ) × (self.now ≡ label ∷ p)) }
@@ -162,6 +168,19 @@ fn last_label_start(octets: &[u8]) -> usize
 
 /// Puts the label that a piece of a key spells at the end of a wire form that has room for it.
 fn append_label(wire: &mut NameOctets, piece: &[u8])
+    requires label { length (label_of piece.now) ≤ 63 }
+    requires room { length wire.old + length (label_of piece.now) < 255 }
+    ensures { wire.new ≡ wire.old ++ length (label_of piece.now) ∷ label_of piece.now }
+{
+    if piece.contains(&1) {
+        append_escaped(wire, piece);
+    } else {
+        let _ = wire.append_label(piece);
+    }
+}
+
+/// The same, octet by octet, of a piece that has a 1.
+fn append_escaped(wire: &mut NameOctets, piece: &[u8])
     requires label { length (label_of piece.now) ≤ 63 }
     requires room { length wire.old + length (label_of piece.now) < 255 }
     ensures { wire.new ≡ wire.old ++ length (label_of piece.now) ∷ label_of piece.now }

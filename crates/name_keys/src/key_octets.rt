@@ -1,9 +1,11 @@
 // Octets of a key in place, put there from the end.
-ghost use Rattle.std.specs.Prelude.{◌≡◌, ◌≤◌, ◌<◌, ◌+◌, ◌++◌, ◌∷◌, [], length};
+ghost use Rattle.std.specs.Prelude.{◌≡◌, ◌≤◌, ◌<◌, ◌+◌, ◌++◌, ◌∷◌, [], length, IsTrue};
 ghost use Rattle.std.specs.Char.{to_ascii_lowercase};
 ghost use Rattle.std.specs.Str.{str_to_ascii_lowercase};
-ghost use Rattle.name_keys.specs.NameKeys.{octet_key, label_key};
+ghost use Rattle.dns_name.specs.Names.{is_name};
+ghost use Rattle.name_keys.specs.NameKeys.{octet_key, label_key, name_key};
 
+use dns_name::Name;
 use std::convert::AsSlice;
 use std::marker::Model;
 
@@ -43,8 +45,28 @@ impl KeyOctets {
         &self.octets[self.start..]
     }
 
+    /// Puts the key of a name in place of what was here.
+    pub fn fill<Octs: AsSlice<u8>>(&mut self, name: &Name<Octs>)
+        ensures key { self.new ≡ name_key name.now }
+        ensures name { IsTrue (is_name name.now) }
+    {
+        self.clear();
+        let mut rest = name.borrowed();
+        while let Some((label, tail)) = rest.split_first() {
+            self.put_label(label.as_slice());
+            rest = tail;
+        }
+    }
+
+    /// Leaves no octets.
+    fn clear(&mut self)
+        ensures { self.new ≡ [] }
+    {
+        self.start = 504;
+    }
+
     /// Puts a label in front: its octets in lower case, as a key has them, then a 0.
-    pub fn put_label(&mut self, label: &[u8])
+    fn put_label(&mut self, label: &[u8])
         requires { length (label_key (str_to_ascii_lowercase label.now)) + length self.old ≤ 504 }
         ensures { self.new ≡ label_key (str_to_ascii_lowercase label.now) ++ self.old }
     {
