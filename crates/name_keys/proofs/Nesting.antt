@@ -1,5 +1,5 @@
 -- Names at or below others, by their keys.
-use Rattle.std.proofs.Common.{◌≡◌, ◌↔◌, ℕ, true, List, [], ◌∷◌, ◌++◌, length, take, drop, refl, sym, ap, ◌∙◌, Decides}
+use Rattle.std.proofs.Common.{◌≡◌, ◌↔◌, ℕ, List, ◌++◌, length, take, drop, refl, sym, ap, ◌∙◌, Decides}
 use Rattle.std.specs.Prelude.{flat_map, reverse, IsTrue, eqb}
 use Rattle.std.specs.List.{starts_with}
 use Rattle.std.specs.Cmp.Lexicographic.{bytes_decides}

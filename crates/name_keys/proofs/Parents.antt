@@ -6,7 +6,7 @@ use Rattle.std.proofs.lemmas.Cmp.{ranked, by_ranked}
 use Rattle.std.proofs.lemmas.List.{get_or_append_left, get_or-append_right, get_or_at, take_at}
 use Rattle.dns_name.specs.Names.{Name, fold, is_name}
 use Rattle.dns_name.proofs.WireForms.{rest_is_name}
-use Rattle.name_keys.specs.NameKeys.{octet_key, label_key, name_key}
+use Rattle.name_keys.specs.NameKeys.{octet_key, name_key}
 use Rattle.name_keys.proofs.Octets.{plain_octet, last_label}
 use Rattle.name_keys.proofs.Ranges.{ends}
 

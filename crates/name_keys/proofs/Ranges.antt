@@ -1,16 +1,15 @@
 -- The keys at or below a name are a range.
-use Rattle.std.proofs.Common.{◌≡◌, ◌↔◌, ℕ, zero, suc, ◌+◌, ◌-◌, ◌<◌, ◌≤◌, false, List, [], ◌∷◌, ◌++◌, length, length-append, take, refl, sym, ap, subst, ◌∙◌, arith, nat_cmp, Less, Equal, Greater}
+use Rattle.std.proofs.Common.{◌≡◌, ◌↔◌, ℕ, zero, suc, ◌-◌, ◌<◌, false, List, [], ◌∷◌, ◌++◌, length, length-append, take, refl, sym, ap, subst, ◌∙◌, arith, nat_cmp, Less, Equal}
 use Rattle.std.specs.Prelude.{flat_map, IsTrue}
 use Rattle.std.specs.Ordering.{ordering_then, is_gt}
 use Rattle.std.specs.declared.cmp.Ordering.{Ordering}
 use Rattle.std.specs.Str.{str_to_ascii_lowercase}
-use Rattle.std.specs.Cmp.{nat_cmp_is}
 use Rattle.std.proofs.lemmas.Cmp.{ranked, by_ranked}
 use Rattle.std.proofs.lemmas.List.{take_at, append_assoc}
 use Rattle.dns_name.specs.Names.{Name, under}
-use Rattle.name_keys.specs.NameKeys.{octet_key, label_key, name_key, key_end}
+use Rattle.name_keys.specs.NameKeys.{octet_key, name_key, key_end}
 use Rattle.name_keys.proofs.Octets.{last_label}
-use Rattle.name_keys.proofs.KeyOrder.{cmp, less_first, greater_first, same_first}
+use Rattle.name_keys.proofs.KeyOrder.{cmp, greater_first, same_first}
 use Rattle.name_keys.proofs.Nesting.{Begins, under_by_keys}
 
 -- a string isn't before p and a 0, and is before p and a 1
@@ -64,16 +63,22 @@ end_is key p e =
     let both = length-append p (0 ∷ []) in
     ap (λ k. take (length key - 1) k ++ 1 ∷ []) e ∙ ap (λ k. k ++ 1 ∷ []) (take_at p (0 ∷ []) (length key - 1) (omega (arith, long, both)))
 
-pub under_is_between : (n : Name) (label : List ℕ) (m : Name) → IsTrue (under n (label ∷ m))
-    ↔ ((is_gt (cmp (name_key (label ∷ m)) (name_key n)) ≡ false) × (cmp (name_key n) (key_end (name_key (label ∷ m))) ≡ Less))
-under_is_between n label m =
-    let key = name_key (label ∷ m) in
-    let s = name_key n in
+-- the bounds of a map's range
+abbrev pub InRange : List ℕ → List ℕ → Type 0
+InRange key s = (is_gt (cmp key s) ≡ false) × (cmp s (key_end key) ≡ Less)
+
+pub begins_in_range : (s label : List ℕ) (m : Name) → Begins s (name_key (label ∷ m)) ↔ InRange (name_key (label ∷ m)) s
+begins_in_range s label m =
     let (p, e) = ends label m in
-    let f = end_is key p e in
-    let t = under_by_keys n (label ∷ m) in (
-      λ u. let b = between_so p s ((t.0 u).0, (t.0 u).1 ∙ ap (λ k. k ++ (t.0 u).0) e) in
-          (ap (λ k. is_gt (cmp k s)) e ∙ b.0, ap (cmp s) f ∙ b.1),
-      λ b. t.1 (let r = begins_so p s (ap (λ k. is_gt (cmp k s)) (sym e) ∙ b.0, ap (cmp s) (sym f) ∙ b.1) in
-          (r.0, r.1 ∙ ap (λ k. k ++ r.0) (sym e))),
+    let f = end_is (name_key (label ∷ m)) p e in (
+      λ b. let t = between_so p s (b.0, b.1 ∙ ap (λ k. k ++ b.0) e) in
+          (ap (λ k. is_gt (cmp k s)) e ∙ t.0, ap (cmp s) f ∙ t.1),
+      λ t. let r = begins_so p s (ap (λ k. is_gt (cmp k s)) (sym e) ∙ t.0, ap (cmp s) (sym f) ∙ t.1) in
+          (r.0, r.1 ∙ ap (λ k. k ++ r.0) (sym e)),
     )
+
+pub under_in_range : (n : Name) (label : List ℕ) (m : Name) → IsTrue (under n (label ∷ m)) ↔ InRange (name_key (label ∷ m)) (name_key n)
+under_in_range n label m =
+    let u = under_by_keys n (label ∷ m) in
+    let b = begins_in_range (name_key n) label m in
+    (λ t. b.0 (u.0 t), λ t. u.1 (b.1 t))

@@ -1,5 +1,5 @@
 -- Keys are read back.
-use Rattle.std.proofs.Common.{◌≡◌, ◌↔◌, ℕ, zero, suc, ◌≤◌, List, [], ◌∷◌, ◌++◌, map, refl, sym, ap, ◌∙◌, arith}
+use Rattle.std.proofs.Common.{◌≡◌, ◌↔◌, ℕ, zero, suc, List, [], ◌∷◌, ◌++◌, map, refl, sym, ap, ◌∙◌, arith}
 use Rattle.std.specs.Prelude.{flat_map, reverse, IsTrue}
 use Rattle.std.proofs.lemmas.List.{reverse-reverse, append_assoc}
 use Rattle.dns_name.specs.Names.{Name, fold, is_name, same_name}

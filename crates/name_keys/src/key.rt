@@ -52,9 +52,7 @@ impl Key<KeyOctets> {
         octets.fill(name);
         Key { octets }
     }
-}
 
-impl Key<KeyOctets> {
     /// The key of the name without its first label, if this isn't the root's: these octets without those of the last label.
     pub fn parent(&self) -> Option<NameKeyRef<'_>>
         ensures { MatchOption result (self.now ≡ []) (λ p. (label : List ℕ) × (self.now ≡ label ∷ p)) }
@@ -113,7 +111,8 @@ impl<Octs: AsSlice<u8>> Key<Octs> {
 
     /// The octets in memory of their own, as the key of a map's entry.
     pub fn to_boxed(&self, alloc: Global) -> Result<BoxedSlice<u8>, AllocError>
-        ensures { IfOk result (λ b. boxed_slice_items b ≡ name_key self.now) }
+        ensures value { IfOk result (λ b. boxed_slice_items b ≡ name_key self.now) }
+        ensures name { IsTrue (is_name self.now) }
     {
         BoxedSlice::from_slice(alloc, self.as_slice())
     }

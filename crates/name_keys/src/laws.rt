@@ -5,7 +5,7 @@ ghost use Rattle.std.specs.Ordering.{nat_cmp, is_gt};
 ghost use Rattle.std.specs.declared.cmp.Ordering.TheVariants.{Less};
 ghost use Rattle.std.specs.Cmp.Lexicographic.{slice_cmp};
 ghost use Rattle.dns_name.specs.Names.{Name, is_name, fold, same_name, under, canonical_cmp};
-ghost use Rattle.name_keys.specs.NameKeys.{name_key, name_of_key, key_end};
+ghost use Rattle.name_keys.specs.NameKeys.{IsNameKey, name_key, name_of_key, key_end};
 
 /// The order of keys as strings of octets is canonical order of the names (RFC 4034, 6.1).
 pub fn keys_compare_as_names()
@@ -23,10 +23,12 @@ pub fn keys_begin_with_those_above()
     ensures rest { (n m : Name) → IsTrue (under n m) ↔ ((rest : List ℕ) × (name_key n ≡ name_key m ++ rest)) }
 {}
 
-/// The keys at or below a name that isn't the root are those from its own up to, and without, `key_end` of it: the bounds of a map's
-/// range.
+/// The strings that begin with the key of a name that isn't the root's, and so the keys of the names at or below it, are those from
+/// the key on up to, and without, its `key_end`: a map's range from the one, included, to the other, excluded.
 pub fn keys_under_a_name_are_a_range()
-    ensures { (n : Name) (label : List ℕ) (m : Name) → IsTrue (under n (label ∷ m))
+    ensures strings { (s : List ℕ) (label : List ℕ) (m : Name) → ((rest : List ℕ) × (s ≡ name_key (label ∷ m) ++ rest))
+        ↔ ((is_gt (slice_cmp nat_cmp (name_key (label ∷ m)) s) ≡ false) × (slice_cmp nat_cmp s (key_end (name_key (label ∷ m))) ≡ Less)) }
+    ensures names { (n : Name) (label : List ℕ) (m : Name) → IsTrue (under n (label ∷ m))
         ↔ ((is_gt (slice_cmp nat_cmp (name_key (label ∷ m)) (name_key n)) ≡ false)
         × (slice_cmp nat_cmp (name_key n) (key_end (name_key (label ∷ m))) ≡ Less)) }
 {}
@@ -34,6 +36,13 @@ pub fn keys_under_a_name_are_a_range()
 /// A key spells its name in lower case.
 pub fn keys_are_read_back()
     ensures { (n : Name) → name_of_key (name_key n) ≡ fold n }
+{}
+
+/// Octets that are the key of a name are that of the name that they spell, which is in lower case.
+pub fn keys_are_of_their_names()
+    ensures key { (octets : List ℕ) → IsNameKey octets → name_key (name_of_key octets) ≡ octets }
+    ensures name { (octets : List ℕ) → IsNameKey octets → IsTrue (is_name (name_of_key octets)) }
+    ensures folded { (octets : List ℕ) → IsNameKey octets → fold (name_of_key octets) ≡ name_of_key octets }
 {}
 
 /// The key of a name that has a wire form has 504 octets at most.

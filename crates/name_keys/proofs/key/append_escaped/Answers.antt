@@ -1,4 +1,4 @@
-use Rattle.std.proofs.Common.{length, length-append, ap, sym, ◌∙◌, arith}
+use Rattle.std.proofs.Common.{length, ap, ◌∙◌, arith}
 use Rattle.std.proofs.lemmas.List.{length-set}
 use Rattle.name_keys.proofs.Spelling.{one_read}
 use Rattle.name_keys.proofs.key.append_escaped.Goals as goal

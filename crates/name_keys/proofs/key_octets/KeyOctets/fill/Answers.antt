@@ -1,4 +1,4 @@
-use Rattle.std.proofs.Common.{◌≡◌, ◌≤◌, ◌+◌, ◌++◌, ◌∙◌, List, ℕ, length, sym, ap, subst}
+use Rattle.std.proofs.Common.{◌≤◌, ◌+◌, ◌++◌, ◌∙◌, List, ℕ, length, sym, ap, subst}
 use Rattle.std.specs.Str.{str_to_ascii_lowercase}
 use Rattle.dns_name.specs.Names.{Name}
 use Rattle.name_keys.specs.NameKeys.{name_key, label_key}

@@ -1,4 +1,4 @@
-use Rattle.std.proofs.Common.{◌≡◌, ◌+◌, ◌-◌, length, length-append, sym, ap, ◌∙◌, arith}
+use Rattle.std.proofs.Common.{◌≡◌, ◌+◌, ◌-◌, length-append, ap, ◌∙◌, arith}
 use Rattle.std.specs.Str.{str_to_ascii_lowercase}
 use Rattle.name_keys.specs.NameKeys.{label_key}
 use Rattle.name_keys.proofs.Putting.{to_put, room_for_one}
