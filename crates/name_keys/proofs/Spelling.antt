@@ -1,7 +1,6 @@
 -- The name that a key spells, written label by label.
-use Rattle.std.proofs.Common.{◌≡◌, ℕ, zero, suc, ◌+◌, ◌-◌, ◌<◌, ◌≤◌, List, [], ◌∷◌, ◌++◌, length, length-append, get_or, take, drop, set, refl, sym, ap, ◌∙◌, arith, ne_eqb, Result, Ok, Err}
-use Rattle.std.specs.Prelude.{flat_map, IsTrue, OnOk, OnErr, nat_eq, false, ◌||◌}
-use Rattle.std.specs.List.{list_any}
+use Rattle.std.proofs.Common.{◌≡◌, ℕ, zero, suc, ◌+◌, ◌-◌, ◌<◌, ◌≤◌, List, [], ◌∷◌, ◌++◌, length, length-append, get_or, take, drop, set, refl, sym, ap, ◌∙◌, arith, Result, Ok, Err}
+use Rattle.std.specs.Prelude.{flat_map, IsTrue, OnOk, OnErr}
 use Rattle.std.specs.Str.{str_to_ascii_lowercase}
 use Rattle.std.proofs.lemmas.List.{drop_more, drop_all, take_more_set, append_assoc, drop_at, take_at}
 use Rattle.dns_name.specs.Names.{Name, fold, is_name, name_wire, label_wire}
@@ -96,12 +95,3 @@ room_for_root wire whole h e full =
     let long = ap length e in
     let all = length-append wire (0 ∷ []) in
     absurd (omega (arith, long, all, full, name_short whole h))
-
--- a piece without a 1 is the label's octets
-pub all_plain : (piece : List ℕ) → list_any (λ c. nat_eq c 1) piece ≡ false → label_of piece ≡ piece
-all_plain [] h = refl
-all_plain (zero ∷ piece) h = ap (λ l. 0 ∷ l) (all_plain piece h)
-all_plain (suc zero ∷ piece) h = absurd (cc h)
-all_plain (suc (suc c) ∷ piece) h =
-    let other : nat_eq (suc (suc c)) 1 ≡ false = ne_eqb (suc (suc c)) 1 (λ e. absurd (omega (arith, e))) in
-    ap (λ l. suc (suc c) ∷ l) (all_plain piece (ap (λ b. b || list_any (λ d. nat_eq d 1) piece) (sym other) ∙ h))

@@ -171,19 +171,6 @@ fn append_label(wire: &mut NameOctets, piece: &[u8])
     requires room { length wire.old + length (label_of piece.now) < 255 }
     ensures { wire.new ≡ wire.old ++ length (label_of piece.now) ∷ label_of piece.now }
 {
-    if piece.contains(&1) {
-        append_escaped(wire, piece);
-    } else {
-        let _ = wire.append_label(piece);
-    }
-}
-
-/// The same, octet by octet, of a piece that has a 1.
-fn append_escaped(wire: &mut NameOctets, piece: &[u8])
-    requires label { length (label_of piece.now) ≤ 63 }
-    requires room { length wire.old + length (label_of piece.now) < 255 }
-    ensures { wire.new ≡ wire.old ++ length (label_of piece.now) ∷ label_of piece.now }
-{
     let mut label = [0; 63];
     let mut len = 0;
     let mut at = 0;
