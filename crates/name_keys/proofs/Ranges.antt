@@ -1,5 +1,5 @@
 -- The keys at or below a name are a range.
-use Rattle.std.proofs.Common.{◌≡◌, ◌↔◌, ℕ, zero, suc, ◌-◌, ◌<◌, false, List, [], ◌∷◌, ◌++◌, length, length-append, take, refl, sym, ap, subst, ◌∙◌, arith, nat_cmp, Less, Equal}
+use Rattle.std.proofs.Common.{◌≡◌, ◌≤◌, ◌↔◌, ℕ, zero, suc, ◌-◌, ◌<◌, false, List, [], ◌∷◌, ◌++◌, length, length-append, take, refl, sym, ap, subst, ◌∙◌, arith, nat_cmp, Less, Equal}
 use Rattle.std.specs.Prelude.{flat_map, IsTrue}
 use Rattle.std.specs.Ordering.{ordering_then, is_gt}
 use Rattle.std.specs.declared.cmp.Ordering.{Ordering}
@@ -56,6 +56,15 @@ pub ends : (label : List ℕ) (m : Name) → (p : List ℕ) × (name_key (label 
 ends label m =
     let octets = flat_map octet_key (str_to_ascii_lowercase label) in
     (name_key m ++ octets, last_label label m ∙ sym (append_assoc (name_key m) octets (0 ∷ [])))
+
+-- so it has an octet
+pub some_octet : (n : Name) → (n ≡ [] → ⊥) → 1 ≤ length (name_key n)
+some_octet [] h = absurd (h refl)
+some_octet (label ∷ m) h =
+    let (p, e) = ends label m in
+    let long = ap length e in
+    let both = length-append p (0 ∷ []) in
+    omega (arith, long, both)
 
 end_is : (key p : List ℕ) → key ≡ p ++ 0 ∷ [] → key_end key ≡ p ++ 1 ∷ []
 end_is key p e =

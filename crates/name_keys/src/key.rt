@@ -2,7 +2,7 @@
 ghost use Rattle.std.specs.Prelude.{◌≡◌, ◌≤◌, ◌∷◌, ◌++◌, [], ◌<◌, ◌+◌, ◌-◌, ◌≢◌, ℕ, List, IfOk, IsTrue, MatchOption, length, drop, slice_index};
 ghost use Rattle.std.specs.Box.{boxed_slice_items};
 ghost use Rattle.dns_name.specs.Names.{is_name, fold, under};
-ghost use Rattle.name_keys.specs.NameKeys.{IsNameKey, label_of, name_key, name_of_key};
+ghost use Rattle.name_keys.specs.NameKeys.{IsNameKey, label_of, name_key, name_of_key, key_end};
 
 use crate::key_octets::KeyOctets;
 use dns_name::{KeyName, Labelled, Name, NameOctets};
@@ -115,6 +115,17 @@ impl<Octs: AsSlice<u8>> Key<Octs> {
         ensures name { IsTrue (is_name self.now) }
     {
         BoxedSlice::from_slice(alloc, self.as_slice())
+    }
+
+    /// Where the keys of the names at or below this one end, which isn't the root: the bound that a map's range excludes.
+    pub fn to_boxed_end(&self, alloc: Global) -> Result<BoxedSlice<u8>, AllocError>
+        requires { self.now ≢ [] }
+        ensures { IfOk result (λ b. boxed_slice_items b ≡ key_end (name_key self.now)) }
+    {
+        let octets = self.as_slice();
+        let mut end = Vec::from_slice(alloc, &octets[..octets.len() - 1])?;
+        end.push(1)?;
+        Ok(end.into_boxed_slice())
     }
 }
 

@@ -3,7 +3,7 @@
 //!
 //! The key of a name is its labels in lower case, from the right and without the root label, each ended by a 0; within
 //! a label the octets 0 and 1 are written 1 1 and 1 2. `NameKey` is a key in place, `NameKeyRef` one whose octets are lent, as by
-//! a map. A test:
+//! a map. For example:
 //!
 //! ```rust
 //! use dns_name::NameRef;
