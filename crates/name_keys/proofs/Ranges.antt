@@ -7,7 +7,7 @@ use Rattle.std.specs.Str.{str_to_ascii_lowercase}
 use Rattle.std.proofs.lemmas.Cmp.{ranked, by_ranked}
 use Rattle.std.proofs.lemmas.List.{take_at, append_assoc}
 use Rattle.dns_name.specs.Names.{Name, under}
-use Rattle.name_keys.specs.NameKeys.{octet_key, name_key, key_end}
+use Rattle.name_keys.specs.NameKeys.{IsInKeyRange, octet_key, name_key, key_end}
 use Rattle.name_keys.proofs.Octets.{last_label}
 use Rattle.name_keys.proofs.KeyOrder.{cmp, greater_first, same_first}
 use Rattle.name_keys.proofs.Nesting.{Begins, under_by_keys}
@@ -72,11 +72,7 @@ end_is key p e =
     let both = length-append p (0 ∷ []) in
     ap (λ k. take (length key - 1) k ++ 1 ∷ []) e ∙ ap (λ k. k ++ 1 ∷ []) (take_at p (0 ∷ []) (length key - 1) (omega (arith, long, both)))
 
--- the bounds of a map's range
-abbrev pub InRange : List ℕ → List ℕ → Type 0
-InRange key s = (is_gt (cmp key s) ≡ false) × (cmp s (key_end key) ≡ Less)
-
-pub begins_in_range : (s label : List ℕ) (m : Name) → Begins s (name_key (label ∷ m)) ↔ InRange (name_key (label ∷ m)) s
+pub begins_in_range : (s label : List ℕ) (m : Name) → Begins s (name_key (label ∷ m)) ↔ IsInKeyRange (name_key (label ∷ m)) s
 begins_in_range s label m =
     let (p, e) = ends label m in
     let f = end_is (name_key (label ∷ m)) p e in (
@@ -86,7 +82,7 @@ begins_in_range s label m =
           (r.0, r.1 ∙ ap (λ k. k ++ r.0) (sym e)),
     )
 
-pub under_in_range : (n : Name) (label : List ℕ) (m : Name) → IsTrue (under n (label ∷ m)) ↔ InRange (name_key (label ∷ m)) (name_key n)
+pub under_in_range : (n : Name) (label : List ℕ) (m : Name) → IsTrue (under n (label ∷ m)) ↔ IsInKeyRange (name_key (label ∷ m)) (name_key n)
 under_in_range n label m =
     let u = under_by_keys n (label ∷ m) in
     let b = begins_in_range (name_key n) label m in

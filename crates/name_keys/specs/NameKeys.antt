@@ -1,5 +1,8 @@
 -- Names as strings of octets whose order, octet by octet, is canonical order (RFC 4034, 6.1; RFC 4343, 3).
-use Rattle.std.specs.Prelude.{◌≡◌, ℕ, zero, suc, ◌+◌, ◌-◌, nat_lt, List, [], ◌∷◌, ◌++◌, length, take, reverse, map, flat_map, IsTrue, if◌then◌else◌}
+use Rattle.std.specs.Prelude.{◌≡◌, ℕ, zero, suc, ◌+◌, ◌-◌, nat_lt, List, [], ◌∷◌, ◌++◌, length, false, take, reverse, map, flat_map, IsTrue, if◌then◌else◌}
+use Rattle.std.specs.Ordering.{nat_cmp, is_gt}
+use Rattle.std.specs.declared.cmp.Ordering.TheVariants.{Less}
+use Rattle.std.specs.Cmp.Lexicographic.{slice_cmp}
 use Rattle.dns_name.specs.Names.{Name, fold, is_name}
 
 -- an octet of a label within a key: 0 as 1 1 and 1 as 1 2, so that 0 is free to end a label, and any other as itself
@@ -46,3 +49,7 @@ IsNameKey octets = (name : Name) × IsTrue (is_name name) × (name_key name ≡ 
 -- the first string after all that begin with these octets, of which the last is a 0: a 1 in its place
 abbrev pub key_end : List ℕ → List ℕ
 key_end octets = take (length octets - 1) octets ++ 1 ∷ []
+
+-- what a map's range holds from a key on, included, up to its end, excluded
+abbrev pub IsInKeyRange : List ℕ → List ℕ → Type 0
+IsInKeyRange key s = (is_gt (slice_cmp nat_cmp key s) ≡ false) × (slice_cmp nat_cmp s (key_end key) ≡ Less)

@@ -33,7 +33,8 @@ impl<Octs: AsSlice<u8>> Model for Key<Octs> {
 
     ghost view = { λ k. name_of_key (Octs.items k.octets) };
 
-    ghost invariant = { λ k. IsTrue (is_name (name_of_key (Octs.items k.octets))) × (name_key (name_of_key (Octs.items k.octets)) ≡ Octs.items k.octets) };
+    ghost invariant = { λ k. IsTrue (is_name (name_of_key (Octs.items k.octets)))
+        × (name_key (name_of_key (Octs.items k.octets)) ≡ Octs.items k.octets) };
 }
 
 impl Key<KeyOctets> {
@@ -117,7 +118,8 @@ impl<Octs: AsSlice<u8>> Key<Octs> {
         BoxedSlice::from_slice(alloc, self.as_slice())
     }
 
-    /// Where the keys of the names at or below this one end, which isn't the root: the bound that a map's range excludes.
+    /// Where the keys of the names at or below this one end, which isn't the root: the bound that a map's
+    /// range excludes.
     pub fn to_boxed_end(&self, alloc: Global) -> Result<BoxedSlice<u8>, AllocError>
         requires { self.now ≢ [] }
         ensures { IfOk result (λ b. boxed_slice_items b ≡ key_end (name_key self.now)) }

@@ -1,11 +1,10 @@
 // Laws of the definitions, each the contract of a function with an empty body.
-ghost use Rattle.std.specs.Prelude.{◌≡◌, ◌≤◌, ◌↔◌, ◌∷◌, ◌++◌, ℕ, List, length, eqb, IsTrue, false};
+ghost use Rattle.std.specs.Prelude.{◌≡◌, ◌≤◌, ◌↔◌, ◌∷◌, ◌++◌, ℕ, List, length, eqb, IsTrue};
 ghost use Rattle.std.specs.List.{starts_with};
-ghost use Rattle.std.specs.Ordering.{nat_cmp, is_gt};
-ghost use Rattle.std.specs.declared.cmp.Ordering.TheVariants.{Less};
+ghost use Rattle.std.specs.Ordering.{nat_cmp};
 ghost use Rattle.std.specs.Cmp.Lexicographic.{slice_cmp};
 ghost use Rattle.dns_name.specs.Names.{Name, is_name, fold, same_name, under, canonical_cmp};
-ghost use Rattle.name_keys.specs.NameKeys.{IsNameKey, name_key, name_of_key, key_end};
+ghost use Rattle.name_keys.specs.NameKeys.{IsNameKey, IsInKeyRange, name_key, name_of_key};
 
 /// The order of keys as strings of octets is canonical order of the names (RFC 4034, 6.1).
 pub fn keys_compare_as_names()
@@ -23,14 +22,13 @@ pub fn keys_begin_with_those_above()
     ensures rest { (n m : Name) → IsTrue (under n m) ↔ ((rest : List ℕ) × (name_key n ≡ name_key m ++ rest)) }
 {}
 
-/// The strings that begin with the key of a name that isn't the root's, and so the keys of the names at or below it, are those from
-/// the key on up to, and without, its `key_end`: a map's range from the one, included, to the other, excluded.
+/// The strings that begin with the key of a name that isn't the root's, and so the keys of the names at or
+/// below it, are those of a map's range: from the key on, included, up to its `key_end`, excluded.
 pub fn keys_under_a_name_are_a_range()
-    ensures strings { (s : List ℕ) (label : List ℕ) (m : Name) → ((rest : List ℕ) × (s ≡ name_key (label ∷ m) ++ rest))
-        ↔ ((is_gt (slice_cmp nat_cmp (name_key (label ∷ m)) s) ≡ false) × (slice_cmp nat_cmp s (key_end (name_key (label ∷ m))) ≡ Less)) }
-    ensures names { (n : Name) (label : List ℕ) (m : Name) → IsTrue (under n (label ∷ m))
-        ↔ ((is_gt (slice_cmp nat_cmp (name_key (label ∷ m)) (name_key n)) ≡ false)
-        × (slice_cmp nat_cmp (name_key n) (key_end (name_key (label ∷ m))) ≡ Less)) }
+    ensures strings { (s label : List ℕ) (m : Name)
+        → ((rest : List ℕ) × (s ≡ name_key (label ∷ m) ++ rest)) ↔ IsInKeyRange (name_key (label ∷ m)) s }
+    ensures names { (n : Name) (label : List ℕ) (m : Name)
+        → IsTrue (under n (label ∷ m)) ↔ IsInKeyRange (name_key (label ∷ m)) (name_key n) }
 {}
 
 /// A key spells its name in lower case.
