@@ -1,0 +1,9 @@
+pub mod Octets
+pub mod KeyOrder
+pub mod Reading
+pub mod Nesting
+pub mod Ranges
+pub mod Bounds
+pub mod Putting
+pub mod Parents
+pub mod Spelling

@@ -1,0 +1,2 @@
+pub mod NameKeys
+pub mod RfcNames
