@@ -2,6 +2,7 @@
 use Rattle.std.proofs.Common.{◌≡◌, ℕ, zero, suc, ◌≤◌, ◌<◌, Bool, true, false, not, List, [], ◌∷◌, ◌++◌, take, drop, length, refl, sym, ap, ◌∙◌, subst, true≢false, append_assoc, take-append-drop, Option, Some, None, is_some, Result, Ok, Err, OnOk, OnErr, option_to_list, slice_get, Ordering, Less, Equal, Greater, is_lt, is_eq, arith}
 use Rattle.std.specs.List.{AllByRecursion}
 use Rattle.std.specs.declared.sync.Arc.{Arc}
+use Rattle.std.specs.Arc.{arc_value}
 use Rattle.std.specs.BTreeMap.{insert_entry, is_at}
 use Rattle.std.specs.Map.{lookup, remove_entry}
 use Rattle.std.proofs.lemmas.List.{take_all, drop_all}
@@ -115,3 +116,25 @@ module _ {V Z E : Type 0} (old new : List (Arc (List (List ℕ × V)) Z)) where
   pub sound_by : (r : Result (Unit {0}) E) (es : List (List ℕ × V)) → AreFit (values_in new) → OnOk r (entries_of new ≡ es) → Ascend es → OnErr r (values_in new ≡ values_in old) → Ascend (entries_of old) → IsSound new
   sound_by (Ok x) es fit ok made err was = (fit, subst Ascend (sym ok) made)
   sound_by (Err x) es fit ok made err was = (fit, subst (λ ps. Ascend (joined ps)) (sym err) was)
+
+module _ {V : Type 0} where
+  -- from the first place on stand all entries
+  pub all_after : (ps : List (List (List ℕ × V))) → after ps (record { page = 0; at = 0 }) ≡ joined ps
+  all_after [] = refl
+  all_after (p ∷ ps) = refl
+
+  pub within_start : (ps : List (List (List ℕ × V))) → IsWithin ps (record { page = 0; at = 0 })
+  within_start ps = (omega arith, λ h. h)
+
+  abbrev has_none : List (List ℕ × V) → Bool
+  has_none [] = true
+  has_none (e ∷ es) = false
+
+  -- pages have no entries only where there are none
+  pub empty_pages : {Z : Type 0} (pages : List (Arc (List (List ℕ × V)) Z)) → AreFit (values_in pages) → entries_of pages ≡ [] → pages ≡ []
+  empty_pages [] f h = refl
+  empty_pages (p ∷ pages) f h = absurd (by (arc_value p) f.0.0 h)
+    where
+      by : (es : List (List ℕ × V)) → 0 < length es → es ++ joined (values_in pages) ≡ [] → ⊥
+      by [] l h = omega (arith, l)
+      by (e ∷ es) l h = true≢false (sym (ap has_none h))
