@@ -1,0 +1,7 @@
+pub mod MarkOrder
+pub mod Orders
+pub mod Places
+pub mod Shared
+pub mod PageEdits
+pub mod Keys
+pub mod Cuts

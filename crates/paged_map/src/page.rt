@@ -1,0 +1,182 @@
+// The pages of a map: entries in order, each shared by the pages that have it.
+ghost use Rattle.std.specs.Prelude.{◌≡◌, ◌+◌, ◌-◌, ◌<◌, ◌≤◌, ◌++◌, [], ◌∷◌, false, true, length, take, drop, IfOk, IfErr, OnOk, OnErr, IsTrue, ◌↔◌, insert, remove, slice_set, slice_get, option_map};
+ghost use Rattle.std.specs.List.{AllByRecursion};
+ghost use Rattle.std.specs.Arc.{arc_value};
+ghost use Rattle.std.specs.Box.{boxed_slice_items};
+ghost use Rattle.std.specs.Slice.Iter.{iter_rest};
+ghost use Rattle.paged_map.specs.Octets.{passes, reaches};
+ghost use Rattle.paged_map.specs.Pages.{Ascend, Passed, Ahead, first_key, values_in};
+
+use crate::marks::Mark;
+use std::alloc::{AllocError, Global};
+use std::boxed::BoxedSlice;
+use std::marker::Model;
+use std::slice::Iter;
+use std::sync::Arc;
+
+/// A key and its value.
+#[derive(Drop)]
+pub(crate) struct Entry<V> {
+    key: BoxedSlice<u8>,
+    value: V,
+}
+
+impl<V> Model for Entry<V> {
+    ghost use Rattle.std.specs.Prelude.{ℕ, List};
+    ghost use Rattle.std.specs.Box.{boxed_slice_items};
+
+    ghost Value = { List ℕ × V };
+
+    ghost view = { λ e. (boxed_slice_items e.key, e.value) };
+}
+
+impl<V> Entry<V> {
+    pub(crate) fn new(key: BoxedSlice<u8>, value: V) -> Entry<V>
+        ensures { result ≡ (boxed_slice_items key, value) }
+    {
+        Entry { key, value }
+    }
+
+    pub(crate) fn key(&self) -> &[u8]
+        ensures { result.now ≡ self.now.0 }
+    {
+        self.key.as_slice()
+    }
+
+    pub(crate) fn value(&self) -> &V
+        ensures { result.now ≡ self.now.1 }
+    {
+        &self.value
+    }
+}
+
+/// Entries, their keys ascending.
+#[derive(Drop)]
+pub(crate) struct Page<V> {
+    entries: Vec<Arc<Entry<V>>>,
+}
+
+impl<V> Model for Page<V> {
+    ghost use Rattle.std.specs.Prelude.{ℕ, List, map};
+    ghost use Rattle.std.specs.Arc.{arc_value};
+
+    ghost Value = { List (List ℕ × V) };
+
+    ghost view = { λ p. map arc_value p.entries.items };
+}
+
+impl<V> Page<V> {
+    /// Whether it begins at a key from where it reaches to a mark. It has entries.
+    pub(crate) fn reaches(&self, mark: Mark<'_>) -> bool
+        ensures { result ≡ reaches mark.entry (first_key self.now) }
+    {
+        match self.entries.first() {
+            Some(entry) => mark.reaches(entry.key()),
+            None => mark.reaches(b"".as_slice()),
+        }
+    }
+
+    /// How many of its entries stand before a mark.
+    pub(crate) fn count_before(&self, mark: Mark<'_>) -> usize
+        requires { Ascend self.now }
+        ensures bound { result ≤ length self.now }
+        ensures passed { Passed mark.entry (take result self.now) }
+        ensures ahead { Ahead mark.entry (drop result self.now) }
+    {
+        self.entries.partition_point(
+            |entry: &Arc<Entry<V>>| -> bool
+                ensures { result ≡ passes mark.entry (arc_value entry.now).0 }
+            { mark.passes(entry.key()) },
+        )
+    }
+
+    /// How many entries it has.
+    pub(crate) fn len(&self) -> usize
+        ensures { result ≡ length self.now }
+    {
+        self.entries.len()
+    }
+
+    /// The entry at a place, if there is one.
+    pub(crate) fn get(&self, at: usize) -> Option<&Entry<V>>
+        ensures { option_map (λ e. e.now) result ≡ slice_get self.now at }
+    {
+        match self.entries.get(at) {
+            Some(entry) => Some(&**entry),
+            None => None,
+        }
+    }
+
+    /// Its entries from a place on.
+    pub(crate) fn iter_from(&self, at: usize) -> Iter<'_, Arc<Entry<V>>>
+        requires { at ≤ length self.now }
+        ensures { values_in (iter_rest result) ≡ drop at self.now }
+    {
+        self.entries[at..].iter()
+    }
+}
+
+// New pages, and edits of one.
+impl<V: Drop> Page<V> {
+    /// A page of one entry.
+    pub(crate) fn of_one(alloc: Global, entry: Arc<Entry<V>>) -> Result<Page<V>, AllocError>
+        ensures { IfOk result (λ p. p ≡ arc_value entry ∷ []) }
+    {
+        let mut entries = Vec::new(alloc);
+        entries.push(entry)?;
+        Ok(Page { entries })
+    }
+
+    /// The entries before one place and those from another on.
+    pub(crate) fn without(
+        &self,
+        alloc: Global,
+        from: usize,
+        to: usize,
+    ) -> Result<Page<V>, AllocError>
+        requires from { from ≤ length self.now }
+        requires to { to ≤ length self.now }
+        ensures { IfOk result (λ p. p ≡ take from self.now ++ drop to self.now) }
+    {
+        let mut entries = Vec::new(alloc);
+        entries.extend_with_clones(&self.entries[..from])?;
+        entries.extend_with_clones(&self.entries[to..])?;
+        Ok(Page { entries })
+    }
+
+    /// Puts an entry at a place, before those from there on. Without memory all is as before.
+    pub(crate) fn insert(&mut self, at: usize, entry: Arc<Entry<V>>) -> Result<(), AllocError>
+        requires { at ≤ length self.old }
+        ensures ok { OnOk result (self.new ≡ insert self.old at (arc_value entry)) }
+        ensures err { OnErr result (self.new ≡ self.old) }
+    {
+        self.entries.insert(at, entry)?;
+        Ok(())
+    }
+
+    /// Puts an entry in place of the one at a place.
+    pub(crate) fn replace(&mut self, at: usize, entry: Arc<Entry<V>>)
+        requires { at < length self.old }
+        ensures { self.new ≡ slice_set self.old at (arc_value entry) }
+    {
+        self.entries[at] = entry;
+    }
+
+    /// Takes the entry at a place out.
+    pub(crate) fn remove(&mut self, at: usize)
+        requires { at < length self.old }
+        ensures { self.new ≡ remove self.old at }
+    {
+        drop(self.entries.remove(at));
+    }
+}
+
+impl<V: Drop> Clone for Page<V> {
+    ghost is_clone = { λ s copy. copy ≡ s };
+
+    fn clone(&self) -> Result<Page<V>, AllocError> {
+        Ok(Page {
+            entries: self.entries.clone()?,
+        })
+    }
+}
