@@ -1,0 +1,14 @@
+pub mod Flat
+pub mod Above
+pub mod Kept
+pub mod Existing
+pub mod Grown
+pub mod Shrunk
+pub mod Counted
+pub mod Keeping
+pub mod Scan
+pub mod Named
+pub mod Upwards
+pub mod Edited
+pub mod Told
+pub mod Few

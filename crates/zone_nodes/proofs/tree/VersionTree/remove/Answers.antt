@@ -1,0 +1,22 @@
+use Rattle.std.proofs.Common.{◌≡◌, true, sym, ap, ◌∙◌, subst}
+use Rattle.dns_name.specs.Names.{under}
+use Rattle.zone_model.specs.Edits.{remove_set}
+use Rattle.zone_nodes.specs.Held.{counted}
+use Rattle.zone_nodes.specs.Trees.{built}
+use Rattle.zone_nodes.specs.Ways.{version_of}
+use Rattle.zone_nodes.proofs.Edited.{remove_result, remove_view, remove_built}
+use Rattle.zone_nodes.proofs.Named.{on_ok, on_both}
+use Rattle.zone_nodes.proofs.tree.VersionTree.remove.Goals as goal
+
+pub invariant_of-self : goal.invariant_of-self
+invariant_of-self c = remove_result c.self.inside.apex c.self.inside.class c.self.inside.nodes c.self.invariant c.args.owner.now c.as_slice.ensures.folded c.args.rtype (subst (λ v. under c.args.owner.now v.apex ≡ true) (sym c.self.view_is) c.requires) c.borrowed.result (c.borrowed.ensures.value ∙ c.of_name-apex.ensures) c.remove_set.new.nodes c.remove_set.result c.remove_set.ensures.ok c.remove_set.ensures.err
+
+pub returns-clause-ok : goal.returns-clause-ok
+returns-clause-ok c =
+    on_ok c.remove_set.result (λ e. remove_view c.self.inside.apex c.self.inside.class c.self.inside.nodes c.self.invariant c.args.owner.now c.as_slice.ensures.folded c.args.rtype (subst (λ v. under c.args.owner.now v.apex ≡ true) (sym c.self.view_is) c.requires) c.borrowed.result (c.borrowed.ensures.value ∙ c.of_name-apex.ensures) c.remove_set.new.nodes e ∙ ap (λ v. remove_set v c.args.owner.now c.args.rtype) c.self.view_is) c.remove_set.ensures.ok
+
+pub returns-clause-steps : goal.returns-clause-steps
+returns-clause-steps c =
+    on_both c.remove_set.result
+    (λ e h. h ∙ ap (counted c.args.steps.now) (sym (remove_built c.self.inside.apex c.self.inside.class c.self.inside.nodes c.self.invariant c.args.owner.now c.as_slice.ensures.folded c.args.rtype (subst (λ v. under c.args.owner.now v.apex ≡ true) (sym c.self.view_is) c.requires) c.borrowed.result (c.borrowed.ensures.value ∙ c.of_name-apex.ensures) c.remove_set.new.nodes e) ∙ ap (λ v. built v (version_of c.self.inside.apex c.self.inside.class c.remove_set.new.nodes) c.args.owner.now c.args.rtype) c.self.view_is))
+    c.remove_set.ensures.ok c.remove_set.ensures.steps

@@ -1,0 +1,41 @@
+-- What nodes hold, as it is kept and told.
+use Rattle.std.specs.Prelude.{ℕ, ◌+◌, ◌-◌, ◌^◌, Bool, ◌==◌, min, List, map, Option, option_map, IsTrue}
+use Rattle.std.specs.List.{list_all}
+use Rattle.std.specs.Ordering.{nat_cmp}
+use Rattle.std.specs.BTreeMap.{is_at}
+use Rattle.std.specs.Map.{lookup}
+use Rattle.zone_model.specs.Version.{RecordSet}
+use Rattle.zone_values.specs.TypedSets.{TypedSet}
+use Rattle.zone_nodes.specs.Trees.{NodeSets, IsHeld}
+
+-- a set with its type
+abbrev pub typed : ℕ → RecordSet → TypedSet
+typed rtype s = record { rtype = rtype; contents = s }
+
+-- a node's set of a type, with it
+abbrev pub typed_set_of : NodeSets → ℕ → Option TypedSet
+typed_set_of held rtype = option_map (typed rtype) (lookup (is_at (nat_cmp rtype)) held)
+
+-- a node's sets in order, with their types
+abbrev pub typed_sets : NodeSets → List TypedSet
+typed_sets held = map (λ (e : ℕ × RecordSet). typed e.0 e.1) held
+
+-- sets with their types at types, as a node keeps them
+abbrev pub Kept : Type 0
+Kept = List (ℕ × TypedSet)
+
+-- without the types of the sets
+abbrev pub held_of : Kept → NodeSets
+held_of kept = map (λ (e : ℕ × TypedSet). (e.0, e.1.contents)) kept
+
+-- whether each set is of the type at which it is kept
+abbrev pub own_types : Kept → Bool
+own_types kept = list_all (λ (e : ℕ × TypedSet). e.1.rtype == e.0) kept
+
+-- what a node keeps
+abbrev pub IsKept : Kept → Type 0
+IsKept kept = IsTrue (own_types kept) × IsHeld (held_of kept)
+
+-- the count of nodes after so many more, which stays at the greatest number
+abbrev pub counted : ℕ → ℕ → ℕ
+counted count more = min (count + more) (2 ^ 64 - 1)

@@ -1,0 +1,5 @@
+pub mod Trees
+pub mod Ways
+pub mod Held
+pub mod Keyed
+pub mod Rows

@@ -1,0 +1,178 @@
+// Nodes, and how many were built.
+ghost use Rattle.std.specs.Prelude.{◌≡◌, ◌≤◌, ◌==◌, [], ◌∷◌, length, IfOk, OnOk, OnErr, option_copied, map};
+ghost use Rattle.std.specs.Ordering.{nat_cmp};
+ghost use Rattle.std.specs.BTreeMap.{insert_entry, is_at};
+ghost use Rattle.std.specs.Map.{remove_entry};
+ghost use Rattle.zone_nodes.specs.Held.{typed_set_of, typed_sets, held_of, IsKept, counted};
+ghost use Rattle.zone_nodes.specs.Trees.{IsHeld};
+
+use dns_name::Rtype;
+use std::alloc::{AllocError, Global};
+use std::collections::BTreeMap;
+use std::collections::btree_map::Values;
+use std::marker::Model;
+use zone_values::{Rrset, SharedRrset};
+
+/// How many nodes were built. It stays at the greatest number of 64 bits once it is there.
+#[derive(Debug, Drop)]
+pub struct NodeCount {
+    nodes: u64,
+}
+
+impl Model for NodeCount {
+    ghost use Rattle.std.specs.Prelude.{ℕ, ◌<◌, ◌^◌};
+
+    ghost Value = { ℕ };
+
+    ghost view = { λ c. c.nodes };
+}
+
+impl NodeCount {
+    /// None.
+    pub fn new() -> NodeCount
+        ensures { result ≡ 0 }
+    {
+        NodeCount { nodes: 0 }
+    }
+
+    /// The number.
+    pub fn get(&self) -> u64
+        ensures { result ≡ self.now }
+    {
+        self.nodes
+    }
+
+    /// One more.
+    fn add_one(&mut self)
+        ensures { self.new ≡ counted self.old 1 }
+    {
+        self.nodes = self.nodes.saturating_add(1);
+    }
+}
+
+/// The node of a name: its RRsets by type, none of them empty (RFC 2181, 5). A node doesn't change: an edit builds another.
+#[derive(Drop)]
+pub struct ZoneNode {
+    sets: BTreeMap<Rtype, SharedRrset>,
+}
+
+impl Model for ZoneNode {
+    ghost use Rattle.zone_nodes.specs.Trees.{NodeSets};
+    ghost use Rattle.zone_nodes.specs.Held.{held_of, IsKept};
+
+    ghost Value = { NodeSets };
+
+    ghost view = { λ n. held_of n.sets.entries };
+
+    ghost invariant = { λ n. IsKept n.sets.entries };
+}
+
+impl ZoneNode {
+    /// A node of these RRsets. Each node is built here.
+    fn build(steps: &mut NodeCount, sets: BTreeMap<Rtype, SharedRrset>) -> ZoneNode
+        requires { IsKept sets.entries }
+        ensures is { result ≡ held_of sets.entries }
+        ensures steps { steps.new ≡ counted steps.old 1 }
+    {
+        steps.add_one();
+        ZoneNode { sets }
+    }
+
+    /// A node without RRsets.
+    pub(crate) fn empty(alloc: Global, steps: &mut NodeCount) -> ZoneNode
+        ensures is { result ≡ [] }
+        ensures steps { steps.new ≡ counted steps.old 1 }
+    {
+        ZoneNode::build(steps, BTreeMap::new(alloc))
+    }
+
+    /// A node of one RRset, of this type and not empty.
+    pub(crate) fn of_one(
+        alloc: Global,
+        rtype: Rtype,
+        set: SharedRrset,
+        steps: &mut NodeCount,
+    ) -> Result<ZoneNode, AllocError>
+        requires own { set.rtype ≡ rtype }
+        requires full { 1 ≤ length set.contents.items }
+        ensures is { IfOk result (λ n. n ≡ (rtype, set.contents) ∷ []) }
+        ensures steps { OnOk result (steps.new ≡ counted steps.old 1) }
+        ensures err { OnErr result (steps.new ≡ steps.old) }
+    {
+        let mut sets = BTreeMap::new(alloc);
+        drop(sets.insert(rtype, set)?);
+        Ok(ZoneNode::build(steps, sets))
+    }
+
+    /// The node with an RRset in place of the one of its type. The RRset is of this type and not empty.
+    pub(crate) fn with(
+        &self,
+        rtype: Rtype,
+        set: SharedRrset,
+        steps: &mut NodeCount,
+    ) -> Result<ZoneNode, AllocError>
+        requires own { set.rtype ≡ rtype }
+        requires full { 1 ≤ length set.contents.items }
+        ensures is { IfOk result (λ n. n ≡ insert_entry nat_cmp self.now rtype set.contents) }
+        ensures steps { OnOk result (steps.new ≡ counted steps.old 1) }
+        ensures err { OnErr result (steps.new ≡ steps.old) }
+    {
+        let mut sets = copied(&self.sets)?;
+        drop(sets.insert(rtype, set)?);
+        Ok(ZoneNode::build(steps, sets))
+    }
+
+    /// The node without the RRset of a type.
+    pub(crate) fn without(
+        &self,
+        rtype: Rtype,
+        steps: &mut NodeCount,
+    ) -> Result<ZoneNode, AllocError>
+        ensures is { IfOk result (λ n. n ≡ remove_entry (is_at (nat_cmp rtype)) self.now) }
+        ensures steps { OnOk result (steps.new ≡ counted steps.old 1) }
+        ensures err { OnErr result (steps.new ≡ steps.old) }
+    {
+        let mut sets = copied(&self.sets)?;
+        drop(sets.remove(&rtype));
+        Ok(ZoneNode::build(steps, sets))
+    }
+
+    /// The RRset of a type.
+    pub fn get(&self, rtype: Rtype) -> Option<&Rrset>
+        ensures { option_copied result ≡ typed_set_of self.now rtype }
+    {
+        match self.sets.get(&rtype) {
+            Some(set) => Some(set.as_rrset()),
+            None => None,
+        }
+    }
+
+    /// The RRsets by type, ascending.
+    pub fn iter(&self) -> Values<'_, Rtype, SharedRrset>
+        ensures is { result ≡ typed_sets self.now }
+        ensures held { IsHeld self.now }
+    {
+        self.sets.values()
+    }
+
+    /// How many RRsets there are.
+    pub fn len(&self) -> usize
+        ensures { result ≡ length self.now }
+    {
+        self.sets.len()
+    }
+
+    /// Whether there are no RRsets.
+    pub fn is_empty(&self) -> bool
+        ensures { result ≡ (length self.now == 0) }
+    {
+        self.sets.len() == 0
+    }
+}
+
+/// A copy of a node's RRsets, which shares them.
+fn copied(sets: &BTreeMap<Rtype, SharedRrset>) -> Result<BTreeMap<Rtype, SharedRrset>, AllocError>
+    ensures { IfOk result (λ copy. copy.entries ≡ sets.now.entries) }
+{
+    sets.clone()
+}
