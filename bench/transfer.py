@@ -283,8 +283,8 @@ def sizes(bench, name):
         )
 
 
-def doublings(bench, name, counts):
-    print(f"{'records':>8} {'ms':>9} {'growth':>7} {'heap, octets':>13} {'growth':>7} {'instructions':>13} {'growth':>7}")
+def doublings(bench, name, counts, what="records"):
+    print(f"{what:>8} {'ms':>9} {'growth':>7} {'heap, octets':>13} {'growth':>7} {'instructions':>13} {'growth':>7}")
     base = bench.measured(name, 0)
     before = None
     for count in counts:
@@ -329,7 +329,7 @@ def changes(bench):
     """What commits cost that go over as differences, by their number and by the zone's."""
     for count in [16, 64]:
         bench.checked("1000", count)
-    doublings(bench, "1000", [16, 32, 64, 128])
+    doublings(bench, "1000", [16, 32, 64, 128], "commits")
     print()
     print(f"{'owners':>8} {'ms':>9} {'growth':>7} {'instructions':>13} {'growth':>7}")
     before = None
