@@ -2,7 +2,7 @@
 use Rattle.std.proofs.Common.{◌≡◌, ℕ, ◌+◌, ◌-◌, ◌^◌, min, List, [], ◌∷◌, length, map, refl}
 use Rattle.zone_model.specs.Version.{Key, Sets}
 use Rattle.zone_values.specs.TypedSets.{TypedSet}
-use Rattle.zone_sets.specs.TypedEntries.{item_of}
+use Rattle.zone_values.specs.TypedEntries.{item_of}
 use Rattle.bench_edits.specs.Courses.{record_count}
 
 -- a count and the records of some sets with their type, or the greatest number

@@ -39,7 +39,7 @@ fn opened<R: Abort>(rt: &R, builder: ZoneBuilder) -> ReadZone {
 fn shown<R: Abort>(rt: &R, read: &ReadZone, owner: &[u8], rtype: Rtype) -> Option<(Ttl, usize)> {
     let owner = NameRef::from_octets(owner).expect(rt, "a name");
     let set = read.rrset_at(&owner, rtype)?;
-    Some((set.ttl(), set.items().len()))
+    Some((set.ttl(), set.data().len()))
 }
 
 /// No address.
@@ -199,7 +199,7 @@ fn refers_at_a_cut(rt: HostRuntime) {
     let cut = found.cut().expect(&rt, "a cut");
     is(&rt, cut.as_slice(), CUT);
     let signer = found.signer().expect(&rt, "a signer");
-    is(&rt, signer.items().len(), 1);
+    is(&rt, signer.data().len(), 1);
     is(&rt, count_records(found.authority()), 2);
     is(&rt, count_records(found.glue()), 1);
     drop(found);

@@ -158,7 +158,7 @@ fn gives_the_soa_of_a_version(rt: HostRuntime) {
 
 /// The serial of a version's first SOA record.
 fn serial_in(zone: &ZoneApex, read: &ReadZone) -> Option<Serial> {
-    match zone.get_soa(read)?.items().first()? {
+    match zone.get_soa(read)?.data().first()? {
         ZoneRecordData::Soa(soa) => Some(soa.serial),
         _ => None,
     }

@@ -33,7 +33,7 @@ fn servers<R: Abort>(rt: &R, alloc: Global) -> SharedRrset {
 fn count<R: Abort>(rt: &R, session: &mut WriteZone<'_>, label: &[u8], rtype: Rtype) -> usize {
     let node = child(rt, session.open(false), label);
     let count = match node.get_rrset(rtype) {
-        Some(set) => set.items().len(),
+        Some(set) => set.data().len(),
         None => 0,
     };
     drop(node);

@@ -7,8 +7,9 @@ use dns_rdata::{ReadRecord, RecordData, record_from_octets};
 use std::alloc::Global;
 use std::process::Abort;
 use xfr_client::{ZoneUpdate, ZoneUpdater, update};
-use zone_store::{EditError, ReadZone, RecordSet, WriteZone, ZoneApex, look_up};
-use zone_types::{InMemoryZoneDiff, ZoneDiff};
+use zone_store::{EditError, ReadZone, WriteZone, ZoneApex, look_up};
+use zone_types::{InMemoryZoneDiff, Rrset, ZoneDiff};
+
 
 /// `jain.ad.jp.`
 pub(crate) const JAIN: &str = "046a61696e026164026a7000";
@@ -210,11 +211,11 @@ fn answered<R: Abort>(rt: &R, alloc: Global, zone: &ReadZone, qname: &str, qtype
 }
 
 /// Appends the data of a set.
-fn push_data<R: Abort>(rt: &R, alloc: Global, text: &mut String, set: Option<&RecordSet>) {
+fn push_data<R: Abort>(rt: &R, alloc: Global, text: &mut String, set: Option<&Rrset>) {
     let Some(set) = set else {
         return;
     };
-    for item in set.items() {
+    for item in set.data() {
         let mut octets = Vec::new(alloc);
         item.compose_rdata(&mut octets).expect(rt, "memory");
         let digits = digits_of(rt, alloc, octets.as_slice());

@@ -12,7 +12,7 @@ use Rattle.dns_wire.specs.declared.builder.PushError.{PushError}
 use Rattle.zone_model.specs.Version.{RecordSet, Version, set_at}
 use Rattle.zone_model.specs.Answer.{apex_soa_record}
 use Rattle.zone_values.specs.TypedSets.{TypedSet}
-use Rattle.zone_sets.specs.TypedEntries.{typed}
+use Rattle.zone_values.specs.TypedEntries.{typed}
 use Rattle.xfr_server.specs.TransferMessage.{AddsAnswers}
 use Rattle.xfr_server.proofs.Adding.{adds_none, adds_one, adds_behind, refused_front, soa_empty, soa_first}
 

@@ -24,7 +24,7 @@ pub fn zone_serial(zone: &ReadZone) -> Option<Serial>
     ensures one { IsSome result ↔ IsTrue (has_one_apex_soa zone.now.version) }
 {
     let found = zone.rrset_at(zone.apex_name(), Rtype::SOA)?;
-    match found.items() {
+    match found.data() {
         [rdata] => Some(serial_in(rdata)),
         _ => None,
     }
@@ -90,7 +90,7 @@ fn push_soa(answer: &mut AnswerBuilder, zone: &ReadZone) -> Result<(), PushError
     let Some(found) = zone.rrset_at(zone.apex_name(), Rtype::SOA) else {
         return Ok(());
     };
-    let Some(rdata) = found.items().first() else {
+    let Some(rdata) = found.data().first() else {
         return Ok(());
     };
     let owner = zone.apex_name().borrowed();

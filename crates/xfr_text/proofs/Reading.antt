@@ -18,7 +18,7 @@ use Rattle.zone_model.specs.Walk.{Stop}
 use Rattle.zone_model.specs.Difference.{Difference}
 use Rattle.zone_model.specs.Offer.{side_soas}
 use Rattle.zone_values.specs.TypedSets.{TypedSet}
-use Rattle.zone_sets.specs.TypedEntries.{item_of, typed, typed_set_in, untyped}
+use Rattle.zone_values.specs.TypedEntries.{item_of, typed, typed_set_in, untyped}
 use Rattle.zone_versions.proofs.TypedStops.{untyped_typed}
 use Rattle.zone_diffs.specs.Kept.{holds_data}
 use Rattle.xfr_text.specs.Sides.{behind, sides_of, sides_from, without_removed}

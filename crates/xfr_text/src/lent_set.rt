@@ -2,12 +2,11 @@
 ghost use Rattle.std.specs.Prelude.{◌≡◌, All, map, take};
 ghost use Rattle.dns_rdata.specs.ZoneData.{rtype_of, data_fields};
 ghost use Rattle.zone_model.specs.Answer.{first_only};
-ghost use Rattle.zone_sets.specs.TypedEntries.{typed};
+ghost use Rattle.zone_values.specs.TypedEntries.{typed};
 
 use dns_name::{Rtype, Ttl};
 use dns_rdata::StoredRecordData;
 use std::marker::Model;
-use zone_sets::RecordSet;
 use zone_values::Rrset;
 
 /// The type, the TTL and the data of a set, lent.
@@ -31,19 +30,8 @@ impl<'t> Model for LentSet<'t> {
 }
 
 impl<'t> LentSet<'t> {
-    /// A set of a version.
-    pub(crate) fn of_version(set: &'t RecordSet) -> LentSet<'t>
-        ensures { result ≡ set.now }
-    {
-        LentSet {
-            rtype: set.rtype(),
-            ttl: set.ttl(),
-            items: set.items(),
-        }
-    }
-
-    /// A set of a difference.
-    pub(crate) fn of_difference(set: &'t Rrset) -> LentSet<'t>
+    /// A set, lent.
+    pub(crate) fn of(set: &'t Rrset) -> LentSet<'t>
         ensures { result ≡ set.now }
     {
         LentSet {

@@ -16,7 +16,7 @@ pub(crate) fn soa_place(zone: &ReadZone, part: Part) -> Option<Place>
     ensures { result ≡ soa_place zone.now.version part }
 {
     let found = zone.rrset_at(zone.apex_name(), Rtype::SOA)?;
-    if found.items().is_empty() {
+    if found.data().is_empty() {
         return None;
     }
     let apex = zone.apex_name().to_key_name();

@@ -4,7 +4,7 @@ ghost use Rattle.std.specs.Arc.{arc_value};
 ghost use Rattle.dns_name.specs.Names.{fold};
 ghost use Rattle.zone_model.specs.Version.{set_at, set_in};
 ghost use Rattle.zone_model.specs.Answer.{first_only};
-ghost use Rattle.zone_sets.specs.TypedEntries.{typed};
+ghost use Rattle.zone_values.specs.TypedEntries.{typed};
 ghost use Rattle.xfr_text.specs.Places.{set_in_part};
 ghost use Rattle.xfr_text.specs.Sides.{first_side, sides_from};
 
@@ -39,7 +39,7 @@ fn zone_set<'t>(zone: &'t ReadZone, place: &Place) -> Option<LentSet<'t>>
     ensures { result ≡ option_map (typed place.now.rtype) (set_at zone.now.version place.now.owner place.now.rtype) }
 {
     match zone.rrset_at(&place.owner, place.rtype) {
-        Some(set) => Some(LentSet::of_version(set)),
+        Some(set) => Some(LentSet::of(set)),
         None => None,
     }
 }
@@ -64,7 +64,7 @@ fn side_set<'t>(
 {
     let sets = side_sets(diffs, side)?;
     match sets.get(&SetKey::new(&place.owner, place.rtype)) {
-        Some(set) => Some(LentSet::of_difference(set.as_rrset())),
+        Some(set) => Some(LentSet::of(set.as_rrset())),
         None => None,
     }
 }

@@ -5,7 +5,7 @@ ghost use Rattle.dns_rdata.specs.Soa.{serial_of};
 ghost use Rattle.dns_rdata.specs.ZoneData.{data_fields, rtype_of};
 ghost use Rattle.zone_model.specs.Version.{apex_soa};
 ghost use Rattle.zone_model.specs.Difference.{difference, diffable, without};
-ghost use Rattle.zone_sets.specs.TypedEntries.{typed, untyped};
+ghost use Rattle.zone_values.specs.TypedEntries.{typed, untyped};
 ghost use Rattle.zone_values.specs.TypedSets.{set_of};
 ghost use Rattle.zone_changes.specs.Touched.{Covers};
 ghost use Rattle.zone_changes.specs.Changes.{folded, with_lacked, has_record, lacked_of};
@@ -16,7 +16,7 @@ use dns_rdata::StoredRecordData;
 use std::alloc::{AllocError, Global};
 use zone_diffs::{DiffSets, InMemoryZoneDiff, is_upto, serial_of};
 use zone_values::Rrset;
-use zone_versions::{RecordSet, SetKey, ZoneVersion};
+use zone_versions::{SetKey, ZoneVersion};
 
 /// The difference from one version of a zone to another (RFC 1995, 4), which is looked for at the touched keys alone. None where one of the two
 /// lacks an apex SOA record, or where the new serial is the old one or before it (RFC 1995, 2; RFC 1982, 3.2).
@@ -70,7 +70,7 @@ fn apex_serial(version: &ZoneVersion) -> Option<Serial>
     ensures { result ≡ option_map serial_of (apex_soa version.now) }
 {
     let found = version.set_at(version.apex(), Rtype::SOA)?;
-    match found.items().first() {
+    match found.data().first() {
         Some(item) => Some(serial_of(item)),
         None => None,
     }
@@ -114,11 +114,11 @@ fn put_lacked(
 }
 
 /// The records of an RRset that another one of its type lacks, or all where there is no other. Records of another TTL are others (RFC 2181, 5.2).
-fn lacked(alloc: Global, set: &RecordSet, other: Option<&RecordSet>) -> Result<Rrset, AllocError>
+fn lacked(alloc: Global, set: &Rrset, other: Option<&Rrset>) -> Result<Rrset, AllocError>
     ensures { IfOk result (λ r. r ≡ typed set.now.rtype (lacked_of (untyped (option_copied other.entry)) set.now.contents)) }
 {
     let mut left = Rrset::new(alloc, set.rtype(), set.ttl());
-    for item in set.items() {
+    for item in set.data() {
         push_unless(&mut left, item, has_record(other, set.ttl(), item))?;
     }
     Ok(left)
@@ -136,7 +136,7 @@ fn push_unless(left: &mut Rrset, item: &StoredRecordData, had: bool) -> Result<(
 }
 
 /// Whether an RRset, if there is one, has this TTL and equal data.
-fn has_record(set: Option<&RecordSet>, ttl: Ttl, item: &StoredRecordData) -> bool
+fn has_record(set: Option<&Rrset>, ttl: Ttl, item: &StoredRecordData) -> bool
     ensures { result ≡ has_record (untyped (option_copied set.entry)) ttl (data_fields item.now) }
 {
     match set {

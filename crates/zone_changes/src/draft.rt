@@ -22,7 +22,8 @@ use std::marker::Model;
 use std::sync::Arc;
 use zone_diffs::InMemoryZoneDiff;
 use zone_sets::SetKey;
-use zone_versions::{EditError, RecordSet, ZoneVersion};
+use zone_values::Rrset;
+use zone_versions::{EditError, ZoneVersion};
 
 /// A version that is edited, and the one that it began as. They agree but at the tracked keys.
 #[derive(Drop)]
@@ -120,7 +121,7 @@ impl Draft {
     }
 
     /// Puts an RRset in place of the one of its owner and type; an empty one removes that.
-    pub fn put_set(&mut self, owner: &KeyName, set: RecordSet) -> Result<(), AllocError>
+    pub fn put_set(&mut self, owner: &KeyName, set: Rrset) -> Result<(), AllocError>
         requires zone { under owner.now self.old.version.apex ≡ true }
         requires differ { all_differ set.contents.items ≡ true }
         requires alias { edits.is_bad_alias self.old.version owner.now set.rtype set.contents ≡ false }
@@ -294,11 +295,7 @@ fn set_soa(
 }
 
 /// Puts an RRset in place of the one of its owner and type.
-fn put_set(
-    pending: &mut Arc<ZoneVersion>,
-    owner: &KeyName,
-    set: RecordSet,
-) -> Result<(), AllocError>
+fn put_set(pending: &mut Arc<ZoneVersion>, owner: &KeyName, set: Rrset) -> Result<(), AllocError>
     requires zone { under owner.now (arc_value pending.old).apex ≡ true }
     requires differ { all_differ set.contents.items ≡ true }
     requires alias { edits.is_bad_alias (arc_value pending.old) owner.now set.rtype set.contents ≡ false }

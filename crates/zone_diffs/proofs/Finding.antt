@@ -3,7 +3,7 @@ use Rattle.std.proofs.Common.{◌≡◌, ℕ, ◌==◌, Bool, true, false, cond,
 use Rattle.dns_name.specs.Codes.{type_soa}
 use Rattle.zone_model.specs.Version.{RecordSet, Key, Sets}
 use Rattle.zone_values.specs.TypedSets.{TypedSet}
-use Rattle.zone_sets.specs.TypedEntries.{item_of}
+use Rattle.zone_values.specs.TypedEntries.{item_of}
 use Rattle.zone_sets.proofs.KeptTypes.{TypedEntries}
 use Rattle.zone_diffs.specs.Building.{first_serial, set_serial}
 

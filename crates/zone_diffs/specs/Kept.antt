@@ -2,7 +2,7 @@
 use Rattle.std.specs.Prelude.{Bool, ◌==◌, ◌&&◌, not, length}
 use Rattle.zone_model.specs.Version.{RecordSet, Key}
 use Rattle.zone_values.specs.TypedSets.{TypedSet}
-use Rattle.zone_sets.specs.TypedEntries.{has_own_type}
+use Rattle.zone_values.specs.TypedEntries.{has_own_type}
 
 -- whether a set is of its key's type, and has data
 abbrev pub is_kept : Key × TypedSet → Bool

@@ -3,7 +3,7 @@ ghost use Rattle.std.specs.Prelude.{◌≡◌, length, map, option_map, option_c
 ghost use Rattle.std.specs.Map.Iter.{deref_pair};
 ghost use Rattle.dns_name.specs.Names.{fold};
 ghost use Rattle.zone_model.specs.Difference.{Difference};
-ghost use Rattle.zone_sets.specs.TypedEntries.{item_of, typed_set_in};
+ghost use Rattle.zone_values.specs.TypedEntries.{item_of, typed_set_in};
 ghost use Rattle.zone_diffs.specs.Building.{no_difference};
 
 use crate::sets::DiffSets;

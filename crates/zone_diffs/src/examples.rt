@@ -1,6 +1,6 @@
 // Worked examples, proved by computation.
 ghost use Rattle.std.specs.Prelude.{◌≡◌, ◌∷◌, [], ◌^◌, codes, Some, None, Ok, Err};
-ghost use Rattle.zone_sets.specs.TypedEntries.{typed, typed_set_in};
+ghost use Rattle.zone_values.specs.TypedEntries.{typed, typed_set_in};
 ghost use Rattle.zone_diffs.specs.Building.{added_to, removed_from, built, first_serial};
 ghost use Rattle.zone_model.specs.ZoneRows.{soa};
 ghost use Rattle.zone_diffs.specs.DiffRows.{nothing, apex_soa, host_a, www_alias, host, alias, set, soa_set, hosts, soa_change, ttl_change, record_count};

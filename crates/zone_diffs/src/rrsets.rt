@@ -6,7 +6,7 @@ ghost use Rattle.dns_rdata.specs.ZoneData.{data_fields, rtype_of};
 ghost use Rattle.zone_model.specs.Difference.{merged_set};
 ghost use Rattle.zone_model.specs.Edits.{distinct_set};
 ghost use Rattle.zone_values.specs.TypedSets.{set_of};
-ghost use Rattle.zone_sets.specs.TypedEntries.{typed};
+ghost use Rattle.zone_values.specs.TypedEntries.{typed};
 ghost use Rattle.zone_diffs.specs.Building.{lacked};
 
 use dns_rdata::StoredRecordData;

@@ -8,7 +8,7 @@ ghost use Rattle.std.specs.Ordering.{is_lt};
 ghost use Rattle.dns_rdata.specs.Soa.{serial_of};
 ghost use Rattle.dns_rdata.specs.ZoneData.{data_fields};
 ghost use Rattle.zone_model.specs.Version.{key_cmp, set_in};
-ghost use Rattle.zone_sets.specs.TypedEntries.{item_of, typed_set_in};
+ghost use Rattle.zone_values.specs.TypedEntries.{item_of, typed_set_in};
 ghost use Rattle.zone_diffs.specs.Building.{put_at, first_serial, set_serial};
 ghost use Rattle.zone_diffs.specs.Kept.{holds_data};
 
@@ -32,7 +32,7 @@ impl Model for DiffSets {
     ghost use Rattle.std.specs.Prelude.{map, IsTrue};
     ghost use Rattle.std.specs.List.{list_all};
     ghost use Rattle.zone_model.specs.Version.{Sets};
-    ghost use Rattle.zone_sets.specs.TypedEntries.{entry_of};
+    ghost use Rattle.zone_values.specs.TypedEntries.{entry_of};
     ghost use Rattle.zone_diffs.specs.Kept.{is_kept};
 
     ghost Value = { Sets };

@@ -8,7 +8,7 @@ ghost use Rattle.dns_name.specs.Names.{fold};
 ghost use Rattle.zone_model.specs.Version.{key_cmp, Key};
 ghost use Rattle.zone_model.specs.Difference.{Difference};
 ghost use Rattle.zone_values.specs.TypedSets.{TypedSet};
-ghost use Rattle.zone_sets.specs.TypedEntries.{item_of, typed_set_in};
+ghost use Rattle.zone_values.specs.TypedEntries.{item_of, typed_set_in};
 ghost use Rattle.zone_diffs.specs.Kept.{holds_data};
 
 use dns_name::{Labelled, Rtype, Serial};

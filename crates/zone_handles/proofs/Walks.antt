@@ -13,7 +13,7 @@ use Rattle.zone_model.specs.Answer.{highest_cut}
 use Rattle.zone_model.proofs.Folded.{IsFolded}
 use Rattle.zone_model.proofs.Valid.{valid_good}
 use Rattle.zone_model.proofs.Phases.{shown_folds}
-use Rattle.zone_sets.proofs.Equality.{list_any_map}
+use Rattle.zone_values.proofs.Equality.{list_any_map}
 use Rattle.zone_handles.specs.Stops.{same_stop, key_of, entry_of, VisitsOnce}
 
 same_shown : (v w : Version) (m n : Name) → fold m ≡ m → fold n ≡ n → pointwise bytes_eq m n ≡ same_name (shown_owner v m) (shown_owner w n)

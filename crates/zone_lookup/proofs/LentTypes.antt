@@ -5,7 +5,7 @@ use Rattle.std.specs.Option.{option_copied}
 use Rattle.zone_model.specs.Version.{RecordSet, Key}
 use Rattle.zone_values.specs.TypedSets.{TypedSet}
 use Rattle.zone_versions.proofs.TypedStops.{untyped_typed}
-use Rattle.zone_sets.specs.TypedEntries.{typed, untyped, item_of, entry_of}
+use Rattle.zone_values.specs.TypedEntries.{typed, untyped, item_of, entry_of}
 
 -- what a look-up lends
 pub lent_set : (rtype : ℕ) (r : Option (Bor TypedSet)) (o : Option RecordSet) → option_copied r ≡ option_map (typed rtype) o → untyped (option_copied r) ≡ o

@@ -9,7 +9,7 @@ use Rattle.zone_model.specs.Version.{Version, RecordSet, set_at}
 use Rattle.zone_model.specs.Answer.{Answer, answer_section, authority_section, glue_section, records_of, records_of_option, first_only}
 use Rattle.zone_model.specs.Answer.Answer.{Referral, Alias, Found, NoData, NameError}
 use Rattle.zone_values.specs.TypedSets.{first_record}
-use Rattle.zone_sets.specs.TypedEntries.{typed}
+use Rattle.zone_values.specs.TypedEntries.{typed}
 use Rattle.zone_answer.specs.Replies.{authority}
 use Rattle.zone_answer.specs.Sending.{answers_of, authority_of, authority_in, authority_records, content_records, required_of, discardable_of}
 use Rattle.zone_lookup.specs.Answers.{answered_by}

@@ -6,7 +6,7 @@ use Rattle.zone_model.specs.Version.{Version}
 use Rattle.zone_model.specs.Answer.{Answer}
 use Rattle.zone_model.specs.Answer.Answer.{Referral as ReferralOf, Alias as AliasOf, Found as FoundOf, NoData as NoDataOf, NameError as NameErrorOf}
 use Rattle.zone_values.specs.TypedSets.{TypedSet}
-use Rattle.zone_sets.specs.TypedEntries.{typed, untyped}
+use Rattle.zone_values.specs.TypedEntries.{typed, untyped}
 use Rattle.zone_lookup.specs.declared.content.Content.{Content}
 use Rattle.zone_lookup.specs.declared.content.Content.TheVariants.{Referral, Alias, Found, NoData, NameError}
 

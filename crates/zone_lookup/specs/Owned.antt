@@ -5,7 +5,7 @@ use Rattle.zone_model.specs.Version.{Version, RecordSet, set_at}
 use Rattle.zone_model.specs.Answer.{Answer, rcode_of, is_authoritative, glue_section}
 use Rattle.zone_model.specs.Answer.Answer.{Referral, Alias, Found, NoData, NameError}
 use Rattle.zone_values.specs.TypedSets.{TypedRecord, first_record}
-use Rattle.zone_sets.specs.TypedEntries.{typed}
+use Rattle.zone_values.specs.TypedEntries.{typed}
 use Rattle.zone_answer.specs.Replies.{Reply, Authority, Additional, authority, additional}
 use Rattle.zone_answer.specs.declared.content.AnswerContent.{AnswerContent}
 use Rattle.zone_answer.specs.declared.content.AnswerContent.TheVariants.{Data, Cname, NoData as NoContent}

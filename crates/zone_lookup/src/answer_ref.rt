@@ -8,7 +8,8 @@ use crate::records::SetRecords;
 use crate::sections::{AnswerRecords, apex_soa};
 use dns_name::{KeyName, Labelled, Rcode, Rtype};
 use std::marker::Model;
-use zone_versions::{RecordSet, ZoneVersion};
+use zone_values::Rrset;
+use zone_versions::ZoneVersion;
 
 /// What a version has for a question, its sets and their records lent (RFC 1034, 4.3.2).
 #[derive(Drop)]
@@ -80,7 +81,7 @@ impl<'v> AnswerRef<'v> {
     }
 
     /// The set that answers: the one asked for, or the name's CNAME set.
-    pub fn found(&self) -> Option<&'v RecordSet>
+    pub fn found(&self) -> Option<&'v Rrset>
         ensures { option_copied result ≡ set_found self.now.answer }
     {
         match &self.content {
@@ -102,7 +103,7 @@ impl<'v> AnswerRef<'v> {
     }
 
     /// The NS set of a referral's zone cut.
-    pub fn servers(&self) -> Option<&'v RecordSet>
+    pub fn servers(&self) -> Option<&'v Rrset>
         ensures { option_copied result ≡ servers_of self.now.answer }
     {
         match &self.content {
@@ -112,7 +113,7 @@ impl<'v> AnswerRef<'v> {
     }
 
     /// The DS set of a referral's zone cut, where it has one.
-    pub fn signer(&self) -> Option<&'v RecordSet>
+    pub fn signer(&self) -> Option<&'v Rrset>
         ensures { option_copied result ≡ signer_of self.now.answer }
     {
         match &self.content {
@@ -184,7 +185,7 @@ impl<'v> AnswerRef<'v> {
     {
         match &self.content {
             Content::Referral(_, servers, _) => {
-                AnswerRecords::of_servers(self.version, servers.items())
+                AnswerRecords::of_servers(self.version, servers.data())
             }
             _ => AnswerRecords::none(self.version),
         }

@@ -3,22 +3,22 @@ ghost use Rattle.std.specs.Prelude.{◌≡◌, IfSome, option_copied};
 ghost use Rattle.dns_name.specs.Codes.{type_ns, type_cname, type_ds};
 ghost use Rattle.zone_model.specs.Answer.{set_or_no_data};
 ghost use Rattle.zone_model.specs.Answer.Answer.{Referral, Alias, NameError};
-ghost use Rattle.zone_sets.specs.TypedEntries.{untyped};
+ghost use Rattle.zone_values.specs.TypedEntries.{untyped};
 ghost use Rattle.zone_lookup.specs.Answers.{answer_of, HasItsTypes};
 
 use dns_name::{KeyName, Rtype};
 use std::marker::Model;
-use zone_versions::RecordSet;
+use zone_values::Rrset;
 
 /// The five kinds of answer (RFC 1034, 4.3.2; RFC 2308, 2).
 #[derive(Drop)]
 pub(crate) enum Content<'v> {
     /// A zone cut stands at the name or above it: the cut's name in lower case, its NS set and its DS set.
-    Referral(KeyName, &'v RecordSet, Option<&'v RecordSet>),
+    Referral(KeyName, &'v Rrset, Option<&'v Rrset>),
     /// The name's CNAME set, whatever type was asked for.
-    Alias(&'v RecordSet),
+    Alias(&'v Rrset),
     /// The set of this type.
-    Found(Rtype, &'v RecordSet),
+    Found(Rtype, &'v Rrset),
     /// The name exists and has no set of the type.
     NoData,
     /// The name doesn't exist.
@@ -46,8 +46,8 @@ impl<'v> LentAnswer<'v> {
     /// A referral to the servers of a zone cut.
     pub(crate) fn referral(
         owner: KeyName,
-        servers: &'v RecordSet,
-        signer: Option<&'v RecordSet>,
+        servers: &'v Rrset,
+        signer: Option<&'v Rrset>,
     ) -> LentAnswer<'v>
         requires servers { servers.now.rtype ≡ type_ns }
         requires signer { IfSome signer (λ s. s.now.rtype ≡ type_ds) }
@@ -59,7 +59,7 @@ impl<'v> LentAnswer<'v> {
     }
 
     /// The CNAME set of the name.
-    pub(crate) fn alias(target: &'v RecordSet) -> LentAnswer<'v>
+    pub(crate) fn alias(target: &'v Rrset) -> LentAnswer<'v>
         requires { target.now.rtype ≡ type_cname }
         ensures { result ≡ Alias target.now.contents }
     {
@@ -69,7 +69,7 @@ impl<'v> LentAnswer<'v> {
     }
 
     /// The set of the type, where there is one.
-    pub(crate) fn set_or_no_data(rtype: Rtype, found: Option<&'v RecordSet>) -> LentAnswer<'v>
+    pub(crate) fn set_or_no_data(rtype: Rtype, found: Option<&'v Rrset>) -> LentAnswer<'v>
         requires { IfSome found (λ s. s.now.rtype ≡ rtype) }
         ensures { result ≡ set_or_no_data rtype (untyped (option_copied found.entry)) }
     {

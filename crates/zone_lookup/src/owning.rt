@@ -1,5 +1,5 @@
 // The parts of an answer, with records of their own.
-ghost use Rattle.std.specs.Prelude.{◌≡◌, ◌++◌, OnOk, IfOk, All, Some, None, map, option_copied};
+ghost use Rattle.std.specs.Prelude.{◌≡◌, ◌++◌, OnOk, IfOk, Some, None, map, option_copied};
 ghost use Rattle.dns_rdata.specs.ZoneData.{rtype_of, data_fields};
 ghost use Rattle.zone_values.specs.TypedSets.{set_of, first_record};
 ghost use Rattle.zone_answer.specs.Replies.{authority};
@@ -15,7 +15,7 @@ use dns_rdata::{Record, StoredRecord, StoredRecordData};
 use std::alloc::{AllocError, Global};
 use zone_answer::{Answer, AnswerAdditional, AnswerAuthority, AnswerContent};
 use zone_values::{Rrset, SharedRr, SharedRrset};
-use zone_versions::{RecordSet, ZoneVersion};
+use zone_versions::ZoneVersion;
 
 impl<'v> AnswerRef<'v> {
     /// The answer with records of its own, which a message says (`Answer::to_message`): the set found or the first record of an alias; NS and DS of
@@ -120,8 +120,8 @@ fn own_authority(
 fn delegation(
     alloc: Global,
     owner: &KeyName,
-    servers: &RecordSet,
-    signer: Option<&RecordSet>,
+    servers: &Rrset,
+    signer: Option<&Rrset>,
 ) -> Result<AnswerAuthority, AllocError>
     ensures { IfOk result (λ a. a ≡ authority owner.now None (Some servers.now) (option_copied signer.entry)) }
 {
@@ -190,7 +190,7 @@ fn own_additional(
 {
     match lent {
         Content::Referral(_, servers, _) => {
-            let mut glue = AnswerRecords::of_servers(version, servers.items());
+            let mut glue = AnswerRecords::of_servers(version, servers.data());
             let required = own_records(alloc, &mut glue)?;
             Ok(Some(AnswerAdditional::new(alloc, required)))
         }
@@ -227,7 +227,7 @@ fn own_record(alloc: Global, lent: &AnswerRecord<'_>) -> Result<StoredRecord, Al
 }
 
 /// The set with records of its own, where there is a set.
-fn own_option(alloc: Global, set: Option<&RecordSet>) -> Result<Option<SharedRrset>, AllocError>
+fn own_option(alloc: Global, set: Option<&Rrset>) -> Result<Option<SharedRrset>, AllocError>
     ensures { IfOk result (λ s. s ≡ option_copied set.entry) }
 {
     match set {
@@ -237,31 +237,15 @@ fn own_option(alloc: Global, set: Option<&RecordSet>) -> Result<Option<SharedRrs
 }
 
 /// The set with records of its own.
-fn own_set(alloc: Global, set: &RecordSet) -> Result<SharedRrset, AllocError>
+fn own_set(alloc: Global, set: &Rrset) -> Result<SharedRrset, AllocError>
     ensures { IfOk result (λ s. s ≡ set.now) }
 {
-    let mut own = Rrset::new(alloc, set.rtype(), set.ttl());
-    push_items(&mut own, set.items())?;
-    own.into_shared(alloc)
-}
-
-/// Puts copies of data last in a set of their type.
-fn push_items(own: &mut Rrset, items: &[StoredRecordData]) -> Result<(), AllocError>
-    requires { All (λ d. rtype_of d ≡ own.old.rtype) items.now }
-    ensures { OnOk result (own.new ≡ set_of own.old.rtype own.old.contents.ttl (own.old.contents.items ++ map data_fields items.now)) }
-{
-    for item in items {
-        own.push_data(item.clone()?)?;
-    }
-    Ok(())
+    set.clone()?.into_shared(alloc)
 }
 
 /// The first record of a set, if it has one.
-fn own_first(set: &RecordSet) -> Result<Option<SharedRr>, AllocError>
+fn own_first(set: &Rrset) -> Result<Option<SharedRr>, AllocError>
     ensures { IfOk result (λ r. r ≡ first_record set.now) }
 {
-    match set.items().first() {
-        Some(item) => Ok(Some(SharedRr::new(set.ttl(), item.clone()?))),
-        None => Ok(None),
-    }
+    set.first()
 }

@@ -2,12 +2,12 @@
 ghost use Rattle.std.specs.Prelude.{◌≡◌, IfSome, option_copied, option_map};
 ghost use Rattle.std.specs.Iterator.{YieldsFirst};
 ghost use Rattle.zone_model.specs.Answer.{records_of_option, first_only};
-ghost use Rattle.zone_sets.specs.TypedEntries.{untyped};
+ghost use Rattle.zone_values.specs.TypedEntries.{untyped};
 
 use dns_name::{Class, KeyName, Rtype, Ttl};
 use dns_rdata::{Record, StoredRecordData};
 use std::marker::Model;
-use zone_versions::RecordSet;
+use zone_values::Rrset;
 
 /// One record of an answer: its owner, and its data lent by the version that was asked, for as long as that stands.
 pub type AnswerRecord<'v> = Record<KeyName, &'v StoredRecordData>;
@@ -41,7 +41,7 @@ impl<'v> SetRecords<'v> {
         owner: KeyName,
         rtype: Rtype,
         class: Class,
-        contents: Option<&'v RecordSet>,
+        contents: Option<&'v Rrset>,
     ) -> SetRecords<'v>
         requires { IfSome contents (λ s. s.now.rtype ≡ rtype) }
         ensures { result ≡ records_of_option owner rtype class (untyped (option_copied contents.entry)) }
@@ -52,7 +52,7 @@ impl<'v> SetRecords<'v> {
                 rtype,
                 class,
                 ttl: contents.ttl(),
-                items: contents.items(),
+                items: contents.data(),
             },
             None => SetRecords {
                 owner,
@@ -69,7 +69,7 @@ impl<'v> SetRecords<'v> {
         owner: KeyName,
         rtype: Rtype,
         class: Class,
-        contents: Option<&'v RecordSet>,
+        contents: Option<&'v Rrset>,
     ) -> SetRecords<'v>
         requires { IfSome contents (λ s. s.now.rtype ≡ rtype) }
         ensures { result ≡ records_of_option owner rtype class (option_map first_only (untyped (option_copied contents.entry))) }

@@ -14,7 +14,7 @@ use Rattle.zone_model.specs.Version.{RecordSet, Key, Sets, Version, key_cmp, has
 use Rattle.zone_model.specs.Classify.{ZoneFile, Kind, Normal, Cut, Alias, Outside, kind_of, same_kind, opened_with, opened}
 use Rattle.zone_model.proofs.Folded.{key_total, key_from_tie, same_key, IsFolded, fold-fold, under_alike, same_name_alike}
 use Rattle.zone_model.proofs.Ordered.{lookup-insert_entry, past_head, sorted_none, sorted-insert_entry, passes-insert_entry, Alike, AllAlike, all_alike}
-use Rattle.zone_sets.specs.SetEdits.{put_all}
+use Rattle.zone_values.specs.SetEdits.{put_all}
 use Rattle.zone_records.specs.Parsed.{sets_of, kept, joined}
 use Rattle.zone_records.proofs.Putting.{key_of, set_with, put_record, sets_after, ties, step_at, found_after}
 

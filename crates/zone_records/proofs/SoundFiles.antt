@@ -18,7 +18,7 @@ use Rattle.zone_errors.specs.declared.errors.ContextError.{ContextError}
 use Rattle.zone_errors.specs.declared.errors.ContextError.TheVariants.{MissingNs, InvalidZonecut, InvalidCname, OutOfZone}
 use Rattle.zone_values.specs.declared.errors.ZoneCutError.TheVariants as no_cut
 use Rattle.zone_values.specs.declared.errors.CnameError.TheVariants as bad_alias
-use Rattle.zone_sets.specs.SetEdits.{put_all}
+use Rattle.zone_values.specs.SetEdits.{put_all}
 use Rattle.zone_sets.proofs.KeptTypes.{all_insert}
 use Rattle.zone_versions.specs.Sound.{is_sound_at, IsSound}
 use Rattle.zone_records.specs.Parsed.{Parsed, version_of, is_tidy_at, IsTidy, is_no_alias, is_one_alias, IsByKind}

@@ -13,8 +13,8 @@ use Rattle.zone_model.specs.Edits.{distinct}
 use Rattle.zone_model.specs.Classify.{lowest_ttl}
 use Rattle.zone_model.proofs.Folded.{key_total, fold-fold}
 use Rattle.zone_model.proofs.Ordered.{sorted_none, sorted-insert_entry}
-use Rattle.zone_sets.specs.SetEdits.{items_at, put_with, opening_set}
-use Rattle.zone_sets.proofs.FirstData.{distinct_last, distinct_same, distinct_differ}
+use Rattle.zone_values.specs.SetEdits.{items_at, put_with, opening_set}
+use Rattle.zone_values.proofs.FirstData.{distinct_last, distinct_same, distinct_differ}
 use Rattle.zone_sets.proofs.KeptTypes.{all_insert}
 use Rattle.zone_records.specs.Parsed.{is_tidy_at, IsTidy}
 use Rattle.zone_records.specs.Taking.{put_to}

@@ -17,7 +17,7 @@ use Rattle.zone_model.specs.Version.{RecordSet, Key, Sets, key_cmp, has_key, set
 use Rattle.zone_model.specs.Classify.{least, is_address}
 use Rattle.zone_model.proofs.Folded.{fold-fold, key_total, same_name_alike}
 use Rattle.zone_values.specs.TypedSets.{TypedSet}
-use Rattle.zone_sets.specs.TypedEntries.{typed, item_of}
+use Rattle.zone_values.specs.TypedEntries.{typed, item_of}
 use Rattle.zone_records.specs.Taking.{types_in, least_in, no_glue_in, cut_in}
 use Rattle.zone_records.specs.TypeSteps.{type_from, past}
 use Rattle.zone_records.proofs.Lowest.{Lowest, is_in, find_in, least_by, lowest_one, lowest_same, lowest_kept, lowest_next, least_lowest, in_filter, not_and}

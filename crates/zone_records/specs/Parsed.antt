@@ -7,7 +7,7 @@ use Rattle.dns_name.specs.Names.{Name, fold, labels_eq}
 use Rattle.dns_name.specs.Records.{Record}
 use Rattle.dns_name.specs.Codes.{type_cname}
 use Rattle.zone_model.specs.Version.{RecordSet, Key, Sets, Version, key_cmp, all_differ}
-use Rattle.zone_sets.specs.SetEdits.{put_all}
+use Rattle.zone_values.specs.SetEdits.{put_all}
 use Rattle.zone_model.specs.Classify.{ZoneFile, Kind, Normal, Cut, Alias, Outside, kind_of, same_kind, opened_with}
 
 -- an origin, a class, and sets of records by kind: normal ones, those of zone cuts, CNAMEs, and those outside the origin

@@ -6,7 +6,7 @@ ghost use Rattle.std.specs.Map.Iter.{deref_pair};
 ghost use Rattle.std.specs.Ordering.{is_le};
 ghost use Rattle.dns_name.specs.Names.{fold, same_name};
 ghost use Rattle.zone_model.specs.Version.{key_cmp, set_in};
-ghost use Rattle.zone_sets.specs.TypedEntries.{typed, item_of, typed_set_in};
+ghost use Rattle.zone_values.specs.TypedEntries.{typed, item_of, typed_set_in};
 ghost use Rattle.zone_records.specs.Parsed.{IsTidy};
 ghost use Rattle.zone_records.specs.Taking.{least_in, no_glue_in, cut_in, put_to};
 ghost use Rattle.zone_records.specs.TypeSteps.{type_from, past};
@@ -16,7 +16,8 @@ use dns_rdata::{RecordData, StoredRecord};
 use std::alloc::{AllocError, Global};
 use std::collections::btree_map::{Iter, Keys};
 use std::marker::Model;
-use zone_sets::{KeyedSets, RecordSet, SetKey};
+use zone_sets::{KeyedSets, SetKey};
+use zone_values::Rrset;
 
 /// RRsets by owner and type: owners in lower case and canonical order, each one's types ascending (RFC 4034, 6.1). No RRset is empty, and no two of
 /// its data are equal (RFC 2181, 5).
@@ -48,14 +49,14 @@ impl Owners {
     }
 
     /// The RRset at a key.
-    fn set_in(&self, key: &SetKey) -> Option<&RecordSet>
+    fn set_in(&self, key: &SetKey) -> Option<&Rrset>
         ensures { option_copied result ≡ typed_set_in self.now key.now }
     {
         self.sets.get(key)
     }
 
     /// The first RRset at a key or after it, with its own key.
-    fn entry_from(&self, key: &SetKey) -> Option<(&SetKey, &RecordSet)>
+    fn entry_from(&self, key: &SetKey) -> Option<(&SetKey, &Rrset)>
         ensures first { option_map deref_pair result ≡ option_map item_of (find (λ e. is_le (key_cmp key.now e.0)) self.now) }
         ensures tidy { IsTidy self.now }
     {
@@ -63,7 +64,7 @@ impl Owners {
     }
 
     /// The RRset of an owner and type.
-    pub fn get<N: Labelled>(&self, name: &N, rtype: Rtype) -> Option<&RecordSet>
+    pub fn get<N: Labelled>(&self, name: &N, rtype: Rtype) -> Option<&Rrset>
         ensures { option_copied result ≡ option_map (typed rtype) (set_in self.now (fold (N.labels name.now), rtype)) }
     {
         self.set_in(&SetKey::new(name, rtype))
@@ -149,7 +150,7 @@ impl Owners {
     }
 
     /// The RRsets with their keys, in order.
-    pub fn iter(&self) -> Iter<'_, SetKey, RecordSet>
+    pub fn iter(&self) -> Iter<'_, SetKey, Rrset>
         ensures is { result ≡ map item_of self.now }
         ensures tidy { IsTidy self.now }
     {
@@ -157,7 +158,7 @@ impl Owners {
     }
 
     /// The keys of the RRsets, in order.
-    pub fn keys(&self) -> Keys<'_, SetKey, RecordSet>
+    pub fn keys(&self) -> Keys<'_, SetKey, Rrset>
         ensures { result ≡ keys_of self.now }
     {
         self.sets.keys()

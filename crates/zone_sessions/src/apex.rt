@@ -4,7 +4,7 @@ ghost use Rattle.dns_name.specs.Names.{under};
 ghost use Rattle.dns_name.specs.Codes.{type_soa};
 ghost use Rattle.zone_model.specs.Version.{set_at};
 ghost use Rattle.zone_values.specs.Relative.{labels_below};
-ghost use Rattle.zone_sets.specs.TypedEntries.{typed};
+ghost use Rattle.zone_values.specs.TypedEntries.{typed};
 
 use crate::read::ReadZone;
 use crate::write::WriteZone;
@@ -12,8 +12,8 @@ use dns_name::{Class, Rtype, StoredName, ToName};
 use std::alloc::{AllocError, Global};
 use std::marker::Model;
 use std::sync::Arc;
-use zone_values::{OutOfZone, RelNameRevIter, rel_name_rev_iter};
-use zone_versions::{RecordSet, ZoneVersion};
+use zone_values::{OutOfZone, RelNameRevIter, Rrset, rel_name_rev_iter};
+use zone_versions::ZoneVersion;
 
 /// A zone: its current version, and how the next one is written.
 #[derive(Drop)]
@@ -74,7 +74,7 @@ impl ZoneApex {
     }
 
     /// The SOA records at the apex of a version that is read, lent with their TTL, if there are any: the first is the zone's (RFC 1035, 3.3.13).
-    pub fn get_soa<'v>(&self, read: &'v ReadZone) -> Option<&'v RecordSet>
+    pub fn get_soa<'v>(&self, read: &'v ReadZone) -> Option<&'v Rrset>
         ensures { option_copied result ≡ option_map (typed type_soa) (set_at read.now.version read.now.version.apex type_soa) }
     {
         read.rrset_at(read.apex_name(), Rtype::SOA)

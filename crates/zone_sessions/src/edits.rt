@@ -7,19 +7,18 @@ ghost use Rattle.zone_model.specs.Edits as edits;
 ghost use Rattle.zone_model.specs.Edits.{distinct_set};
 ghost use Rattle.zone_model.specs.Session.{with_pending};
 ghost use Rattle.zone_values.specs.TypedSets.{TypedSet};
-ghost use Rattle.zone_sets.specs.TypedEntries.{typed};
+ghost use Rattle.zone_values.specs.TypedEntries.{typed};
 
 use crate::write::WriteZone;
 use dns_name::{KeyName, Rtype};
 use dns_rdata::StoredRecord;
 use std::alloc::AllocError;
 use zone_values::{Rrset, SharedRr, SharedRrset, ZoneCut};
-use zone_versions::RecordSet;
 
 // One place for each kind of edit.
 impl<'z> WriteZone<'z> {
     /// Puts a set in place of the one of its owner and type; an empty one removes that.
-    fn put_set(&mut self, owner: &KeyName, set: RecordSet) -> Result<(), AllocError>
+    fn put_set(&mut self, owner: &KeyName, set: Rrset) -> Result<(), AllocError>
         requires zone { under owner.now self.old.pending.apex ≡ true }
         requires differ { all_differ set.contents.items ≡ true }
         requires alias { edits.is_bad_alias self.old.pending owner.now set.rtype set.contents ≡ false }
@@ -93,7 +92,7 @@ impl<'z> WriteZone<'z> {
         ensures ok { OnOk result (self.new ≡ with_pending self.old (edits.put_set self.old.pending owner.now set.now.rtype (distinct_set set.now.contents))) }
         ensures err { OnErr result (self.new ≡ self.old) }
     {
-        let first = RecordSet::from_rrset(self.memory(), set)?;
+        let first = set.to_distinct(self.memory())?;
         self.put_set(owner, first)
     }
 
@@ -105,7 +104,7 @@ impl<'z> WriteZone<'z> {
         ensures err { OnErr result (self.new ≡ self.old) }
     {
         let item = alias.data().clone()?;
-        let set = RecordSet::of_one(self.memory(), alias.ttl(), item)?;
+        let set = Rrset::of_one(self.memory(), alias.ttl(), item)?;
         self.put_set(owner, set)
     }
 

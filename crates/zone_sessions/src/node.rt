@@ -6,7 +6,7 @@ ghost use Rattle.zone_model.specs.Version.{set_at, below_apex};
 ghost use Rattle.zone_model.specs.Edits as edits;
 ghost use Rattle.zone_model.specs.Edits.{replace_set, make_plain};
 ghost use Rattle.zone_values.specs.TypedSets.{TypedSet};
-ghost use Rattle.zone_sets.specs.TypedEntries.{typed};
+ghost use Rattle.zone_values.specs.TypedEntries.{typed};
 ghost use Rattle.zone_versions.specs.Causes.{refusal_of};
 ghost use Rattle.zone_sessions.specs.Nodes.{with_edit, opened_node};
 
@@ -16,8 +16,8 @@ use dns_name::{KeyName, Label, Labelled, Rtype};
 use std::alloc::AllocError;
 use std::marker::Model;
 use zone_errors::{NodeError, UpdateError};
-use zone_values::{SharedRr, SharedRrset, ZoneCut};
-use zone_versions::{EditError, RecordSet};
+use zone_values::{Rrset, SharedRr, SharedRrset, ZoneCut};
+use zone_versions::EditError;
 
 /// A node of a zone in a session: a name at or below the apex. Its edits are the session's, and are pending until the session commits; `into_session`
 /// goes on with that session.
@@ -89,7 +89,7 @@ impl<'s, 'z> WriteNode<'s, 'z> {
     }
 
     /// The pending set of a type.
-    pub fn get_rrset(&self, rtype: Rtype) -> Option<&RecordSet>
+    pub fn get_rrset(&self, rtype: Rtype) -> Option<&Rrset>
         ensures { option_copied result ≡ option_map (typed rtype) (set_at self.now.session.pending self.now.name rtype) }
     {
         self.session.shown().set_at(&self.name, rtype)

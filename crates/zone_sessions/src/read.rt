@@ -2,14 +2,15 @@
 ghost use Rattle.std.specs.Prelude.{◌≡◌, IfOk, option_copied, option_map};
 ghost use Rattle.zone_model.specs.Version.{IsValid, set_at};
 ghost use Rattle.zone_model.specs.Walk.{next_stop, walk};
-ghost use Rattle.zone_sets.specs.TypedEntries.{typed};
+ghost use Rattle.zone_values.specs.TypedEntries.{typed};
 ghost use Rattle.zone_versions.specs.Stops.{first_stop};
 
 use dns_name::{Class, Labelled, Rtype, StoredName};
 use std::alloc::AllocError;
 use std::marker::Model;
 use std::sync::Arc;
-use zone_versions::{RecordSet, RrsetIter, WalkItem, ZoneVersion};
+use zone_values::Rrset;
+use zone_versions::{RrsetIter, WalkItem, ZoneVersion};
 
 /// A read handle: one version of a zone, which stays as it is, and its number.
 #[derive(Drop)]
@@ -107,7 +108,7 @@ impl ReadZone {
     }
 
     /// The set of an owner and type.
-    pub fn rrset_at<N: Labelled>(&self, owner: &N, rtype: Rtype) -> Option<&RecordSet>
+    pub fn rrset_at<N: Labelled>(&self, owner: &N, rtype: Rtype) -> Option<&Rrset>
         ensures { option_copied result ≡ option_map (typed rtype) (set_at self.now.version (N.labels owner.now) rtype) }
     {
         self.version.set_at(owner, rtype)

@@ -10,8 +10,8 @@ use Rattle.zone_model.specs.Version.{RecordSet, Key, key_cmp, has_key, set_in}
 use Rattle.zone_model.proofs.Entries.{seen-insert_entry, seen-remove_entry, seen-lookup}
 use Rattle.zone_model.proofs.Folded.{key_from_tie}
 use Rattle.zone_values.specs.TypedSets.{TypedSet}
-use Rattle.zone_sets.specs.TypedEntries.{typed, item_of, entry_of, has_own_type, typed_set_in}
-use Rattle.zone_sets.proofs.Equality.{filter_map}
+use Rattle.zone_values.specs.TypedEntries.{typed, item_of, entry_of, has_own_type, typed_set_in}
+use Rattle.zone_values.proofs.Equality.{filter_map}
 
 abbrev pub TypedEntries : Type 0
 TypedEntries = List (Key × TypedSet)

@@ -13,7 +13,7 @@ use Rattle.std.proofs.lemmas.Map.Entries.{none_below_head}
 use Rattle.zone_model.specs.Version.{RecordSet, Key, key_cmp, has_key, set_in}
 use Rattle.zone_model.proofs.Folded.{key_total}
 use Rattle.zone_values.specs.TypedSets.{TypedSet}
-use Rattle.zone_sets.specs.TypedEntries.{typed, entry_of, has_own_type}
+use Rattle.zone_values.specs.TypedEntries.{typed, entry_of, has_own_type}
 use Rattle.zone_sets.proofs.KeptTypes.{TypedEntries, found_own, found_seen, absent_seen}
 
 module _ {K X : Type 0} {R : K → K → Ordering} (o : IsTotalOrder R) where

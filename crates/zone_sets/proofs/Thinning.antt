@@ -6,7 +6,7 @@ use Rattle.std.specs.BTreeMap.{insert_entry}
 use Rattle.std.specs.Map.{remove_entry}
 use Rattle.dns_rdata.specs.Records.{Field, same_data}
 use Rattle.zone_model.specs.Version.{RecordSet, Key, Sets, key_cmp, has_key, set_in}
-use Rattle.zone_sets.specs.SetEdits.{items_at, thinned, taken_out}
+use Rattle.zone_values.specs.SetEdits.{items_at, thinned, taken_out}
 
 pub suc_not : (n : ℕ) → (suc n == 0) ≡ false
 suc_not n = by (suc n == 0) refl

@@ -1,4 +1,0 @@
-pub mod DataIndex
-pub mod TypedEntries
-pub mod SetEdits
-pub mod PutCauses

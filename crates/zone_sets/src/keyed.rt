@@ -9,12 +9,12 @@ ghost use Rattle.std.specs.Ordering.{is_le, is_lt};
 ghost use Rattle.dns_rdata.specs.Records.{same_data};
 ghost use Rattle.dns_rdata.specs.ZoneData.{rtype_of, data_fields};
 ghost use Rattle.zone_model.specs.Version.{Key, key_cmp, has_key, set_in};
-ghost use Rattle.zone_sets.specs.TypedEntries.{entry_of, item_of, has_own_type, typed, typed_set_in};
-ghost use Rattle.zone_sets.specs.SetEdits.{items_at, put_with, put_all, last_set, opening_set, thinned, taken_out};
-ghost use Rattle.zone_sets.specs.PutCauses.{TellsPut};
+ghost use Rattle.zone_values.specs.TypedEntries.{entry_of, item_of, has_own_type, typed, typed_set_in};
+ghost use Rattle.zone_values.specs.SetEdits.{items_at, put_with, put_all, last_set, opening_set, thinned, taken_out};
+ghost use Rattle.zone_values.specs.PutCauses.{TellsPut};
 ghost use Rattle.dns_name.specs.Names.{fold};
 
-use crate::sets::{RecordSet, SetKey};
+use crate::set_key::SetKey;
 use dns_name::Ttl;
 use dns_rdata::StoredRecordData;
 use std::alloc::{AllocError, Global};
@@ -22,40 +22,19 @@ use std::collections::BTreeMap;
 use std::collections::btree_map::{Entry, Iter, Keys};
 use std::marker::Model;
 use std::ops::Bound;
-
-/// Why data are not put in an RRset. All is then as before.
-#[derive(Clone, Copy, Debug, PartialEq, Eq, Drop)]
-pub enum PutError {
-    /// The RRset has equal data (RFC 2181, 5).
-    Equal,
-    /// The data stand alone, and the RRset has others (RFC 2181, 10.1).
-    Second,
-    /// Out of memory.
-    Memory,
-}
-
-impl From<AllocError> for PutError {
-    ghost use Rattle.std.specs.Prelude.{◌≡◌};
-    ghost use Rattle.zone_sets.specs.declared.keyed.PutError.TheVariants.{Memory};
-
-    ghost from_gives = { λ _ e. e ≡ Memory };
-
-    fn from(_error: AllocError) -> PutError {
-        PutError::Memory
-    }
-}
+use zone_values::{PutError, Rrset};
 
 /// RRsets by owner and type, each of its key's type: owners in lower case and canonical order, each one's types ascending (RFC 4034, 6.1).
 #[derive(Drop)]
 pub struct KeyedSets {
-    entries: BTreeMap<SetKey, RecordSet>,
+    entries: BTreeMap<SetKey, Rrset>,
 }
 
 impl Model for KeyedSets {
     ghost use Rattle.std.specs.Prelude.{map, IsTrue};
     ghost use Rattle.std.specs.List.{list_all};
     ghost use Rattle.zone_model.specs.Version.{Sets};
-    ghost use Rattle.zone_sets.specs.TypedEntries.{entry_of, has_own_type};
+    ghost use Rattle.zone_values.specs.TypedEntries.{entry_of, has_own_type};
 
     ghost Value = { Sets };
 
@@ -75,28 +54,28 @@ impl KeyedSets {
     }
 
     /// The RRset at a key.
-    pub fn get(&self, key: &SetKey) -> Option<&RecordSet>
+    pub fn get(&self, key: &SetKey) -> Option<&Rrset>
         ensures { option_copied result ≡ typed_set_in self.now key.now }
     {
         self.entries.get(key)
     }
 
     /// The RRsets with their keys, in order.
-    pub fn iter(&self) -> Iter<'_, SetKey, RecordSet>
+    pub fn iter(&self) -> Iter<'_, SetKey, Rrset>
         ensures { result ≡ map item_of self.now }
     {
         self.entries.iter()
     }
 
     /// The keys of the RRsets, in order.
-    pub fn keys(&self) -> Keys<'_, SetKey, RecordSet>
+    pub fn keys(&self) -> Keys<'_, SetKey, Rrset>
         ensures { result ≡ keys_of self.now }
     {
         self.entries.keys()
     }
 
     /// The first RRset after a key, with its own key.
-    pub fn first_behind(&self, key: &SetKey) -> Option<(&SetKey, &RecordSet)>
+    pub fn first_behind(&self, key: &SetKey) -> Option<(&SetKey, &Rrset)>
         ensures { option_map deref_pair result ≡ option_map item_of (find (λ e. is_lt (key_cmp key.now e.0)) self.now) }
     {
         self.entries
@@ -105,7 +84,7 @@ impl KeyedSets {
     }
 
     /// The first RRset at a key or after it, with its own key.
-    pub fn first_from(&self, key: &SetKey) -> Option<(&SetKey, &RecordSet)>
+    pub fn first_from(&self, key: &SetKey) -> Option<(&SetKey, &Rrset)>
         ensures { option_map deref_pair result ≡ option_map item_of (find (λ e. is_le (key_cmp key.now e.0)) self.now) }
     {
         self.entries
@@ -145,7 +124,7 @@ impl KeyedSets {
 // Edits.
 impl KeyedSets {
     /// Puts an RRset of the key's type in place of the one at the key. Memory is only needed where there was none.
-    pub fn insert(&mut self, key: SetKey, set: RecordSet) -> Result<(), AllocError>
+    pub fn insert(&mut self, key: SetKey, set: Rrset) -> Result<(), AllocError>
         requires { set.rtype ≡ key.1 }
         ensures ok { OnOk result (self.new ≡ insert_entry key_cmp self.old key set.contents) }
         ensures err { OnErr result (self.new ≡ self.old) }
@@ -240,7 +219,7 @@ impl KeyedSets {
 
 /// Puts data of the key's type last in the RRset at the key, unless it has equal data, or the data stand alone and it is there.
 fn put_new(
-    sets: &mut BTreeMap<SetKey, RecordSet>,
+    sets: &mut BTreeMap<SetKey, Rrset>,
     alloc: Global,
     key: SetKey,
     ttl: Ttl,
@@ -262,46 +241,17 @@ fn put_new(
         }
     };
     match entry {
-        Entry::Occupied(entry) => append_new(entry.into_mut(), alloc, ttl, item, alone),
+        Entry::Occupied(entry) => entry.into_mut().put_new(alloc, ttl, item, alone),
         Entry::Vacant(entry) => {
-            entry.insert(RecordSet::of_one(alloc, ttl, item)?);
+            entry.insert(Rrset::of_one(alloc, ttl, item)?);
             Ok(())
         }
     }
 }
 
-/// Puts data of an RRset's type last in it, unless it has equal data or the data stand alone.
-fn append_new(
-    set: &mut RecordSet,
-    alloc: Global,
-    ttl: Ttl,
-    item: StoredRecordData,
-    alone: bool,
-) -> Result<(), PutError>
-    requires { rtype_of item ≡ set.old.rtype }
-    ensures ok { OnOk result (set.new ≡ typed set.old.rtype (last_set ttl (data_fields item) (Some set.old.contents))) }
-    ensures cause { TellsPut (data_fields item) alone (Some set.old.contents) result }
-    ensures err { OnErr result (set.new ≡ set.old) }
-{
-    if alone {
-        let equal = set.contains(&item);
-        drop(item);
-        return Err(if equal {
-            PutError::Equal
-        } else {
-            PutError::Second
-        });
-    }
-    match set.append_new(alloc, ttl, item) {
-        Ok(true) => Ok(()),
-        Ok(false) => Err(PutError::Equal),
-        Err(_) => Err(PutError::Memory),
-    }
-}
-
 /// Puts data of the key's type that the zone opens with in the RRset at the key, unless it has equal data; the RRset's TTL is the lower one.
 fn put_opening(
-    sets: &mut BTreeMap<SetKey, RecordSet>,
+    sets: &mut BTreeMap<SetKey, Rrset>,
     alloc: Global,
     key: SetKey,
     ttl: Ttl,
@@ -323,14 +273,14 @@ fn put_opening(
     match entry {
         Entry::Occupied(entry) => entry.into_mut().open_with(alloc, ttl, item),
         Entry::Vacant(entry) => {
-            entry.insert(RecordSet::of_one(alloc, ttl, item)?);
+            entry.insert(Rrset::of_one(alloc, ttl, item)?);
             Ok(())
         }
     }
 }
 
 /// Takes the data equal to these out of an RRset that stands at a key, and puts this TTL in place of the RRset's.
-fn thin_out(sets: &mut BTreeMap<SetKey, RecordSet>, key: &SetKey, ttl: Ttl, item: &StoredRecordData)
+fn thin_out(sets: &mut BTreeMap<SetKey, Rrset>, key: &SetKey, ttl: Ttl, item: &StoredRecordData)
     requires types { IsTrue (list_all has_own_type sets.old.entries) }
     requires there { IsSome (set_in (map entry_of sets.old.entries) key.now) }
     ensures { sets.new.entries ≡ insert_entry key_cmp sets.old.entries key.now (typed key.now.1 (thinned ttl (data_fields item.now) (map entry_of sets.old.entries) key.now)) }

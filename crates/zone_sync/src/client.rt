@@ -326,7 +326,7 @@ fn apex_serial(zone: &ReadZone) -> Option<Serial>
 {
     let version = zone.contents();
     let found = version.set_at(version.apex(), Rtype::SOA)?;
-    match found.items().first() {
+    match found.data().first() {
         Some(item) => Some(serial_of(item)),
         None => None,
     }
@@ -373,7 +373,7 @@ fn push_soa(authority: &mut AuthorityBuilder, zone: &ReadZone) -> Result<(), Pus
     let Some(found) = zone.rrset_at(zone.apex_name(), Rtype::SOA) else {
         return Ok(());
     };
-    let Some(rdata) = found.items().first() else {
+    let Some(rdata) = found.data().first() else {
         return Ok(());
     };
     let owner = zone.apex_name().borrowed();

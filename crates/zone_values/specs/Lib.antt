@@ -3,3 +3,7 @@ pub mod SameSets
 pub mod Histories
 pub mod Relative
 pub mod TypeRows
+pub mod DataIndex
+pub mod TypedEntries
+pub mod SetEdits
+pub mod PutCauses

@@ -3,12 +3,15 @@
 //! versions and transfers are those of `zone_model`, and a zone that can be read and written is `zone_sessions`'s.
 #![tactic(auto)]
 
+mod data_index;
+mod data_key;
 mod errors;
 mod examples;
 mod laws;
 mod rel_name;
 mod rr;
 mod rrset;
+mod rrset_edits;
 mod versioned;
 mod zone_cut;
 
@@ -16,5 +19,6 @@ pub use errors::{CnameError, OutOfZone, WriteApexError, ZoneCutError, ZoneTreeMo
 pub use rel_name::{RelNameRevIter, rel_name_rev_iter};
 pub use rr::SharedRr;
 pub use rrset::{Rrset, SharedRrset};
+pub use rrset_edits::PutError;
 pub use versioned::{Version, Versioned};
 pub use zone_cut::ZoneCut;

@@ -3,10 +3,13 @@ ghost use Rattle.std.specs.Prelude.{◌≡◌, ◌==◌, ◌∷◌, [], length, 
 ghost use Rattle.dns_rdata.specs.ZoneData.{rtype_of, data_fields};
 ghost use Rattle.zone_values.specs.TypedSets.{set_of, with_ttl, with_data, with_record, first_record};
 
+use crate::data_key::DataKey;
 use crate::rr::SharedRr;
+use crate::rrset_edits::push_last;
 use dns_name::{Rtype, Ttl};
 use dns_rdata::{RecordData, StoredRecord, StoredRecordData};
 use std::alloc::{AllocError, Global};
+use std::collections::BTreeSet;
 use std::marker::Model;
 use std::ops::Deref;
 use std::sync::Arc;
@@ -14,21 +17,24 @@ use std::sync::Arc;
 /// The records of one owner and type without the owner: their type, their TTL and their data, in order (RFC 2181, 5).
 #[derive(Debug, Drop)]
 pub struct Rrset {
-    rtype: Rtype,
-    ttl: Ttl,
-    data: Vec<StoredRecordData>,
+    pub(crate) rtype: Rtype,
+    pub(crate) ttl: Ttl,
+    pub(crate) items: Vec<StoredRecordData>,
+    // An index of many data, so that an addition doesn't look at each.
+    pub(crate) seen: Option<BTreeSet<DataKey>>,
 }
 
 impl Model for Rrset {
     ghost use Rattle.std.specs.Prelude.{◌≡◌, map, All};
     ghost use Rattle.dns_rdata.specs.ZoneData.{rtype_of, data_fields};
     ghost use Rattle.zone_values.specs.TypedSets.{TypedSet, set_of};
+    ghost use Rattle.zone_values.specs.DataIndex.{IsIndexed};
 
     ghost Value = { TypedSet };
 
-    ghost view = { λ s. set_of s.rtype s.ttl (map data_fields s.data.items) };
+    ghost view = { λ s. set_of s.rtype s.ttl (map data_fields s.items.items) };
 
-    ghost invariant = { λ s. All (λ d. rtype_of d ≡ s.rtype) s.data.items };
+    ghost invariant = { λ s. IsIndexed (map data_fields s.items.items) s.seen × All (λ d. rtype_of d ≡ s.rtype) s.items.items };
 }
 
 impl Rrset {
@@ -39,17 +45,31 @@ impl Rrset {
         Rrset {
             rtype,
             ttl,
-            data: Vec::new(alloc),
+            items: Vec::new(alloc),
+            seen: None,
         }
+    }
+
+    /// An RRset of one record's data, and of their type, with room for no more. The TTL is in seconds.
+    pub fn of_one(alloc: Global, ttl: Ttl, item: StoredRecordData) -> Result<Rrset, AllocError>
+        ensures { IfOk result (λ s. s ≡ set_of (rtype_of item) ttl (data_fields item ∷ [])) }
+    {
+        let rtype = item.rtype();
+        let mut items = Vec::with_capacity(alloc, 1)?;
+        items.push(item)?;
+        Ok(Rrset {
+            rtype,
+            ttl,
+            items,
+            seen: None,
+        })
     }
 
     /// The RRset of one record.
     pub fn from_record(alloc: Global, first: StoredRecord) -> Result<Rrset, AllocError>
         ensures { IfOk result (λ s. s ≡ set_of first.rtype first.ttl (first.fields ∷ [])) }
     {
-        let mut set = Rrset::new(alloc, first.rtype(), first.ttl());
-        set.push_data(first.into_data())?;
-        Ok(set)
+        Rrset::of_one(alloc, first.ttl(), first.into_data())
     }
 
     /// The type of the records.
@@ -71,21 +91,21 @@ impl Rrset {
         ensures fields { map data_fields result.now ≡ self.now.contents.items }
         ensures types { All (λ d. rtype_of d ≡ self.now.rtype) result.now }
     {
-        &self.data
+        &self.items
     }
 
     /// Whether there are no records.
     pub fn is_empty(&self) -> bool
         ensures { result ≡ (length self.now.contents.items == 0) }
     {
-        self.data.is_empty()
+        self.items.is_empty()
     }
 
     /// The first record, if there is one.
     pub fn first(&self) -> Result<Option<SharedRr>, AllocError>
         ensures { IfOk result (λ r. r ≡ first_record self.now) }
     {
-        match self.data.first() {
+        match self.items.first() {
             Some(data) => Ok(Some(SharedRr::new(self.ttl, data.clone()?))),
             None => Ok(None),
         }
@@ -113,8 +133,7 @@ impl Rrset {
         ensures ok { OnOk result (self.new ≡ with_data self.old (data_fields item)) }
         ensures err { OnErr result (self.new ≡ self.old) }
     {
-        self.data.push(item)?;
-        Ok(())
+        push_last(&mut self.items, &mut self.seen, item)
     }
 
     /// Puts the data of a record of the RRset's type last, and lowers the TTL to the record's where it is higher. The record's owner and class
@@ -145,7 +164,8 @@ impl Clone for Rrset {
         Ok(Rrset {
             rtype: self.rtype,
             ttl: self.ttl,
-            data: self.data.clone()?,
+            items: self.items.clone()?,
+            seen: self.seen.clone()?,
         })
     }
 }
@@ -166,7 +186,7 @@ impl PartialEq for Rrset {
         if self.ttl != other.ttl {
             return false;
         }
-        self.data == other.data
+        self.items == other.items
     }
 }
 

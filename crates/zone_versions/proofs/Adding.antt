@@ -6,10 +6,10 @@ use Rattle.dns_rdata.specs.Records.{Field, Record}
 use Rattle.zone_model.specs.Version.{RecordSet, Key, Sets, Version, set_in, below_apex}
 use Rattle.zone_model.specs.Edits.{OutOfZone, Incompatible, InvalidData, add, has_data, second_alias, with_sets}
 use Rattle.zone_model.proofs.Folded.{fold-fold, under_alike, same_name_alike}
-use Rattle.zone_sets.specs.SetEdits.{put_with, last_set}
-use Rattle.zone_sets.specs.PutCauses.{has_equal, TellsPut}
-use Rattle.zone_sets.specs.TypedEntries.{typed, untyped}
-use Rattle.zone_sets.specs.declared.keyed.PutError.{PutError}
+use Rattle.zone_values.specs.SetEdits.{put_with, last_set}
+use Rattle.zone_values.specs.PutCauses.{has_equal, TellsPut}
+use Rattle.zone_values.specs.TypedEntries.{typed, untyped}
+use Rattle.zone_values.specs.declared.rrset_edits.PutError.{PutError}
 use Rattle.zone_values.specs.TypedSets.{TypedSet}
 use Rattle.zone_versions.specs.Sound.{IsSound}
 use Rattle.zone_versions.proofs.Sound.{add_sound}

@@ -4,7 +4,7 @@ use Rattle.std.specs.List.{list_any, filter}
 use Rattle.zone_model.specs.Version.{RecordSet, Key, Version}
 use Rattle.std.specs.Map.{keys_of}
 use Rattle.zone_versions.specs.Strays.{is_stray_at}
-use Rattle.zone_sets.proofs.Equality.{list_any_map}
+use Rattle.zone_values.proofs.Equality.{list_any_map}
 use Rattle.zone_model.specs.Edits.{is_stray, close, with_sets}
 
 first_of_or : (a b : Bool) → (a || b) ≡ false → (a ≡ false) × (b ≡ false)

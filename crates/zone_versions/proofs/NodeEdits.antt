@@ -16,14 +16,14 @@ use Rattle.zone_model.specs.Version.{RecordSet, Key, Version, key_cmp, has_key, 
 use Rattle.zone_model.specs.Edits.{with_sets, put_set, remove_set, distinct, distinct_set, has_data, is_bad_alias, clear, add_glue}
 use Rattle.zone_model.proofs.Folded.{key_total}
 use Rattle.zone_model.proofs.Ordered.{sorted-remove_entry}
-use Rattle.zone_sets.proofs.Equality.{filter_map}
+use Rattle.zone_values.proofs.Equality.{filter_map}
 use Rattle.zone_versions.specs.Sound.{is_sound_at, IsSound}
 use Rattle.zone_versions.specs.Nodes.{put_at, is_address_in, with_glue}
 use Rattle.zone_versions.proofs.Putting.{put_some, pushed_some}
 use Rattle.zone_sets.proofs.Thinning.{suc_not}
 use Rattle.zone_sets.proofs.KeptTypes.{all_remove}
-use Rattle.zone_sets.proofs.FirstData.{distinct_same, distinct_differ}
-use Rattle.zone_sets.specs.SetEdits.{put_with, opening_set}
+use Rattle.zone_values.proofs.FirstData.{distinct_same, distinct_differ}
+use Rattle.zone_values.specs.SetEdits.{put_with, opening_set}
 use Rattle.zone_versions.proofs.Distinct.{differ_push}
 use Rattle.zone_versions.proofs.Sound.{data_stand, sound_put}
 

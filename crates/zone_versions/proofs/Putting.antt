@@ -8,7 +8,7 @@ use Rattle.dns_rdata.specs.Records.{Field, Record, same_data}
 use Rattle.zone_model.specs.Version.{RecordSet, Version, key_cmp, set_in}
 use Rattle.zone_model.specs.Classify.{lowest_ttl}
 use Rattle.zone_model.specs.Edits.{with_sets, remove_set, put_set}
-use Rattle.zone_sets.specs.SetEdits.{put_with, last_set, opening_set}
+use Rattle.zone_values.specs.SetEdits.{put_with, last_set, opening_set}
 use Rattle.zone_sets.proofs.Thinning.{suc_not}
 use Rattle.zone_versions.specs.Puts.{appended, opened_by}
 

@@ -6,7 +6,7 @@ use Rattle.dns_name.specs.Names.{fold}
 use Rattle.dns_rdata.specs.Records.{Record}
 use Rattle.zone_model.specs.Version.{RecordSet, Version, key_cmp, has_key}
 use Rattle.zone_model.specs.Edits.{with_sets, remove_set}
-use Rattle.zone_sets.specs.SetEdits.{thinned, taken_out}
+use Rattle.zone_values.specs.SetEdits.{thinned, taken_out}
 use Rattle.zone_versions.specs.Puts.{without}
 
 -- a record's data taken out of a version

@@ -22,7 +22,7 @@ use Rattle.zone_versions.specs.Sound.{is_sound_at, IsSound}
 use Rattle.zone_versions.specs.Strays.{is_stray_at}
 use Rattle.zone_versions.specs.Puts.{with_soa, opened_by, adds_alias}
 use Rattle.zone_model.specs.Classify.{lowest_ttl}
-use Rattle.zone_sets.proofs.Equality.{filter_map}
+use Rattle.zone_values.proofs.Equality.{filter_map}
 use Rattle.zone_sets.proofs.KeptTypes.{all_insert, all_remove}
 use Rattle.zone_versions.proofs.Closing.{closed_is}
 use Rattle.zone_versions.proofs.Distinct.{differ_push, differ_pushed, pushed_new, has_distinct_data}

@@ -5,7 +5,7 @@ use Rattle.std.specs.Cmp.{first_so, second_so}
 use Rattle.std.specs.Cmp.Derive.{both_true}
 use Rattle.zone_model.specs.Version.{RecordSet, Key, Sets}
 use Rattle.zone_values.specs.TypedSets.{TypedSet}
-use Rattle.zone_sets.specs.TypedEntries.{typed, untyped, item_of, entry_of, has_own_type}
+use Rattle.zone_values.specs.TypedEntries.{typed, untyped, item_of, entry_of, has_own_type}
 
 -- what a look-up finds
 pub found_type : (o : Option (Key × RecordSet)) (k : Key) (s : TypedSet) → Some (k, s) ≡ option_map item_of o → s.rtype ≡ k.1

@@ -10,7 +10,6 @@ use crate::version::ZoneVersion;
 use dns_name::{KeyName, Rtype};
 use dns_rdata::StoredRecord;
 use std::alloc::{AllocError, Global};
-use zone_sets::RecordSet;
 use zone_values::{Rrset, SharedRr, SharedRrset};
 
 /// Puts the first of equal data of an RRset in place of the old one; an empty one removes that.
@@ -26,7 +25,7 @@ pub fn replace_set(
         (version.new ≡ edits.put_set version.old owner.now set.now.rtype (distinct_set set.now.contents)) }
     ensures err { OnErr result (version.new ≡ version.old) }
 {
-    let first = RecordSet::from_rrset(alloc, set)?;
+    let first = set.to_distinct(alloc)?;
     version.put_set(owner, first)
 }
 
@@ -44,7 +43,7 @@ pub fn make_alias(
     ensures err { OnErr result (version.new ≡ version.old) }
 {
     let item = alias.data().clone()?;
-    let set = RecordSet::of_one(alloc, alias.ttl(), item)?;
+    let set = Rrset::of_one(alloc, alias.ttl(), item)?;
     version.put_set(owner, set)
 }
 

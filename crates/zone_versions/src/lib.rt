@@ -14,4 +14,4 @@ pub use building::{make_alias, make_cut, replace_set};
 pub use errors::EditError;
 pub use version::ZoneVersion;
 pub use walk::{RrsetIter, WalkItem};
-pub use zone_sets::{RecordSet, SetKey};
+pub use zone_sets::SetKey;

@@ -10,7 +10,7 @@ ghost use Rattle.dns_rdata.specs.ZoneData.{rtype_of, data_fields};
 ghost use Rattle.zone_model.specs.Version.{all_differ, set_at};
 ghost use Rattle.zone_model.specs.Edits as edits;
 ghost use Rattle.zone_model.specs.Edits.{distinct, first_record, first_soa, bump_from};
-ghost use Rattle.zone_sets.specs.TypedEntries.{typed};
+ghost use Rattle.zone_values.specs.TypedEntries.{typed};
 ghost use Rattle.zone_versions.specs.Puts.{with_soa};
 ghost use Rattle.zone_versions.specs.Nodes.{put_at, is_address_in, with_glue};
 
@@ -18,7 +18,7 @@ use crate::version::ZoneVersion;
 use dns_name::{KeyName, Rtype, StoredName, ToName, Ttl};
 use dns_rdata::{RecordData, Soa, StoredRecord, StoredRecordData, ZoneRecordData};
 use std::alloc::{AllocError, Global};
-use zone_sets::{KeyedSets, RecordSet, SetKey};
+use zone_sets::{KeyedSets, SetKey};
 use zone_values::Rrset;
 
 impl ZoneVersion {
@@ -36,7 +36,7 @@ impl ZoneVersion {
     }
 
     /// Puts an RRset in place of the one of its owner and type; an empty one removes that.
-    pub fn put_set(&mut self, owner: &KeyName, set: RecordSet) -> Result<(), AllocError>
+    pub fn put_set(&mut self, owner: &KeyName, set: Rrset) -> Result<(), AllocError>
         requires zone { under owner.now self.old.apex ≡ true }
         requires differ { all_differ set.contents.items ≡ true }
         requires alias { edits.is_bad_alias self.old owner.now set.rtype set.contents ≡ false }
@@ -114,19 +114,19 @@ impl ZoneVersion {
     }
 
     /// The apex SOA RRset.
-    fn soa_set(&self) -> Option<&RecordSet>
+    fn soa_set(&self) -> Option<&Rrset>
         ensures { option_copied result ≡ option_map (typed type_soa) (set_at self.now self.now.apex type_soa) }
     {
         self.set_at(&self.apex, Rtype::SOA)
     }
 
     /// The same with the published SOA RRset.
-    fn follow(&mut self, alloc: Global, published: &RecordSet) -> Result<(), AllocError>
+    fn follow(&mut self, alloc: Global, published: &Rrset) -> Result<(), AllocError>
         requires { published.now.rtype ≡ type_soa }
         ensures ok { OnOk result (self.new ≡ bump_from self.old (first_record published.now.contents)) }
         ensures err { OnErr result (self.new ≡ self.old) }
     {
-        match published.items().first() {
+        match published.data().first() {
             Some(old) => self.count_on(alloc, published.ttl(), old),
             None => Ok(()),
         }
@@ -166,7 +166,7 @@ impl ZoneVersion {
         ensures err { OnErr result (self.new ≡ self.old) }
     {
         let key = SetKey::new(&self.apex, Rtype::SOA);
-        let set = RecordSet::of_one(alloc, ttl, item)?;
+        let set = Rrset::of_one(alloc, ttl, item)?;
         self.sets.insert(key, set)?;
         Ok(())
     }
@@ -197,12 +197,12 @@ fn is_address(rtype: Rtype) -> bool
 }
 
 /// Puts an RRset at a key, or takes the one there away where it is empty.
-fn put_at(sets: &mut KeyedSets, key: SetKey, set: RecordSet) -> Result<(), AllocError>
+fn put_at(sets: &mut KeyedSets, key: SetKey, set: Rrset) -> Result<(), AllocError>
     requires { set.rtype ≡ key.1 }
     ensures ok { OnOk result (sets.new ≡ put_at key set.contents sets.old) }
     ensures err { OnErr result (sets.new ≡ sets.old) }
 {
-    if set.items().is_empty() {
+    if set.data().is_empty() {
         drop(set);
         sets.remove(&key);
         return Ok(());
@@ -218,10 +218,10 @@ fn drop_under(sets: &mut KeyedSets, name: &KeyName)
 }
 
 /// Whether the first record of an RRset is there and another one than this.
-fn is_news(set: &RecordSet, ttl: Ttl, old: &StoredRecordData) -> bool
+fn is_news(set: &Rrset, ttl: Ttl, old: &StoredRecordData) -> bool
     ensures { result ≡ edits.is_news (first_record set.now.contents) (ttl, data_fields old.now) }
 {
-    match set.items().first() {
+    match set.data().first() {
         Some(first) => !(set.ttl() == ttl && first.fields_eq(old)),
         None => false,
     }

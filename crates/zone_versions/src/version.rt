@@ -13,7 +13,7 @@ ghost use Rattle.zone_versions.specs.Causes.{refusal_of};
 ghost use Rattle.zone_versions.specs.Sound.{IsSound};
 ghost use Rattle.zone_versions.specs.Strays.{is_stray_at};
 ghost use Rattle.zone_versions.specs.Puts.{StandsAt, adds_alias, appended, without, with_soa};
-ghost use Rattle.zone_sets.specs.TypedEntries.{item_of, entry_of, typed, typed_set_in};
+ghost use Rattle.zone_values.specs.TypedEntries.{item_of, entry_of, typed, typed_set_in};
 ghost use Rattle.std.specs.Map.{keys_of};
 ghost use Rattle.std.specs.Map.Iter.{deref_pair};
 ghost use Rattle.std.specs.Ordering.{is_lt};
@@ -29,7 +29,8 @@ use dns_rdata::{RecordData, Soa, StoredRecord, StoredRecordData, ZoneRecordData}
 use std::alloc::{AllocError, Global};
 use std::collections::btree_map::{Iter, Keys};
 use std::marker::Model;
-use zone_sets::{KeyedSets, PutError, RecordSet, SetKey};
+use zone_sets::{KeyedSets, SetKey};
+use zone_values::{PutError, Rrset};
 
 /// One version of a zone (RFC 1034, 4.2): the apex as it was given, the class, and the RRsets.
 #[derive(Drop)]
@@ -106,14 +107,14 @@ impl ZoneVersion {
     }
 
     /// The RRset at a key.
-    fn set_in(&self, key: &SetKey) -> Option<&RecordSet>
+    fn set_in(&self, key: &SetKey) -> Option<&Rrset>
         ensures { option_copied result ≡ typed_set_in self.now.sets key.now }
     {
         self.sets.get(key)
     }
 
     /// The RRset of an owner and type.
-    pub fn set_at<N: Labelled>(&self, owner: &N, rtype: Rtype) -> Option<&RecordSet>
+    pub fn set_at<N: Labelled>(&self, owner: &N, rtype: Rtype) -> Option<&Rrset>
         ensures { option_copied result ≡ option_map (typed rtype) (set_at self.now (N.labels owner.now) rtype) }
     {
         self.set_in(&SetKey::new(owner, rtype))
@@ -160,14 +161,14 @@ impl ZoneVersion {
 // The walk.
 impl ZoneVersion {
     /// The entries, in order.
-    pub(crate) fn entries(&self) -> Iter<'_, SetKey, RecordSet>
+    pub(crate) fn entries(&self) -> Iter<'_, SetKey, Rrset>
         ensures { result ≡ map item_of self.now.sets }
     {
         self.sets.iter()
     }
 
     /// The keys of the RRsets, in order.
-    pub fn keys(&self) -> Keys<'_, SetKey, RecordSet>
+    pub fn keys(&self) -> Keys<'_, SetKey, Rrset>
         ensures is { result ≡ keys_of self.now.sets }
         ensures sound { IsSound self.now }
     {
@@ -175,7 +176,7 @@ impl ZoneVersion {
     }
 
     /// An entry as a walk shows it.
-    pub(crate) fn stop<'v>(&'v self, key: &SetKey, contents: &'v RecordSet) -> WalkItem<'v>
+    pub(crate) fn stop<'v>(&'v self, key: &SetKey, contents: &'v Rrset) -> WalkItem<'v>
         requires { contents.now.rtype ≡ key.now.1 }
         ensures { result ≡ stop_of self.now (entry_of (key.now, contents.now)) }
     {
@@ -199,14 +200,14 @@ impl ZoneVersion {
     }
 
     /// The first entry after a key.
-    fn entry_behind(&self, key: &SetKey) -> Option<(&SetKey, &RecordSet)>
+    fn entry_behind(&self, key: &SetKey) -> Option<(&SetKey, &Rrset)>
         ensures { option_map deref_pair result ≡ option_map item_of (find (λ e. is_lt (key_cmp key.now e.0)) self.now.sets) }
     {
         self.sets.first_behind(key)
     }
 
     /// The first RRset whose owner isn't before a name in canonical order (RFC 4034, 6.1).
-    pub fn first_from<N: Labelled>(&self, owner: &N) -> Option<(&SetKey, &RecordSet)>
+    pub fn first_from<N: Labelled>(&self, owner: &N) -> Option<(&SetKey, &Rrset)>
         ensures { option_map deref_pair result ≡ option_map item_of (first_from self.now (N.labels owner.now)) }
     {
         self.sets
@@ -387,7 +388,7 @@ impl ZoneVersion {
         ensures err { OnErr result (self.new ≡ self.old) }
     {
         let key = SetKey::new(&self.apex, Rtype::SOA);
-        let set = RecordSet::of_one(alloc, ttl, ZoneRecordData::Soa(soa))?;
+        let set = Rrset::of_one(alloc, ttl, ZoneRecordData::Soa(soa))?;
         self.sets.insert(key, set)?;
         Ok(())
     }

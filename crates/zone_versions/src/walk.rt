@@ -8,14 +8,15 @@ use dns_name::{KeyName, Rtype, Ttl};
 use dns_rdata::StoredRecordData;
 use std::collections::btree_map::Iter;
 use std::marker::Model;
-use zone_sets::{RecordSet, SetKey};
+use zone_sets::SetKey;
+use zone_values::Rrset;
 
 /// One stop of a walk: an RRset with its owner and type.
 #[derive(Drop)]
 pub struct WalkItem<'v> {
     owner: KeyName,
     rtype: Rtype,
-    contents: &'v RecordSet,
+    contents: &'v Rrset,
     below_cut: bool,
 }
 
@@ -35,7 +36,7 @@ impl<'v> WalkItem<'v> {
     pub(crate) fn of(
         owner: KeyName,
         rtype: Rtype,
-        contents: &'v RecordSet,
+        contents: &'v Rrset,
         below_cut: bool,
     ) -> WalkItem<'v>
         requires { contents.now.rtype ≡ rtype }
@@ -77,7 +78,7 @@ impl<'v> WalkItem<'v> {
         ensures types { All (λ d. rtype_of d ≡ self.now.rtype) result.now }
     {
         let contents = self.contents;
-        contents.items()
+        contents.data()
     }
 
     /// Whether a zone cut stands at the owner or above it (RFC 1034, 4.2.1).
@@ -92,14 +93,14 @@ impl<'v> WalkItem<'v> {
 #[derive(Drop)]
 pub struct RrsetIter<'v> {
     version: &'v ZoneVersion,
-    entries: Iter<'v, SetKey, RecordSet>,
+    entries: Iter<'v, SetKey, Rrset>,
 }
 
 impl<'v> Model for RrsetIter<'v> {
     ghost use Rattle.std.specs.Prelude.{List, map, IsTrue};
     ghost use Rattle.std.specs.List.{list_all};
     ghost use Rattle.zone_model.specs.Walk.{Stop};
-    ghost use Rattle.zone_sets.specs.TypedEntries.{entry_of, has_own_type};
+    ghost use Rattle.zone_values.specs.TypedEntries.{entry_of, has_own_type};
     ghost use Rattle.zone_versions.specs.Stops.{stop_of};
 
     ghost Value = { List Stop };

@@ -2,7 +2,7 @@ use Rattle.std.proofs.Common.{◌≡◌, ◌++◌, ◌∷◌, [], ap, ◌∙◌,
 use Rattle.std.specs.Option.{option_copied}
 use Rattle.dns_rdata.specs.ZoneData.{data_fields}
 use Rattle.zone_values.specs.TypedSets.{TypedSet, set_of}
-use Rattle.zone_sets.specs.TypedEntries.{untyped}
+use Rattle.zone_values.specs.TypedEntries.{untyped}
 use Rattle.zone_changes.specs.Changes.{has_record}
 use Rattle.zone_changes.proofs.Lacking.{lacked_more}
 use Rattle.zone_changes.proofs.changes.lacked.Goals as goal

@@ -2,7 +2,7 @@ use Rattle.std.proofs.Common.{◌≡◌, map, take}
 use Rattle.std.specs.Option.{option_copied}
 use Rattle.dns_rdata.specs.ZoneData.{data_fields}
 use Rattle.zone_values.specs.TypedSets.{set_of}
-use Rattle.zone_sets.specs.TypedEntries.{untyped}
+use Rattle.zone_values.specs.TypedEntries.{untyped}
 use Rattle.zone_changes.proofs.Lacking.{lacked_items}
 use Rattle.zone_changes.proofs.changes.lacked.Given as goal
 

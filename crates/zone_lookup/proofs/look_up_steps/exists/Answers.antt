@@ -1,7 +1,7 @@
 use Rattle.std.proofs.Common.{sym, ap, ◌∙◌, option_map}
 use Rattle.std.specs.Map.Iter.{deref_pair}
 use Rattle.dns_name.specs.Names.{under}
-use Rattle.zone_sets.specs.TypedEntries.{entry_of}
+use Rattle.zone_values.specs.TypedEntries.{entry_of}
 use Rattle.zone_lookup.proofs.LentTypes.{found_untyped}
 use Rattle.zone_lookup.proofs.Existence.{exists_by}
 use Rattle.zone_lookup.proofs.look_up_steps.exists.Goals as goal

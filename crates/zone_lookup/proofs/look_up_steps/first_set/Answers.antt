@@ -2,7 +2,7 @@ use Rattle.std.proofs.Common.{sym, ap, ◌∙◌, option_map}
 use Rattle.std.specs.Map.Iter.{deref_pair}
 use Rattle.dns_name.specs.Names.{same_name}
 use Rattle.zone_model.specs.Answer.Answer.{Found}
-use Rattle.zone_sets.specs.TypedEntries.{entry_of}
+use Rattle.zone_values.specs.TypedEntries.{entry_of}
 use Rattle.zone_versions.proofs.TypedStops.{found_type}
 use Rattle.zone_lookup.proofs.LentTypes.{found_untyped}
 use Rattle.zone_lookup.proofs.FirstSets.{first_is, own_then, own_else}

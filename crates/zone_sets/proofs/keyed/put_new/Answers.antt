@@ -3,8 +3,8 @@ use Rattle.std.specs.BTreeMap.Entry.{entry_value}
 use Rattle.dns_rdata.specs.ZoneData.{data_fields}
 use Rattle.zone_model.specs.Version.{RecordSet}
 use Rattle.zone_values.specs.TypedSets.{set_of}
-use Rattle.zone_sets.specs.SetEdits.{last_set}
-use Rattle.zone_sets.specs.PutCauses.{TellsPut}
+use Rattle.zone_values.specs.SetEdits.{last_set}
+use Rattle.zone_values.specs.PutCauses.{TellsPut}
 use Rattle.zone_sets.proofs.KeptTypes.{found_own, found_seen}
 use Rattle.zone_sets.proofs.SetWrites.{stood, stayed, newly, on_ok, on_err}
 use Rattle.zone_sets.proofs.Telling.{absent_tells, absent_fails}

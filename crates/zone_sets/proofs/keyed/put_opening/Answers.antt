@@ -2,7 +2,7 @@ use Rattle.std.proofs.Common.{ℕ, [], ◌∷◌, ◌∙◌, ap, sym, rules}
 use Rattle.std.specs.BTreeMap.Entry.{entry_value}
 use Rattle.dns_rdata.specs.ZoneData.{data_fields}
 use Rattle.zone_values.specs.TypedSets.{set_of}
-use Rattle.zone_sets.specs.SetEdits.{opening_set}
+use Rattle.zone_values.specs.SetEdits.{opening_set}
 use Rattle.zone_sets.proofs.KeptTypes.{found_own}
 use Rattle.zone_sets.proofs.SetWrites.{stood, stayed, newly, on_ok, on_err}
 use Rattle.zone_sets.proofs.keyed.put_opening.Goals as goal

@@ -1,7 +1,7 @@
 use Rattle.std.proofs.Common.{◌≡◌, refl, sym, ap, ◌∙◌}
 use Rattle.dns_name.specs.Codes.{type_soa}
 use Rattle.dns_rdata.specs.ZoneData.{rtype_of, data_fields}
-use Rattle.zone_sets.specs.TypedEntries.{untyped}
+use Rattle.zone_values.specs.TypedEntries.{untyped}
 use Rattle.zone_versions.proofs.TypedStops.{untyped_typed}
 use Rattle.xfr_server.proofs.Adding.{soa_none}
 use Rattle.xfr_server.proofs.Loops.{record_with, looked_up_type, no_soa_data}

@@ -1,7 +1,7 @@
 use Rattle.std.proofs.Common.{◌≡◌, Option, Some, option_map, map, slice_get, sym, ap, ◌∙◌}
 use Rattle.std.specs.Arc.{arc_value}
 use Rattle.dns_rdata.specs.ZoneData.{rtype_of, data_fields}
-use Rattle.zone_sets.specs.TypedEntries.{typed}
+use Rattle.zone_values.specs.TypedEntries.{typed}
 use Rattle.xfr_text.specs.Places.{TextLeft, set_in_part, text_left}
 use Rattle.xfr_text.specs.declared.place.Place.{Place}
 use Rattle.xfr_text.proofs.Texts.{with_data}

@@ -1,6 +1,6 @@
 use Rattle.std.proofs.Common.{map}
 use Rattle.std.proofs.lemmas.Iterator.Consumers.{nth_from_yields_List, YieldsList-from_rest}
-use Rattle.zone_sets.specs.TypedEntries.{item_of}
+use Rattle.zone_values.specs.TypedEntries.{item_of}
 use Rattle.zone_diffs.proofs.sets.DiffSets.at.Goals as goal
 
 pub returns : goal.returns

@@ -1,7 +1,7 @@
 use Rattle.std.proofs.Common.{◌≡◌, ap, ◌∙◌, option_map, find}
 use Rattle.std.specs.Ordering.{is_le}
 use Rattle.zone_model.specs.Version.{Key, RecordSet, key_cmp}
-use Rattle.zone_sets.specs.TypedEntries.{item_of}
+use Rattle.zone_values.specs.TypedEntries.{item_of}
 use Rattle.zone_records.proofs.TypesIn.{found_type, no_type}
 use Rattle.zone_records.proofs.owners.Owners.first_type_from.Goals as goal
 

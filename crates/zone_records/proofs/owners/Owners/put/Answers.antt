@@ -1,7 +1,7 @@
 use Rattle.std.proofs.Common.{◌≡◌, ap, sym, subst, ◌∙◌}
 use Rattle.dns_name.specs.Names.{fold}
 use Rattle.zone_model.specs.Version.{Key, Sets}
-use Rattle.zone_sets.specs.SetEdits.{put_with, opening_set}
+use Rattle.zone_values.specs.SetEdits.{put_with, opening_set}
 use Rattle.zone_records.specs.Parsed.{IsTidy}
 use Rattle.zone_records.specs.Taking.{put_to}
 use Rattle.zone_records.proofs.Tidy.{put_opening_is, put_tidy}

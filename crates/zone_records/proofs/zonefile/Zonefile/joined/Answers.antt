@@ -1,6 +1,6 @@
 use Rattle.std.proofs.Common.{◌≡◌, ap, sym, subst, ◌∙◌}
 use Rattle.zone_model.specs.Version.{Sets}
-use Rattle.zone_sets.specs.SetEdits.{put_all}
+use Rattle.zone_values.specs.SetEdits.{put_all}
 use Rattle.zone_versions.specs.Sound.{IsSound}
 use Rattle.zone_records.specs.Parsed.{Parsed, joined}
 use Rattle.zone_records.specs.Faults.{faults}

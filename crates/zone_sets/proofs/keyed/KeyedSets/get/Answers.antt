@@ -1,6 +1,6 @@
 use Rattle.std.proofs.Common.{◌∙◌, ap}
 use Rattle.zone_model.specs.Version.{Sets}
-use Rattle.zone_sets.specs.TypedEntries.{typed_set_in}
+use Rattle.zone_values.specs.TypedEntries.{typed_set_in}
 use Rattle.zone_sets.proofs.KeptTypes.{lookup_seen}
 use Rattle.zone_sets.proofs.keyed.KeyedSets.get.Goals as goal
 

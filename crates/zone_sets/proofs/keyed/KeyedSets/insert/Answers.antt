@@ -2,7 +2,7 @@ use Rattle.std.proofs.Common.{◌≡◌, map, sym, ap, ◌∙◌, subst, true, i
 use Rattle.std.specs.List.{list_all}
 use Rattle.std.specs.BTreeMap.{insert_entry}
 use Rattle.zone_model.specs.Version.{Sets, key_cmp, set_in}
-use Rattle.zone_sets.specs.TypedEntries.{entry_of, has_own_type}
+use Rattle.zone_values.specs.TypedEntries.{entry_of, has_own_type}
 use Rattle.zone_sets.proofs.KeptTypes.{TypedEntries, insert_seen, insert_own, absent_seen}
 use Rattle.zone_sets.proofs.keyed.KeyedSets.insert.Goals as goal
 

@@ -1,8 +1,8 @@
 use Rattle.std.proofs.Common.{◌≡◌, ◌∷◌, map, sym, ap, ◌∙◌, subst, refl, IsTrue}
 use Rattle.std.specs.List.{list_all}
 use Rattle.zone_model.specs.Version.{Sets}
-use Rattle.zone_sets.specs.TypedEntries.{entry_of, has_own_type}
-use Rattle.zone_sets.specs.SetEdits.{put_all}
+use Rattle.zone_values.specs.TypedEntries.{entry_of, has_own_type}
+use Rattle.zone_values.specs.SetEdits.{put_all}
 use Rattle.zone_sets.proofs.KeptTypes.{TypedEntries, first_own, rest_own}
 use Rattle.zone_sets.proofs.keyed.KeyedSets.put_all.Goals as goal
 

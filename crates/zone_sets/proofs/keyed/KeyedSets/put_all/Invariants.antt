@@ -1,7 +1,7 @@
 use Rattle.std.proofs.Common.{◌≡◌, map, IsTrue}
 use Rattle.std.specs.List.{list_all}
-use Rattle.zone_sets.specs.TypedEntries.{entry_of, has_own_type}
-use Rattle.zone_sets.specs.SetEdits.{put_all}
+use Rattle.zone_values.specs.TypedEntries.{entry_of, has_own_type}
+use Rattle.zone_values.specs.SetEdits.{put_all}
 use Rattle.zone_sets.proofs.keyed.KeyedSets.put_all.Given as goal
 
 -- With the sets that are left, it is what all of them make. Each of those is of its key's type.

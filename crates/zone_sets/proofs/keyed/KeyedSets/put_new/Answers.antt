@@ -1,8 +1,8 @@
 use Rattle.std.proofs.Common.{map, sym, ap, ◌∙◌, subst, refl, IsTrue}
 use Rattle.std.specs.List.{list_all}
 use Rattle.dns_rdata.specs.ZoneData.{data_fields}
-use Rattle.zone_sets.specs.TypedEntries.{entry_of, has_own_type}
-use Rattle.zone_sets.specs.SetEdits.{put_with, last_set}
+use Rattle.zone_values.specs.TypedEntries.{entry_of, has_own_type}
+use Rattle.zone_values.specs.SetEdits.{put_with, last_set}
 use Rattle.zone_sets.proofs.KeptTypes.{TypedEntries, insert_seen, insert_own}
 use Rattle.zone_sets.proofs.SetWrites.{made_at, on_ok, in_both}
 use Rattle.zone_sets.proofs.keyed.KeyedSets.put_new.Goals as goal

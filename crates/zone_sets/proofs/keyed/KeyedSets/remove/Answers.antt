@@ -2,7 +2,7 @@ use Rattle.std.proofs.Common.{map, sym, ap, ◌∙◌, subst, IsTrue}
 use Rattle.std.specs.List.{list_all}
 use Rattle.std.specs.Map.{remove_entry}
 use Rattle.zone_model.specs.Version.{has_key}
-use Rattle.zone_sets.specs.TypedEntries.{entry_of, has_own_type}
+use Rattle.zone_values.specs.TypedEntries.{entry_of, has_own_type}
 use Rattle.zone_sets.proofs.KeptTypes.{TypedEntries, remove_seen, all_remove}
 use Rattle.zone_sets.proofs.keyed.KeyedSets.remove.Goals as goal
 

@@ -2,7 +2,7 @@ use Rattle.std.proofs.Common.{rules, map, filter, ap, ◌∙◌}
 use Rattle.std.proofs.lemmas.Map.Made.{filter_same_pairs}
 use Rattle.zone_model.specs.Version.{Key, RecordSet}
 use Rattle.zone_values.specs.TypedSets.{TypedSet}
-use Rattle.zone_sets.specs.TypedEntries.{entry_of, has_own_type}
+use Rattle.zone_values.specs.TypedEntries.{entry_of, has_own_type}
 use Rattle.zone_sets.proofs.KeptTypes.{filter_seen}
 use Rattle.zone_sets.proofs.Retained.{all_retained}
 use Rattle.zone_sets.proofs.keyed.KeyedSets.retain_keys.Goals as goal

@@ -3,8 +3,8 @@ use Rattle.std.specs.List.{list_all}
 use Rattle.std.specs.BTreeMap.{insert_entry}
 use Rattle.dns_rdata.specs.ZoneData.{data_fields}
 use Rattle.zone_model.specs.Version.{Sets, key_cmp}
-use Rattle.zone_sets.specs.TypedEntries.{typed, entry_of, has_own_type}
-use Rattle.zone_sets.specs.SetEdits.{thinned}
+use Rattle.zone_values.specs.TypedEntries.{typed, entry_of, has_own_type}
+use Rattle.zone_values.specs.SetEdits.{thinned}
 use Rattle.zone_sets.proofs.KeptTypes.{TypedEntries, insert_seen, insert_own}
 use Rattle.zone_sets.proofs.keyed.KeyedSets.thin_out.Goals as goal
 

@@ -2,7 +2,7 @@ use Rattle.std.proofs.Common.{Option, Some, map, ap, sym, ◌∙◌}
 use Rattle.std.specs.List.{list_all}
 use Rattle.zone_model.specs.Version.{Sets}
 use Rattle.zone_model.specs.Walk.{Stop}
-use Rattle.zone_sets.specs.TypedEntries.{entry_of, has_own_type}
+use Rattle.zone_values.specs.TypedEntries.{entry_of, has_own_type}
 use Rattle.zone_sets.proofs.KeptTypes.{TypedEntries}
 use Rattle.zone_versions.specs.Stops.{stop_of, first_of}
 use Rattle.zone_versions.proofs.TypedStops.{first_type, items_own, untyped_items}

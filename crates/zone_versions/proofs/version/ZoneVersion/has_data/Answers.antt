@@ -4,7 +4,7 @@ use Rattle.dns_name.specs.Names.{fold}
 use Rattle.dns_rdata.specs.Records.{Field, same_data}
 use Rattle.dns_rdata.specs.ZoneData.{data_fields}
 use Rattle.zone_model.specs.Version.{Key, Version, data_at}
-use Rattle.zone_sets.specs.SetEdits.{items_at}
+use Rattle.zone_values.specs.SetEdits.{items_at}
 use Rattle.zone_versions.proofs.version.ZoneVersion.has_data.Goals as goal
 
 -- The key is the record's, and the data are the record's.

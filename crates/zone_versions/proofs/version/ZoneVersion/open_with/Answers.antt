@@ -4,7 +4,7 @@ use Rattle.zone_model.specs.Version.{Version, Key}
 use Rattle.dns_name.specs.Names.{under}
 use Rattle.zone_model.specs.Classify.{opened_with}
 use Rattle.zone_model.specs.Edits.{has_data, with_sets}
-use Rattle.zone_sets.specs.SetEdits.{put_with, opening_set}
+use Rattle.zone_values.specs.SetEdits.{put_with, opening_set}
 use Rattle.zone_versions.specs.Puts.{opened_by, adds_alias}
 use Rattle.zone_versions.specs.Sound.{IsSound}
 use Rattle.zone_versions.proofs.Distinct.{opens_as_file}

@@ -2,7 +2,7 @@ use Rattle.std.proofs.Common.{◌≡◌, true, false, ap, sym, subst, ◌∙◌}
 use Rattle.dns_name.specs.Names.{fold}
 use Rattle.zone_model.specs.Version.{Version}
 use Rattle.zone_model.specs.Edits.{with_sets, has_data}
-use Rattle.zone_sets.specs.SetEdits.{put_with, opening_set}
+use Rattle.zone_values.specs.SetEdits.{put_with, opening_set}
 use Rattle.zone_versions.specs.Nodes.{is_address_in, with_glue}
 use Rattle.zone_versions.specs.Sound.{IsSound}
 use Rattle.zone_versions.proofs.NodeEdits.{glue_is, with_glue_sound}

@@ -1,7 +1,7 @@
 use Rattle.std.proofs.Common.{ap, sym, ◌∙◌, ◌&&◌, is_some}
 use Rattle.dns_rdata.specs.ZoneData.{data_fields}
 use Rattle.zone_model.specs.Version.{set_in}
-use Rattle.zone_sets.specs.PutCauses.{has_equal}
+use Rattle.zone_values.specs.PutCauses.{has_equal}
 use Rattle.zone_versions.proofs.Adding.{is_outside, is_equal, is_second, is_taken, found_at, lacks_at, and_false, alone_at}
 use Rattle.zone_versions.proofs.version.ZoneVersion.refusal_at.Goals as goal
 

@@ -2,7 +2,7 @@ use Rattle.std.proofs.Common.{◌≡◌, Ok, ap, sym, subst, ◌∙◌}
 use Rattle.dns_name.specs.Names.{fold}
 use Rattle.zone_model.specs.Version.{Version}
 use Rattle.zone_model.specs.Edits.{delete, with_sets}
-use Rattle.zone_sets.specs.SetEdits.{taken_out}
+use Rattle.zone_values.specs.SetEdits.{taken_out}
 use Rattle.zone_versions.specs.Puts.{without}
 use Rattle.zone_versions.specs.Sound.{IsSound}
 use Rattle.zone_versions.proofs.Removing.{without_is}

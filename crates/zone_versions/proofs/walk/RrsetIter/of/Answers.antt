@@ -1,6 +1,6 @@
 use Rattle.std.proofs.Common.{map, ap, ◌∙◌}
 use Rattle.std.specs.List.{list_all}
-use Rattle.zone_sets.specs.TypedEntries.{entry_of, has_own_type}
+use Rattle.zone_values.specs.TypedEntries.{entry_of, has_own_type}
 use Rattle.zone_sets.proofs.KeptTypes.{TypedEntries}
 use Rattle.zone_versions.specs.Stops.{stop_of}
 use Rattle.zone_versions.proofs.TypedStops.{items_own, untyped_items}
