@@ -2,7 +2,7 @@ use Rattle.std.proofs.Common.{◌≡◌, All, ap, sym, subst, ◌∙◌}
 use Rattle.std.proofs.lemmas.List.Elements.{All-push}
 use Rattle.dns_rdata.specs.ZoneData.{rtype_of}
 use Rattle.zone_values.specs.TypedSets.{TypedSet}
-use Rattle.zone_values.proofs.rrset_edits.Rrset.append.Goals as goal
+use Rattle.zone_values.proofs.rrset.Rrset.append.Goals as goal
 
 -- The data put last are of the set's type.
 pub invariant_of-self-2 : goal.invariant_of-self-2

@@ -2,7 +2,7 @@ use Rattle.std.proofs.Common.{◌≡◌, ap, sym, ◌∙◌}
 use Rattle.dns_rdata.specs.ZoneData.{rtype_of}
 use Rattle.zone_values.specs.TypedSets.{TypedSet}
 use Rattle.zone_values.proofs.Telling.{pushed_or_not}
-use Rattle.zone_values.proofs.rrset_edits.Rrset.open_with.Goals as goal
+use Rattle.zone_values.proofs.rrset.Rrset.open_with.Goals as goal
 
 -- The data are of the set's type, with those put or without.
 pub invariant_of-self-then-to_int : goal.invariant_of-self-then-to_int

@@ -5,7 +5,7 @@ use Rattle.dns_rdata.specs.ZoneData.{rtype_of, data_fields}
 use Rattle.zone_values.specs.TypedSets.{TypedSet, set_of}
 use Rattle.zone_values.specs.DataIndex.{IsIndexed}
 use Rattle.zone_values.proofs.Equality.{filter_map}
-use Rattle.zone_values.proofs.rrset_edits.Rrset.remove.Goals as goal
+use Rattle.zone_values.proofs.rrset.Rrset.remove.Goals as goal
 
 -- The fields of what is left are what is left of the fields.
 pub returns : goal.returns

@@ -1,6 +1,0 @@
-use Rattle.zone_values.proofs.FirstData.{set_differs}
-use Rattle.zone_values.proofs.rrset_edits.Rrset.to_distinct.Goals as goal
-
--- The first of equal data all differ.
-pub returns-clause-differ : goal.returns-clause-differ
-returns-clause-differ c = set_differs c.first_of_equal.result _ c.args.set.now.contents c.first_of_equal.ensures
