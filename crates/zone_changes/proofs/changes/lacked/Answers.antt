@@ -16,4 +16,4 @@ loop-item-preserved c =
     let had : c.has_record.result ≡ has_record other ttl (data_fields item) = c.has_record.ensures ∙ ap (λ n. has_record other n (data_fields item)) c.ttl-in-loop-item.ensures in
     c.in_ok-push_unless.ensures
     ∙ ap (λ (s : TypedSet). set_of s.rtype s.contents.ttl (if c.has_record.result then s.contents.items else s.contents.items ++ data_fields item ∷ [])) c.loop-item.invariant
-    ∙ ap (set_of c.args.set.now.rtype ttl) (lacked_more other ttl data_fields c.items-item-items.result.now c.loop-item.item-index item c.has_record.result c.loop-item-test.true c.item-item.is had)
+    ∙ ap (set_of c.args.set.now.rtype ttl) (lacked_more other ttl data_fields c.data-item-items.result.now c.loop-item.item-index item c.has_record.result c.loop-item-test.true c.item-item.is had)

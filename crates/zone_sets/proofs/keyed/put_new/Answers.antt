@@ -11,23 +11,23 @@ use Rattle.zone_sets.proofs.Telling.{absent_tells, absent_fails}
 use Rattle.zone_sets.proofs.keyed.put_new.Goals as goal
 
 -- The set at the key is of the key's type, and so are the data.
-pub append_new-requires : goal.append_new-requires
-append_new-requires c = c.requires.item ∙ sym (found_own c.args.sets.now.entries c.args.key c.into_mut.result.now c.requires.types (sym c.into_mut.ensures.value ∙ ap entry_value (sym c.in-Occupied.is) ∙ c.in-Ok.ensures.value))
+pub put_new-requires : goal.put_new-requires
+put_new-requires c = c.requires.item ∙ sym (found_own c.args.sets.now.entries c.args.key c.into_mut.result.now c.requires.types (sym c.into_mut.ensures.value ∙ ap entry_value (sym c.in-Occupied.is) ∙ c.in-Ok.ensures.value))
 
 -- The set that stood is written anew, or stays.
 pub returns-in-Occupied-clause-ok : goal.returns-in-Occupied-clause-ok
 returns-in-Occupied-clause-ok c =
-    on_ok c.append_new.result _ _ c.append_new.ensures.ok (λ h. stood (last_set c.args.ttl (data_fields c.args.item)) c.args.key c.into_mut.result.now c.append_new.new.set c.args.sets.now.entries c.requires.types
+    on_ok c.put_new.result _ _ c.put_new.ensures.ok (λ h. stood (last_set c.args.ttl (data_fields c.args.item)) c.args.key c.into_mut.result.now c.put_new.new.set c.args.sets.now.entries c.requires.types
     (sym c.into_mut.ensures.value ∙ ap entry_value (sym c.in-Occupied.is) ∙ c.in-Ok.ensures.value) h _ (search rules))
 
 pub returns-in-Occupied-clause-cause : goal.returns-in-Occupied-clause-cause
 returns-in-Occupied-clause-cause c =
-    subst (λ (o : Option RecordSet). TellsPut (data_fields c.args.item) c.args.alone o c.append_new.result)
-    (found_seen c.args.sets.now.entries c.args.key c.into_mut.result.now (sym c.into_mut.ensures.value ∙ ap entry_value (sym c.in-Occupied.is) ∙ c.in-Ok.ensures.value)) c.append_new.ensures.cause
+    subst (λ (o : Option RecordSet). TellsPut (data_fields c.args.item) c.args.alone o c.put_new.result)
+    (found_seen c.args.sets.now.entries c.args.key c.into_mut.result.now (sym c.into_mut.ensures.value ∙ ap entry_value (sym c.in-Occupied.is) ∙ c.in-Ok.ensures.value)) c.put_new.ensures.cause
 
 pub returns-in-Occupied-clause-err : goal.returns-in-Occupied-clause-err
 returns-in-Occupied-clause-err c =
-    on_err c.append_new.result _ _ c.append_new.ensures.err (λ h. stayed c.args.key c.into_mut.result.now c.append_new.new.set c.args.sets.now.entries c.in-Ok.ensures.ordered
+    on_err c.put_new.result _ _ c.put_new.ensures.err (λ h. stayed c.args.key c.into_mut.result.now c.put_new.new.set c.args.sets.now.entries c.in-Ok.ensures.ordered
     (sym c.into_mut.ensures.value ∙ ap entry_value (sym c.in-Occupied.is) ∙ c.in-Ok.ensures.value) h _ (search rules))
 
 -- None stood there.
