@@ -19,7 +19,7 @@ use dns_name::Ttl;
 use dns_rdata::StoredRecordData;
 use std::alloc::{AllocError, Global};
 use std::collections::BTreeMap;
-use std::collections::btree_map::{Entry, Iter, Keys};
+use std::collections::btree_map::{Entry, IntoIter, Iter, Keys};
 use std::marker::Model;
 use std::ops::Bound;
 use zone_values::{PutError, Rrset};
@@ -132,6 +132,13 @@ impl KeyedSets {
     {
         drop(self.entries.insert(key, set)?);
         Ok(())
+    }
+
+    /// The RRsets with their keys, in order. They are moved.
+    pub fn into_entries(self) -> IntoIter<SetKey, Rrset>
+        ensures { result ≡ map item_of self }
+    {
+        self.entries.into_iter()
     }
 
     /// Puts the RRsets of another map, each in place of the one at its key. They are moved. Without memory some of them may have been put.

@@ -17,7 +17,7 @@ put_new-requires c = c.requires.item ∙ sym (found_own c.args.sets.now.entries 
 -- The set that stood is written anew, or stays.
 pub returns-in-Occupied-clause-ok : goal.returns-in-Occupied-clause-ok
 returns-in-Occupied-clause-ok c =
-    on_ok c.put_new.result _ _ c.put_new.ensures.ok (λ h. stood (last_set c.args.ttl (data_fields c.args.item)) c.args.key c.into_mut.result.now c.put_new.new.set c.args.sets.now.entries c.requires.types
+    on_ok c.put_new.result _ _ c.put_new.ensures.ok (λ h. stood (last_set c.args.ttl (data_fields c.args.item)) c.args.key c.into_mut.result.now c.put_new.new.self c.args.sets.now.entries c.requires.types
     (sym c.into_mut.ensures.value ∙ ap entry_value (sym c.in-Occupied.is) ∙ c.in-Ok.ensures.value) h _ (search rules))
 
 pub returns-in-Occupied-clause-cause : goal.returns-in-Occupied-clause-cause
@@ -27,7 +27,7 @@ returns-in-Occupied-clause-cause c =
 
 pub returns-in-Occupied-clause-err : goal.returns-in-Occupied-clause-err
 returns-in-Occupied-clause-err c =
-    on_err c.put_new.result _ _ c.put_new.ensures.err (λ h. stayed c.args.key c.into_mut.result.now c.put_new.new.set c.args.sets.now.entries c.in-Ok.ensures.ordered
+    on_err c.put_new.result _ _ c.put_new.ensures.err (λ h. stayed c.args.key c.into_mut.result.now c.put_new.new.self c.args.sets.now.entries c.in-Ok.ensures.ordered
     (sym c.into_mut.ensures.value ∙ ap entry_value (sym c.in-Occupied.is) ∙ c.in-Ok.ensures.value) h _ (search rules))
 
 -- None stood there.
