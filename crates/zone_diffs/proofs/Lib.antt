@@ -1,4 +1,3 @@
-mod Data
 mod Entries
 mod Finding
 mod Cancelling

@@ -6,7 +6,7 @@ ghost use Rattle.zone_diffs.specs.Building.{taken_from, put_behind, lacked_by, a
 
 use crate::diff::InMemoryZoneDiff;
 use crate::errors::ZoneDiffError;
-use crate::rrsets::{distinct, lacked, merged};
+use crate::rrsets::{lacked, merged};
 use crate::sets::DiffSets;
 use dns_name::{Rtype, Serial, StoredName};
 use std::alloc::{AllocError, Global};
@@ -155,7 +155,7 @@ fn put_behind(
     ensures ok { OnOk result (side.new ≡ put_behind side.old key set.now.contents) }
     ensures err { OnErr result (side.new ≡ side.old) }
 {
-    let first = distinct(alloc, set)?;
+    let first = set.to_distinct(alloc)?;
     let joined = match side.get(&key) {
         Some(held) => merged(held.as_rrset(), &first)?,
         None => first,

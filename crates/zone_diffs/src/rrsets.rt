@@ -1,15 +1,12 @@
 // What is left of two record sets, and both as one.
-ghost use Rattle.std.specs.Prelude.{◌≡◌, ◌++◌, ◌∷◌, [], Some, IfOk, OnOk, not, filter, if◌then◌else◌};
+ghost use Rattle.std.specs.Prelude.{◌≡◌, ◌++◌, Some, IfOk, OnOk, not, filter};
 ghost use Rattle.std.specs.List.{list_any};
 ghost use Rattle.dns_rdata.specs.Records.{same_data};
-ghost use Rattle.dns_rdata.specs.ZoneData.{data_fields, rtype_of};
 ghost use Rattle.zone_model.specs.Difference.{merged_set};
-ghost use Rattle.zone_model.specs.Edits.{distinct_set};
 ghost use Rattle.zone_values.specs.TypedSets.{set_of};
 ghost use Rattle.zone_values.specs.TypedEntries.{typed};
 ghost use Rattle.zone_diffs.specs.Building.{lacked};
 
-use dns_rdata::StoredRecordData;
 use std::alloc::{AllocError, Global};
 use zone_values::Rrset;
 
@@ -23,17 +20,6 @@ pub(crate) fn lacked(alloc: Global, set: &Rrset, other: &Rrset) -> Result<Rrset,
     let mut left = Rrset::new(alloc, set.rtype(), set.ttl());
     push_lacked(&mut left, set, other)?;
     Ok(left)
-}
-
-/// The RRset with the first of equal data (RFC 2181, 5).
-pub(crate) fn distinct(alloc: Global, set: &Rrset) -> Result<Rrset, AllocError>
-    ensures { IfOk result (λ r. r ≡ typed set.now.rtype (distinct_set set.now.contents)) }
-{
-    let mut first = Rrset::new(alloc, set.rtype(), set.ttl());
-    for item in set.data() {
-        push_new(&mut first, item)?;
-    }
-    Ok(first)
 }
 
 /// The RRset with the data of another of its type that it lacks after its own. The TTL stays.
@@ -52,42 +38,9 @@ fn push_lacked(into: &mut Rrset, set: &Rrset, other: &Rrset) -> Result<(), Alloc
     ensures { OnOk result (into.new ≡ set_of into.old.rtype into.old.contents.ttl (into.old.contents.items ++ filter (λ d. not (list_any (same_data d) other.now.contents.items)) set.now.contents.items)) }
 {
     for item in set.data() {
-        if !has_data(other, item) {
+        if !other.contains(item) {
             into.push_data(item.clone()?)?;
         }
     }
     Ok(())
-}
-
-/// Puts data last, unless equal data are in the RRset.
-fn push_new(into: &mut Rrset, item: &StoredRecordData) -> Result<(), AllocError>
-    requires { rtype_of item.now ≡ into.old.rtype }
-    ensures { OnOk result (into.new ≡ set_of into.old.rtype into.old.contents.ttl (if list_any (same_data (data_fields item.now)) into.old.contents.items then into.old.contents.items else into.old.contents.items ++ data_fields item.now ∷ [])) }
-{
-    if has_data(into, item) {
-        return Ok(());
-    }
-    into.push_data(item.clone()?)
-}
-
-/// Whether equal data are in an RRset.
-#[tactic(auto, using(zone_sets::proofs::Equality::list_any_map))]
-fn has_data(set: &Rrset, item: &StoredRecordData) -> bool
-    ensures { result ≡ list_any (same_data (data_fields item.now)) set.now.contents.items }
-{
-    is_among(set.data(), item)
-}
-
-/// Whether some of the data are equal to the others.
-fn is_among(items: &[StoredRecordData], item: &StoredRecordData) -> bool
-    ensures { result ≡ list_any (λ kept. same_data (data_fields item.now) (data_fields kept)) items.now }
-{
-    items.iter().any(|kept| is_same(item, kept))
-}
-
-/// Whether two data are equal.
-fn is_same(item: &StoredRecordData, kept: &StoredRecordData) -> bool
-    ensures { result ≡ same_data (data_fields item.now) (data_fields kept.now) }
-{
-    item.fields_eq(kept)
 }
