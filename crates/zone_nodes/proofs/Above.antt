@@ -1,5 +1,5 @@
 -- A name, and those at and above it.
-use Rattle.std.proofs.Common.{◌≡◌, ℕ, ◌+◌, ◌≤◌, Bool, true, false, List, [], ◌∷◌, ◌++◌, length, drop, refl, sym, ap, ◌∙◌, true≢false, arith, length-append, append_assoc, is_eq, ◌⊎◌, inl, inr}
+use Rattle.std.proofs.Common.{◌≡◌, ℕ, ◌+◌, ◌≤◌, Bool, true, false, List, [], ◌∷◌, ◌++◌, length, drop, refl, sym, ap, ◌∙◌, true≢false, arith, length-append, append_assoc, is_eq, ◌⊎◌, inl, inr, ⊎_elim}
 use Rattle.std.specs.Str.{str_to_ascii_lowercase}
 use Rattle.std.specs.Cmp.{Equal-is}
 use Rattle.std.proofs.lemmas.List.{length-map}
@@ -75,3 +75,11 @@ tied a b h = (names_tied a b).0 ((Equal-is (canonical_cmp a b)).0 h)
 
 pub ties : (a b : Name) → fold a ≡ fold b → is_eq (canonical_cmp a b) ≡ true
 ties a b e = ap is_eq ((names_tied a b).1 e)
+
+-- two names at or above one are at or above each other
+pub under_either : (n a b : Name) → under n a ≡ true → under n b ≡ true → (under a b ≡ true) ⊎ (under b a ≡ true)
+under_either [] a b h k = inl (under_trans a [] b (under_itself a [] (sym (under_root a h))) k)
+under_either (l ∷ n) a b h k =
+    ⊎_elim (λ e. inl (under_trans a (l ∷ n) b (under_itself a (l ∷ n) (sym e)) k))
+    (λ u. ⊎_elim (λ e. inr (under_trans b (l ∷ n) a (under_itself b (l ∷ n) (sym e)) h)) (λ w. under_either n a b u w) (under_cases l n b k))
+    (under_cases l n a h)

@@ -1,5 +1,5 @@
 -- Trees after an edit, and how many nodes it builds.
-use Rattle.std.proofs.Common.{◌≡◌, ℕ, ◌+◌, ◌≤◌, Bool, true, false, cond, ◌&&◌, ◌||◌, ◌==◌, not, nat_lt, if◌then◌else◌, [], ◌∷◌, ◌++◌, length, filter, refl, sym, ap, ◌∙◌, subst, true≢false, arith, Ordering, Less, Equal, Greater, Option, Some, None, is_some, is_eq, nat_cmp, ne_eqb, le-leb, Result, Ok, Err, OnOk, OnErr, unwrap_or}
+use Rattle.std.proofs.Common.{◌≡◌, ℕ, ◌+◌, ◌≤◌, Bool, true, false, cond, ◌&&◌, ◌||◌, not, nat_lt, if◌then◌else◌, [], ◌∷◌, length, filter, refl, sym, ap, ◌∙◌, subst, true≢false, arith, Ordering, Less, Equal, Greater, Option, Some, None, is_some, is_eq, nat_cmp, le-leb, Result, Ok, Err, OnOk, OnErr, unwrap_or}
 use Rattle.std.specs.Ordering.{ordering_reverse}
 use Rattle.std.specs.Cmp.{Equal-is, tied_itself, nat_cmp_total}
 use Rattle.std.specs.List.{AllByRecursion}
@@ -8,18 +8,17 @@ use Rattle.std.specs.BTreeMap.{insert_entry, is_at}
 use Rattle.std.specs.Map.{lookup, keys_of, values_of, remove_entry}
 use Rattle.std.proofs.lemmas.Map.Keys.{sorted_head}
 use Rattle.std.proofs.lemmas.Map.Lookups.{exact_unsigned}
-use Rattle.dns_name.specs.Names.{Name, fold, same_name, under, canonical_cmp}
+use Rattle.dns_name.specs.Names.{Name, fold, under, canonical_cmp}
 use Rattle.zone_model.specs.Version.{RecordSet, Key, Sets, Version, key_cmp, has_key, set_in, exists}
 use Rattle.zone_model.specs.Edits.{with_sets, remove_set}
-use Rattle.zone_model.proofs.Folded.{fold-fold, under_alike}
 use Rattle.zone_model.proofs.Steps.{Good}
-use Rattle.zone_nodes.specs.Trees.{NodeSets, Nodes, IsHeld, IsTree, has_records, node_at, sets_of_node, sets_of, in_tree, with_set, built}
-use Rattle.zone_nodes.specs.Ways.{put_node, add_upwards, lacking_upwards, add_above, lacking_above, put_held, put_steps, any_held, version_of, topmost, stays_at, climb, node_stays, taken_out, remove_held, remove_steps}
+use Rattle.zone_nodes.specs.Trees.{NodeSets, Nodes, IsHeld, IsTree, has_records, node_at, sets_of, in_tree, with_set, built}
+use Rattle.zone_nodes.specs.Ways.{put_node, add_upwards, lacking_upwards, add_above, lacking_above, put_held, put_steps, version_of, topmost, stays_at, climb, node_stays, taken_out, remove_held, remove_steps}
 use Rattle.zone_nodes.proofs.Flat.{type_in, set_of_type, set_in-sets_of, sets_of-good}
-use Rattle.zone_nodes.proofs.Above.{under_itself, under_root, under_both, is_same, same_is}
+use Rattle.zone_nodes.proofs.Above.{under_root}
 use Rattle.zone_nodes.proofs.Kept.{nothing_held, nodes_put, is_put, sets_removed}
-use Rattle.zone_nodes.proofs.Existing.{any_under, others_stay}
-use Rattle.zone_nodes.proofs.Grown.{node_alike, same_tests, types_removed, put_is, apex_there, tree_put, tree_new}
+use Rattle.zone_nodes.proofs.Existing.{any_under, any_sets, others_stay}
+use Rattle.zone_nodes.proofs.Grown.{node_alike, types_removed, put_is, apex_there, same_apex, tree_put, tree_new}
 use Rattle.zone_nodes.proofs.Shrunk.{next_in_zone, tree_thinned, tree_shrunk}
 use Rattle.zone_nodes.proofs.Counted.{built_thinned, built_shrunk, built_nothing, built_put, built_new}
 
@@ -35,7 +34,7 @@ held_there (e ∷ nodes) n held a h = by (is_eq (canonical_cmp n e.0)) h (λ g. 
 pub own_version : (w : Version) (nodes : Nodes) → IsTree w nodes → version_of w.apex w.class nodes ≡ w
 own_version w nodes t = λ i. record { apex = w.apex; class = w.class; sets = t.sets i }
 
-own_tree : (w : Version) (nodes : Nodes) → IsTree w nodes → IsTree (version_of w.apex w.class nodes) nodes
+pub own_tree : (w : Version) (nodes : Nodes) → IsTree w nodes → IsTree (version_of w.apex w.class nodes) nodes
 own_tree w nodes t = subst (λ v. IsTree v nodes) (sym (own_version w nodes t)) t
 
 module _ (v : Version) (nodes : Nodes) (tree : IsTree v nodes) (o : Name) (f : fold o ≡ o) (rtype : ℕ) (zone : under o v.apex ≡ true) where
@@ -165,30 +164,6 @@ module _ (v : Version) (nodes : Nodes) (tree : IsTree v nodes) (o : Name) (f : f
 
     -- ---- which names then exist
 
-    any_node : (n m : Name) (xs : NodeSets) → any_under (sets_of_node (m, xs)) n ≡ (under m n && not (length xs == 0))
-    any_node n m [] = by (under m n)
-      where
-        by : (b : Bool) → false ≡ (b && false)
-        by true = refl
-        by false = refl
-    any_node n m (x ∷ xs) = by (under m n) (not (length xs == 0)) (any_node n m xs) ∙ ap (λ c. under m n && not c) (sym (ne_eqb (length (x ∷ xs)) 0 (λ z. omega arith)))
-      where
-        by : (b c : Bool) → any_under (sets_of_node (m, xs)) n ≡ (b && c) → (b || any_under (sets_of_node (m, xs)) n) ≡ (b && true)
-        by true c g = refl
-        by false c g = g
-
-    any_sets : (n : Name) (ns : Nodes) → any_under (sets_of ns) n ≡ any_held ns n
-    any_sets n [] = refl
-    any_sets n (e ∷ ns) = append (sets_of_node e) (sets_of ns) ∙ (λ i. any_node n e.0 e.1 i || any_sets n ns i)
-      where
-        append : (xs ys : Sets) → any_under (xs ++ ys) n ≡ (any_under xs n || any_under ys n)
-        append [] ys = refl
-        append (x ∷ xs) ys = by (under x.0.0 n) (append xs ys)
-          where
-            by : (b : Bool) → any_under (xs ++ ys) n ≡ (any_under xs n || any_under ys n) → (b || any_under (xs ++ ys) n) ≡ ((b || any_under xs n) || any_under ys n)
-            by true g = refl
-            by false g = g
-
     module _ (one : nat_lt 1 (length held) ≡ false) where
       emptied : Nodes
       emptied = put_node nodes o []
@@ -200,14 +175,9 @@ module _ (v : Version) (nodes : Nodes) (tree : IsTree v nodes) (o : Name) (f : f
           ∙ ap (λ n. cond (is_eq (canonical_cmp q n) && is_eq (nat_cmp t rtype)) None (type_in (node_at nodes q) t)) (sym f))
           ∙ ap (remove_entry (has_key (fold o, rtype))) tree.sets
 
-      same_apex : (n : Name) → under n v.apex ≡ true → same_name n v.apex ≡ under (fold v.apex) n
-      same_apex n z =
-          same_tests (same_name n v.apex) (under (fold v.apex) n) (λ h. under_itself (fold v.apex) n (fold-fold v.apex ∙ sym (same_is n v.apex h)))
-          (λ h. is_same n v.apex (under_both n v.apex z (sym (under_alike (fold v.apex) v.apex n n (fold-fold v.apex) refl) ∙ h)))
-
       stays_is : (n : Name) → under n v.apex ≡ true → in_tree left_then n ≡ stays_at nodes (fold v.apex) o n
       stays_is n z =
-          ap (λ b. b && exists left_then n) z ∙ (λ i. same_apex n z i || (ap (λ es. any_under es n) (sym emptied_sets) ∙ any_sets n (put_node nodes o [])) i)
+          ap (λ b. b && exists left_then n) z ∙ (λ i. same_apex v.apex n z i || (ap (λ es. any_under es n) (sym emptied_sets) ∙ any_sets n (put_node nodes o [])) i)
 
       climb_is : (n : Name) → under n v.apex ≡ true → in_tree left_then n ≡ false → climb nodes (fold v.apex) o n ≡ topmost left_then n
       climb_is [] z h = refl

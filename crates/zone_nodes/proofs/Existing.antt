@@ -1,5 +1,5 @@
 -- Which names exist, before and after an edit.
-use Rattle.std.proofs.Common.{◌≡◌, ℕ, Bool, true, false, cond, ◌&&◌, ◌||◌, [], ◌∷◌, refl, sym, ap, ◌∙◌, true≢false, ◌⊎◌, inl, inr, ⊎_elim, Ordering, Less, Equal, Greater, Some, None, is_some, is_eq}
+use Rattle.std.proofs.Common.{◌≡◌, ℕ, Bool, true, false, cond, ◌&&◌, ◌||◌, ◌==◌, not, [], ◌∷◌, ◌++◌, length, arith, ne_eqb, refl, sym, ap, ◌∙◌, true≢false, ◌⊎◌, inl, inr, ⊎_elim, Ordering, Less, Equal, Greater, Some, None, is_some, is_eq}
 use Rattle.std.specs.Ordering.{match_ordering}
 use Rattle.std.specs.Cmp.{Equal-is, first_so, second_so}
 use Rattle.std.specs.List.{list_any}
@@ -11,7 +11,8 @@ use Rattle.zone_model.specs.Edits.{with_sets, remove_set}
 use Rattle.zone_model.proofs.Folded.{key_total, key_from_tie, fold-fold, under_alike, same_name_alike}
 use Rattle.zone_model.proofs.Ordered.{lookup-remove_entry}
 use Rattle.zone_model.proofs.Steps.{Good}
-use Rattle.zone_nodes.specs.Trees.{in_tree}
+use Rattle.zone_nodes.specs.Trees.{NodeSets, Nodes, sets_of_node, sets_of, in_tree}
+use Rattle.zone_nodes.specs.Ways.{any_held}
 use Rattle.zone_nodes.proofs.Above.{under_itself, under_trans, under_both, is_same, same_is}
 
 -- whether some set's owner is at or below a name
@@ -101,7 +102,7 @@ left_exists test (e ∷ es) n h = by (test e.0) (λ g. left_exists test es n g) 
     by true later k = or_right (under e.0.0 n) (any_under es n) k
     by false later k = ⊎_elim (or_left (under e.0.0 n) (any_under es n)) (λ g. or_right (under e.0.0 n) (any_under es n) (later g)) (or_so (under e.0.0 n) (any_under (remove_entry test es) n) k)
 
-no_right : (p q : Bool) → (p || q) ≡ false → q ≡ false
+pub no_right : (p q : Bool) → (p || q) ≡ false → q ≡ false
 no_right true q e = absurd (true≢false e)
 no_right false q e = e
 
@@ -157,3 +158,29 @@ module _ (v : Version) (owner : Name) (rtype : ℕ) where
       and_so (in_zone v q) (exists left q) z
       (or_right (same_name q v.apex) (any_under left.sets q)
       (found_exists left.sets q q t (under_itself q q refl) (ap is_some (lookup-remove_entry key_total v.sets (fold owner, rtype) (q, t) good.sorted ∙ ap (λ b. cond b None (set_in v.sets (q, t))) apart) ∙ h)))
+
+-- ---- the sets of nodes
+
+any_node : (n m : Name) (xs : NodeSets) → any_under (sets_of_node (m, xs)) n ≡ (under m n && not (length xs == 0))
+any_node n m [] = by (under m n)
+  where
+    by : (b : Bool) → false ≡ (b && false)
+    by true = refl
+    by false = refl
+any_node n m (x ∷ xs) = by (under m n) (not (length xs == 0)) (any_node n m xs) ∙ ap (λ c. under m n && not c) (sym (ne_eqb (length (x ∷ xs)) 0 (λ z. omega arith)))
+  where
+    by : (b c : Bool) → any_under (sets_of_node (m, xs)) n ≡ (b && c) → (b || any_under (sets_of_node (m, xs)) n) ≡ (b && true)
+    by true c g = refl
+    by false c g = g
+
+pub any_sets : (n : Name) (ns : Nodes) → any_under (sets_of ns) n ≡ any_held ns n
+any_sets n [] = refl
+any_sets n (e ∷ ns) = append (sets_of_node e) (sets_of ns) ∙ (λ i. any_node n e.0 e.1 i || any_sets n ns i)
+  where
+    append : (xs ys : Sets) → any_under (xs ++ ys) n ≡ (any_under xs n || any_under ys n)
+    append [] ys = refl
+    append (x ∷ xs) ys = by (under x.0.0 n) (append xs ys)
+      where
+        by : (b : Bool) → any_under (xs ++ ys) n ≡ (any_under xs n || any_under ys n) → (b || any_under (xs ++ ys) n) ≡ ((b || any_under xs n) || any_under ys n)
+        by true g = refl
+        by false g = g

@@ -3,7 +3,7 @@ use Rattle.std.proofs.Common.{◌≡◌, ℕ, ◌+◌, ◌≤◌, Bool, true, fa
 use Rattle.std.specs.Cmp.{Equal-is, nat_cmp_total, first_so, second_so}
 use Rattle.std.specs.BTreeMap.{insert_entry, is_at}
 use Rattle.std.specs.Map.{remove_entry}
-use Rattle.dns_name.specs.Names.{Name, fold, under, canonical_cmp, upwards}
+use Rattle.dns_name.specs.Names.{Name, fold, same_name, under, canonical_cmp, upwards}
 use Rattle.dns_name.specs.NameOrder.{canonical_total}
 use Rattle.zone_model.specs.Version.{RecordSet, Version, key_cmp, has_key, exists}
 use Rattle.zone_model.specs.Edits.{with_sets, put_set}
@@ -12,7 +12,7 @@ use Rattle.zone_model.proofs.Ordered.{find_alike, lookup-insert_entry, lookup-re
 use Rattle.zone_nodes.specs.Trees.{NodeSets, Nodes, AreNodes, IsHeld, IsTree, has_records, node_at, sets_of, in_tree}
 use Rattle.zone_nodes.specs.Ways.{put_node, add_upwards, lacking_upwards}
 use Rattle.zone_nodes.proofs.Flat.{set_of_type, type_in}
-use Rattle.zone_nodes.proofs.Above.{under_itself, under_trans, under_longer, under_cases, under_root, under_longest, tied, ties}
+use Rattle.zone_nodes.proofs.Above.{under_itself, under_trans, under_longer, under_cases, under_root, under_longest, under_both, is_same, same_is, tied, ties}
 use Rattle.zone_nodes.proofs.Kept.{nothing_held, held_insert, nodes_put, node_at-put, edited_at, sets_put}
 use Rattle.zone_nodes.proofs.Existing.{or_so, or_left, or_right, and_so, in_tree_above, apex_in_tree, put_exists}
 
@@ -73,6 +73,11 @@ pub same_tests : (a b : Bool) → (a ≡ true → b ≡ true) → (b ≡ true �
 same_tests true b f g = sym (f refl)
 same_tests false true f g = g refl
 same_tests false false f g = refl
+
+pub same_apex : (apex n : Name) → under n apex ≡ true → same_name n apex ≡ under (fold apex) n
+same_apex apex n z =
+    same_tests (same_name n apex) (under (fold apex) n) (λ h. under_itself (fold apex) n (fold-fold apex ∙ sym (same_is n apex h)))
+    (λ h. is_same n apex (under_both n apex z (sym (under_alike (fold apex) apex n n (fold-fold apex) refl) ∙ h)))
 
 under_next : (l : List ℕ) (n q : Name) → is_eq (canonical_cmp q (l ∷ n)) ≡ false → under n q ≡ under (l ∷ n) q
 under_next l n q apart =

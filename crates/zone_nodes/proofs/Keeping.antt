@@ -8,7 +8,8 @@ use Rattle.std.proofs.lemmas.Map.Lookups.{exact_unsigned}
 use Rattle.zone_model.proofs.Entries.{seen-insert_entry, seen-remove_entry}
 use Rattle.zone_values.specs.TypedSets.{TypedSet}
 use Rattle.zone_nodes.specs.Trees.{IsHeld}
-use Rattle.zone_nodes.specs.Held.{typed, typed_set_of, typed_sets, Kept, held_of, own_types, IsKept}
+use Rattle.zone_values.specs.TypedEntries.{typed}
+use Rattle.zone_nodes.specs.Held.{typed_set_of, typed_sets, Kept, held_of, own_types, IsKept}
 use Rattle.zone_nodes.proofs.Kept.{held_insert, held_remove}
 
 pub insert_seen : (kept : Kept) (t : ℕ) (s : TypedSet) → held_of (insert_entry nat_cmp kept t s) ≡ insert_entry nat_cmp (held_of kept) t s.contents

@@ -12,3 +12,6 @@ pub mod Upwards
 pub mod Edited
 pub mod Told
 pub mod Few
+pub mod Walked
+pub mod Cleared
+pub mod NoSet

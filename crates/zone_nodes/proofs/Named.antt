@@ -21,12 +21,12 @@ use Rattle.zone_nodes.specs.Keyed.{Keyed, named, AreKeys, holds_besides}
 use Rattle.zone_nodes.proofs.Scan.{any_emptied, and_false}
 
 -- the name of a key compares as the key does
-compared : (n : Name) (k : List ℕ) → IsNameKey k → octets_cmp (name_key n) k ≡ canonical_cmp n (name_of_key k)
+pub compared : (n : Name) (k : List ℕ) → IsNameKey k → octets_cmp (name_key n) k ≡ canonical_cmp n (name_of_key k)
 compared n k h =
     let m : Name = h.0 in
     ap (octets_cmp (name_key n)) (sym h.2) ∙ names_order n m ∙ ap (spelling_cmp (fold n)) (sym (fold-fold m)) ∙ ap (λ x. spelling_cmp (fold n) (fold x)) (sym (read_back m) ∙ ap name_of_key h.2)
 
-nested : (k : List ℕ) (n : Name) → IsNameKey k → begins_with k (name_key n) ≡ under (name_of_key k) n
+pub nested : (k : List ℕ) (n : Name) → IsNameKey k → begins_with k (name_key n) ≡ under (name_of_key k) n
 nested k n h =
     let m : Name = h.0 in
     ap (λ x. begins_with x (name_key n)) (sym h.2) ∙ sym (under_by_test m n) ∙ sym (under_alike (fold m) m n n (fold-fold m) refl) ∙ ap (λ x. under x n) (sym (read_back m) ∙ ap name_of_key h.2)

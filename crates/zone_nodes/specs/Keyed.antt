@@ -22,6 +22,10 @@ AreKeys es = AllByRecursion IsNameKey (keys_of es)
 abbrev pub holds_besides : List ℕ → List ℕ → List ℕ × NodeSets → Bool
 holds_besides prefix key e = begins_with e.0 prefix && not (length e.1 == 0) && not (is_eq (octets_cmp key e.0))
 
+-- whether an entry is of a key that begins with a string and not with another, and holds sets
+abbrev pub holds_outside : List ℕ → List ℕ → List ℕ × NodeSets → Bool
+holds_outside prefix other e = begins_with e.0 prefix && (not (begins_with e.0 other) && not (length e.1 == 0))
+
 -- whether a key is at an entry or after it, where there is one
 abbrev pub from_entry : Option (List ℕ × NodeSets) → List ℕ × NodeSets → Bool
 from_entry None f = false

@@ -1,11 +1,11 @@
 -- A version of a zone as a tree: one node for each name that exists in it (RFC 1034, 3.1; RFC 4592, 2.2.2).
-use Rattle.std.specs.Prelude.{◌≡◌, ℕ, ◌+◌, Bool, ◌&&◌, ◌||◌, not, nat_le, if◌then◌else◌, List, length, map, flat_map, filter, Option, Some, None, is_some, IsTrue}
+use Rattle.std.specs.Prelude.{◌≡◌, ℕ, ◌+◌, Bool, ◌&&◌, ◌||◌, not, ◌==◌, nat_le, if◌then◌else◌, List, length, map, flat_map, filter, Option, Some, None, is_some, IsTrue}
 use Rattle.std.specs.List.{list_all, AllByRecursion}
 use Rattle.std.specs.List.Sorted.{IsStrictlySortedBy}
 use Rattle.std.specs.Ordering.{nat_cmp}
 use Rattle.std.specs.BTreeMap.{is_at}
 use Rattle.std.specs.Map.{lookup, keys_of, values_of}
-use Rattle.dns_name.specs.Names.{Name, fold, same_name, canonical_cmp, upwards}
+use Rattle.dns_name.specs.Names.{Name, fold, same_name, under, canonical_cmp, upwards}
 use Rattle.zone_model.specs.Version.{RecordSet, Key, Sets, Version, set_at, in_zone, exists}
 use Rattle.zone_model.specs.Edits.{remove_set, put_set}
 
@@ -80,3 +80,7 @@ touches v w owner rtype = is_some (set_at v owner rtype) || is_some (set_at w ow
 -- how many nodes an edit of a set builds: those of names that begin to exist, and its owner's where that was there and stays
 abbrev pub built : Version → Version → Name → ℕ → ℕ
 built v w owner rtype = length (begun v w owner) + (if in_tree v owner && in_tree w owner && touches v w owner rtype then 1 else 0)
+
+-- how many nodes it builds to take all sets at and below a name out: the apex's where that is among those names and there are sets
+abbrev pub built_by_clear : Version → Name → ℕ
+built_by_clear v n = if under v.apex n && not (length v.sets == 0) then 1 else 0

@@ -57,15 +57,18 @@ any_held nodes n = list_any (λ (e : Name × NodeSets). under e.0 n && not (leng
 abbrev pub stays_at : Nodes → Name → Name → Name → Bool
 stays_at nodes apex owner n = under apex n || any_held (put_node nodes owner []) n
 
--- the highest name from one upwards below the first that exists in a version
+-- the highest name from one upwards below the first that passes a test
+abbrev pub highest_below : (Name → Bool) → Name → Name
+highest_below test [] = []
+highest_below test (label ∷ n) = if test n then label ∷ n else highest_below test n
+
+-- .. below the first that exists in a version
 abbrev pub topmost : Version → Name → Name
-topmost w [] = []
-topmost w (label ∷ n) = if in_tree w n then label ∷ n else topmost w n
+topmost w n = highest_below (in_tree w) n
 
 -- .. below the first that exists without the sets of an owner
 abbrev pub climb : Nodes → Name → Name → Name → Name
-climb nodes apex owner [] = []
-climb nodes apex owner (label ∷ n) = if stays_at nodes apex owner n then label ∷ n else climb nodes apex owner n
+climb nodes apex owner n = highest_below (stays_at nodes apex owner) n
 
 -- whether an owner's node stays once one of its sets is taken out
 abbrev pub node_stays : Nodes → Name → Name → NodeSets → Bool
@@ -86,3 +89,17 @@ remove_held nodes apex n rtype (Some held) = if is_some (lookup (is_at (nat_cmp 
 abbrev pub remove_steps : Nodes → Name → Name → ℕ → Option NodeSets → ℕ
 remove_steps nodes apex n rtype None = 0
 remove_steps nodes apex n rtype (Some held) = if is_some (lookup (is_at (nat_cmp rtype)) held) && node_stays nodes apex n held then 1 else 0
+
+-- ---- all sets at and below a name are taken out
+
+-- the nodes that aren't at or below a name
+abbrev pub outside : Nodes → Name → Nodes
+outside nodes n = filter (λ (e : Name × NodeSets). not (under e.0 n)) nodes
+
+-- whether a name exists without the sets at and below another: at or above the apex, or other sets are held at or below it
+abbrev pub stays_without : Nodes → Name → Name → Name → Bool
+stays_without nodes apex cleared n = under apex n || any_held (outside nodes cleared) n
+
+-- the nodes without the sets at and below a name that is neither the apex nor above it
+abbrev pub clear_held : Nodes → Name → Name → Nodes
+clear_held nodes apex n = if is_some (node_at nodes n) then outside nodes (highest_below (stays_without nodes apex n) n) else nodes

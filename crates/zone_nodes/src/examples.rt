@@ -1,7 +1,8 @@
 // Worked examples of how many nodes edits build, each the contract of a function with an empty body.
 ghost use Rattle.std.specs.Prelude.{◌≡◌, true, false};
 ghost use Rattle.zone_nodes.specs.Rows as rows;
-ghost use Rattle.zone_nodes.specs.Trees.{in_tree, built};
+ghost use Rattle.zone_model.specs.Edits.{clear};
+ghost use Rattle.zone_nodes.specs.Trees.{in_tree, built, built_by_clear};
 
 /// The first address of a zone, two labels below the apex, has a node built for each label; the next beside it its own; a text there the owner's anew.
 pub fn nodes_of_names_that_begin()
@@ -19,4 +20,15 @@ pub fn nodes_of_names_that_end()
     ensures stays { in_tree rows.one_address rows.name_b ≡ true }
     ensures gone { in_tree rows.no_address rows.name_b ≡ false }
     ensures apex { in_tree rows.no_address rows.apex ≡ true }
+{}
+
+/// Clearing one of two names leaves the name above both, and clearing that takes both; neither builds a node. Clearing the apex builds its node anew, unless
+/// there are no RRsets.
+pub fn nodes_of_names_that_are_cleared()
+    ensures stays { in_tree (clear rows.two_addresses rows.name_ab) rows.name_b ≡ true }
+    ensures gone { in_tree (clear rows.two_addresses rows.name_b) rows.name_cb ≡ false }
+    ensures above { in_tree (clear rows.two_addresses rows.name_b) rows.name_b ≡ false }
+    ensures none { built_by_clear rows.two_addresses rows.name_b ≡ 0 }
+    ensures apex { built_by_clear rows.two_addresses rows.apex ≡ 1 }
+    ensures nothing { built_by_clear rows.nothing rows.apex ≡ 0 }
 {}

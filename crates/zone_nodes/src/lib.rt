@@ -1,9 +1,12 @@
 //! A version of a zone as a tree of nodes, one for each name that exists in the zone (RFC 1034, 3.1; RFC 4592, 2.2.2), in pages that versions share.
 //!
 //! A fork of a version shares all of its nodes, and an edit of an RRset builds the nodes of names that begin to exist, and its owner's anew: `NodeCount`
-//! tells how many. Contracts see the version, a map of RRsets by owner and type, and nothing of pages.
+//! tells how many. A walk gives the RRsets in order, and clearing a name takes all at and below it out. Contracts see the version, a map of RRsets by
+//! owner and type, and nothing of pages.
 #![tactic(auto)]
 
+mod clearing;
+mod data_edits;
 mod examples;
 mod growing;
 mod laws;
@@ -11,6 +14,8 @@ mod node;
 mod node_map;
 mod shrinking;
 mod tree;
+mod walk;
 
 pub use node::{NodeCount, ZoneNode};
 pub use tree::VersionTree;
+pub use walk::{TreeSet, TreeSets};

@@ -3,7 +3,7 @@ ghost use Rattle.std.specs.Prelude.{◌≡◌, ◌≤◌, ◌==◌, [], ◌∷�
 ghost use Rattle.std.specs.Ordering.{nat_cmp};
 ghost use Rattle.std.specs.BTreeMap.{insert_entry, is_at};
 ghost use Rattle.std.specs.Map.{remove_entry};
-ghost use Rattle.zone_nodes.specs.Held.{typed_set_of, typed_sets, held_of, IsKept, counted};
+ghost use Rattle.zone_nodes.specs.Held.{typed_set_of, typed_sets, after_type, held_of, IsKept, counted};
 ghost use Rattle.zone_nodes.specs.Trees.{IsHeld};
 
 use dns_name::Rtype;
@@ -153,6 +153,21 @@ impl ZoneNode {
         ensures held { IsHeld self.now }
     {
         self.sets.values()
+    }
+
+    /// The RRsets of types after one, ascending.
+    pub(crate) fn after(&self, rtype: Rtype) -> Values<'_, Rtype, SharedRrset>
+        ensures { result ≡ typed_sets (after_type rtype self.now) }
+    {
+        let mut rest = self.iter();
+        let mut look = self.iter();
+        'sets: while let Some(set) = look.next() {
+            if set.rtype().to_int() > rtype.to_int() {
+                return rest;
+            }
+            let _ = rest.next();
+        }
+        rest
     }
 
     /// How many RRsets there are.

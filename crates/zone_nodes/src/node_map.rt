@@ -5,10 +5,10 @@ ghost use Rattle.std.specs.Ordering.{is_eq, is_le};
 ghost use Rattle.std.specs.List.Sorted.{IsStrictlySortedBy};
 ghost use Rattle.std.specs.Map.{keys_of};
 ghost use Rattle.dns_name.specs.Names.{under, canonical_cmp};
-ghost use Rattle.paged_map.specs.Octets.{octets_cmp};
-ghost use Rattle.zone_nodes.specs.Keyed.{holds_besides, named, AreKeys};
+ghost use Rattle.paged_map.specs.Octets.{octets_cmp, begins_with};
+ghost use Rattle.zone_nodes.specs.Keyed.{holds_besides, holds_outside, named, AreKeys};
 ghost use Rattle.zone_nodes.specs.Trees.{node_at};
-ghost use Rattle.zone_nodes.specs.Ways.{put_node, any_held};
+ghost use Rattle.zone_nodes.specs.Ways.{put_node, any_held, outside};
 
 use crate::node::ZoneNode;
 use name_keys::NameKeyRef;
@@ -65,6 +65,13 @@ impl NodeMap {
         ensures { result ≡ any_held (put_node self.now owner.now []) name.now }
     {
         any_held_besides(&self.pages, name.as_slice(), owner.as_slice())
+    }
+
+    /// Whether RRsets are held at or below a name, those at and below another aside.
+    pub(crate) fn any_held_outside(&self, name: &NameKeyRef<'_>, other: &NameKeyRef<'_>) -> bool
+        ensures { result ≡ any_held (outside self.now other.now) name.now }
+    {
+        any_held_outside(&self.pages, name.as_slice(), other.as_slice())
     }
 
     /// The nodes in order, by the keys of their names.
@@ -140,8 +147,32 @@ fn holds_besides(owner: &[u8], key: &[u8], node: &ZoneNode) -> bool
     !node.is_empty() && !is_same(owner, key)
 }
 
+/// Whether an entry of a key that begins with a string has RRsets, those of keys that begin with another aside.
+fn any_held_outside(pages: &PagedMap<ZoneNode>, name: &[u8], other: &[u8]) -> bool
+    requires { IsStrictlySortedBy octets_cmp (keys_of pages.now) }
+    ensures { result ≡ list_any (holds_outside name.now other.now) pages.now }
+{
+    let mut entries = pages.iter_from(name);
+    'entries: while let Some((key, node)) = entries.next() {
+        if !key.starts_with(name) {
+            return false;
+        }
+        if holds_outside(other, key, node) {
+            return true;
+        }
+    }
+    false
+}
+
+/// Whether an entry has RRsets and its key doesn't begin with a string.
+fn holds_outside(other: &[u8], key: &[u8], node: &ZoneNode) -> bool
+    ensures { result ≡ (not (begins_with key.now other.now) && not (length node.now == 0)) }
+{
+    !key.starts_with(other) && !node.is_empty()
+}
+
 /// Whether two strings of octets are the same.
-fn is_same<'x>(left: &'x [u8], right: &'x [u8]) -> bool
+pub(crate) fn is_same<'x>(left: &'x [u8], right: &'x [u8]) -> bool
     ensures { result ≡ is_eq (octets_cmp left.now right.now) }
 {
     Ord::cmp(&left, &right).is_eq()

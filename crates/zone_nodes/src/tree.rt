@@ -1,18 +1,21 @@
 // Versions as trees.
-ghost use Rattle.std.specs.Prelude.{◌≡◌, ◌≤◌, [], length, true, filter, option_copied, option_map, IfOk, IfSome, OnOk, OnErr};
-ghost use Rattle.dns_name.specs.Names.{under, canonical_cmp};
-ghost use Rattle.zone_model.specs.Version.{set_at};
+ghost use Rattle.std.specs.Prelude.{◌≡◌, ◌≤◌, ◌==◌, [], length, true, false, if◌then◌else◌, filter, find, map, option_copied, option_map, IfOk, IfSome, OnOk, OnErr};
+ghost use Rattle.dns_name.specs.Names.{fold, under, canonical_cmp};
+ghost use Rattle.zone_model.specs.Version.{key_cmp, set_at};
 ghost use Rattle.zone_model.specs.Edits as edits;
-ghost use Rattle.zone_nodes.specs.Held.{typed, counted};
+ghost use Rattle.zone_nodes.specs.Held.{told, counted};
+ghost use Rattle.zone_values.specs.TypedEntries.{typed};
 ghost use Rattle.zone_nodes.specs.Trees as trees;
-ghost use Rattle.std.specs.Ordering.{is_le};
+ghost use Rattle.std.specs.Ordering.{is_le, is_lt};
 ghost use Rattle.zone_nodes.specs.Keyed.{named, AreKeys};
-ghost use Rattle.zone_nodes.specs.Trees.{IsTree, sets_of, node_of, built};
+ghost use Rattle.zone_nodes.specs.Trees.{IsTree, sets_of, node_of, built, built_by_clear};
 
+use crate::clearing::clear_below;
 use crate::growing::put_set;
 use crate::node::{NodeCount, ZoneNode};
 use crate::node_map::NodeMap;
 use crate::shrinking::remove_set;
+use crate::walk::{TreeSet, TreeSets};
 use dns_name::{Class, Labelled, Rtype, StoredName};
 use name_keys::{NameKey, NameKeyRef};
 use paged_map::Entries;
@@ -141,6 +144,51 @@ impl VersionTree {
     }
 }
 
+// The walk.
+impl VersionTree {
+    /// The RRsets in order, each once: owners in canonical order, types ascending (RFC 4034, 6.1).
+    pub fn sets(&self) -> TreeSets<'_>
+        ensures { result ≡ map told self.now.sets }
+    {
+        TreeSets::of(self.nodes.entries())
+    }
+
+    /// Those whose owners aren't before a name.
+    pub fn sets_from<N: Labelled>(&self, owner: &N) -> TreeSets<'_>
+        ensures { result ≡ map told (filter (λ e. is_le (canonical_cmp (N.labels owner.now) e.0.0)) self.now.sets) }
+    {
+        TreeSets::of(self.nodes_from(owner))
+    }
+
+    /// Those after an owner and type.
+    pub fn sets_after<N: Labelled>(&self, owner: &N, rtype: Rtype) -> TreeSets<'_>
+        ensures { result ≡ map told (filter (λ e. is_lt (key_cmp (fold (N.labels owner.now), rtype) e.0)) self.now.sets) }
+    {
+        self.sets_after_key(&NameKey::of(owner).borrowed(), rtype)
+    }
+
+    /// The same of an owner's key.
+    fn sets_after_key(&self, name: &NameKeyRef<'_>, rtype: Rtype) -> TreeSets<'_>
+        ensures { result ≡ map told (filter (λ e. is_lt (key_cmp (name.now, rtype) e.0)) self.now.sets) }
+    {
+        TreeSets::after(self.nodes.entries_from(name), name, rtype)
+    }
+
+    /// The first RRset whose owner isn't before a name.
+    pub fn first_from<N: Labelled>(&self, owner: &N) -> Option<TreeSet<'_>>
+        ensures { result ≡ option_map told (find (λ e. is_le (canonical_cmp (N.labels owner.now) e.0.0)) self.now.sets) }
+    {
+        self.sets_from(owner).next()
+    }
+
+    /// The first RRset after an owner and type.
+    pub fn first_after<N: Labelled>(&self, owner: &N, rtype: Rtype) -> Option<TreeSet<'_>>
+        ensures { result ≡ option_map told (find (λ e. is_lt (key_cmp (fold (N.labels owner.now), rtype) e.0)) self.now.sets) }
+    {
+        self.sets_after(owner, rtype).next()
+    }
+}
+
 // Edits.
 impl VersionTree {
     /// Puts an RRset in place of the one of its owner and type, or takes that out, where none or an empty one is given. Names that begin to exist get
@@ -232,5 +280,71 @@ impl VersionTree {
             rtype,
             steps,
         )
+    }
+
+    /// Takes all RRsets at and below a name out. The nodes of names that no longer exist go; the apex's stays, and is built anew where it is among those
+    /// names and there are RRsets. Without memory all is as before.
+    pub fn clear<N: Labelled>(
+        &mut self,
+        alloc: Global,
+        name: &N,
+        steps: &mut NodeCount,
+    ) -> Result<(), AllocError>
+        ensures ok { OnOk result (self.new ≡ edits.clear self.old (N.labels name.now)) }
+        ensures err { OnErr result (self.new ≡ self.old) }
+        ensures steps { OnOk result (steps.new ≡ counted steps.old (built_by_clear self.old (N.labels name.now))) }
+    {
+        self.clear_key(alloc, &NameKey::of(name).borrowed(), steps)
+    }
+
+    /// The same of a name's key.
+    fn clear_key(
+        &mut self,
+        alloc: Global,
+        name: &NameKeyRef<'_>,
+        steps: &mut NodeCount,
+    ) -> Result<(), AllocError>
+        ensures ok { OnOk result (self.new ≡ edits.clear self.old name.now) }
+        ensures err { OnErr result (self.new ≡ self.old) }
+        ensures steps { OnOk result (steps.new ≡ counted steps.old (built_by_clear self.old name.now)) }
+    {
+        // For the proof: the count fits 64 bits, and the nodes are the version's tree.
+        let _ = steps.get();
+        let _ = self.nodes();
+        if self.is_apex_under(name) {
+            return self.clear_all(alloc, steps);
+        }
+        self.clear_below(name)
+    }
+
+    /// Whether the apex is at or below a name.
+    fn is_apex_under(&self, name: &NameKeyRef<'_>) -> bool
+        ensures { result ≡ under self.now.apex name.now }
+    {
+        NameKey::of_name(&self.apex).is_under(name)
+    }
+
+    /// Takes all RRsets out.
+    fn clear_all(&mut self, alloc: Global, steps: &mut NodeCount) -> Result<(), AllocError>
+        ensures ok { OnOk result (self.new ≡ edits.with_sets self.old []) }
+        ensures err { OnErr result (self.new ≡ self.old) }
+        ensures steps { OnOk result (steps.new ≡ counted steps.old (if length self.old.sets == 0 then 0 else 1)) }
+    {
+        let _ = steps.get();
+        if self.sets().next().is_none() {
+            return Ok(());
+        }
+        *self = VersionTree::new(alloc, &self.apex, self.class, steps)?;
+        Ok(())
+    }
+
+    /// Takes all RRsets at and below a name out that is neither the apex nor above it. That builds no node.
+    fn clear_below(&mut self, name: &NameKeyRef<'_>) -> Result<(), AllocError>
+        requires { under self.old.apex name.now ≡ false }
+        ensures ok { OnOk result (self.new ≡ edits.clear self.old name.now) }
+        ensures err { OnErr result (self.new ≡ self.old) }
+    {
+        let apex = NameKey::of_name(&self.apex);
+        clear_below(&mut self.nodes, &apex.borrowed(), name)
     }
 }

@@ -1,7 +1,7 @@
 use Rattle.std.proofs.Common.{ap, ◌∙◌, option_map}
 use Rattle.zone_model.specs.Version.{set_at, set_in}
 use Rattle.zone_model.proofs.Folded.{fold-fold}
-use Rattle.zone_nodes.specs.Held.{typed}
+use Rattle.zone_values.specs.TypedEntries.{typed}
 use Rattle.zone_nodes.proofs.tree.VersionTree.get.Goals as goal
 
 pub returns : goal.returns
