@@ -10,7 +10,6 @@ use xfr_client::{ZoneUpdate, ZoneUpdater, update};
 use zone_store::{EditError, ReadZone, WriteZone, ZoneApex, look_up};
 use zone_types::{InMemoryZoneDiff, Rrset, ZoneDiff};
 
-
 /// `jain.ad.jp.`
 pub(crate) const JAIN: &str = "046a61696e026164026a7000";
 

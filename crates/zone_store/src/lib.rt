@@ -43,6 +43,6 @@ pub use zone_handles::{
 };
 pub use zone_lookup::look_up;
 pub use zone_sessions::{
-    CommitError, EditError, InsertError, NodeError, ReadZone, RrsetIter, UpdateError,
-    WalkItem, WriteNode, WriteZone, ZoneApex, ZoneBuilder,
+    CommitError, EditError, InsertError, NodeError, ReadZone, RrsetIter, UpdateError, WalkItem,
+    WriteNode, WriteZone, ZoneApex, ZoneBuilder,
 };
