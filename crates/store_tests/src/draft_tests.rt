@@ -35,7 +35,8 @@ fn set_serial<R: Abort>(rt: &R, alloc: Global, draft: &mut Draft, serial: u32) {
 
 /// The zone of serial 1 with three addresses of the TTL 3600.
 fn zone<R: Abort>(rt: &R, alloc: Global) -> Arc<ZoneVersion> {
-    let empty = ZoneVersion::empty(alloc, name(rt, alloc, APEX), Class::IN);
+    let empty = ZoneVersion::empty(alloc, &name(rt, alloc, APEX), Class::IN);
+    let empty = empty.expect(rt, "memory");
     let base = Arc::new(alloc, empty).expect(rt, "memory");
     let mut draft = Draft::of(alloc, base).expect(rt, "memory");
     set_serial(rt, alloc, &mut draft, 1);

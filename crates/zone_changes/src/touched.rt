@@ -98,7 +98,7 @@ impl TouchedKeys {
         ensures err { OnErr result (Keeps self.old self.new) }
     {
         for key in version.keys() {
-            self.note_if(key, key.owner().ends_with(name))?;
+            self.note_if(&key, key.owner().ends_with(name))?;
         }
         Ok(())
     }
@@ -110,7 +110,7 @@ impl TouchedKeys {
         ensures err { OnErr result (Keeps self.old self.new) }
     {
         for key in version.keys() {
-            self.note_if(key, version.is_stray(key))?;
+            self.note_if(&key, version.is_stray(&key))?;
         }
         Ok(())
     }
