@@ -1,15 +1,15 @@
 -- The zone that opens takes its records.
 use Rattle.std.proofs.Common.{◌≡◌, ℕ, zero, suc, true, ◌*◌, ap, ◌∙◌, List, [], ◌∷◌, ◌++◌}
-use Rattle.dns_name.specs.Names.{under}
+use Rattle.dns_name.specs.Names.{Name, under}
 use Rattle.dns_rdata.specs.Records.{Record}
 use Rattle.zone_model.specs.Version.{Version, set_at, data_at}
 use Rattle.zone_model.specs.Edits.{distinct}
 use Rattle.zone_model.specs.Classify.{opened_with, lowest_ttl}
-use Rattle.zone_sessions.proofs.KeptApex.{put_apex}
+use Rattle.zone_sessions.proofs.KeptApex.{put_place}
 use Rattle.bench_edits.specs.Openings.{zone_name, host, soa, address, zone_of}
 
 opened_apex : (v : Version) (r : Record) → (opened_with v r).apex ≡ v.apex
-opened_apex v r = put_apex v r.owner r.rtype (record { ttl = lowest_ttl r (set_at v r.owner r.rtype); items = distinct (data_at v r.owner r.rtype ++ r.fields ∷ []) })
+opened_apex v r = ap (λ (p : Name × ℕ). p.0) (put_place v r.owner r.rtype (record { ttl = lowest_ttl r (set_at v r.owner r.rtype); items = distinct (data_at v r.owner r.rtype ++ r.fields ∷ []) }))
 
 -- the apex keeps its name
 pub name_kept : (n : ℕ) → (zone_of n).apex ≡ zone_name

@@ -1,17 +1,19 @@
 -- Pages at the place of a key.
-use Rattle.std.proofs.Common.{◌≡◌, ℕ, zero, suc, ◌≤◌, ◌<◌, Bool, true, false, not, List, [], ◌∷◌, ◌++◌, take, drop, length, refl, sym, ap, ◌∙◌, subst, true≢false, append_assoc, take-append-drop, Option, Some, None, is_some, Result, Ok, Err, OnOk, OnErr, option_to_list, slice_get, Ordering, Less, Equal, Greater, is_lt, is_eq, arith}
+use Rattle.std.proofs.Common.{◌≡◌, ℕ, zero, suc, ◌≤◌, ◌<◌, Bool, true, false, not, List, [], ◌∷◌, ◌++◌, take, drop, length, refl, sym, ap, ◌∙◌, subst, true≢false, append_assoc, take-append-drop, Option, Some, None, is_some, IsSome, IsTrue, Result, Ok, Err, OnOk, OnErr, option_to_list, option_map, slice_get, Ordering, Less, Equal, Greater, is_lt, is_eq, arith}
 use Rattle.std.specs.List.{AllByRecursion}
 use Rattle.std.specs.declared.sync.Arc.{Arc}
 use Rattle.std.specs.Arc.{arc_value}
 use Rattle.std.specs.BTreeMap.{insert_entry, is_at}
 use Rattle.std.specs.Map.{lookup, remove_entry}
-use Rattle.std.proofs.lemmas.List.{take_all, drop_all}
+use Rattle.std.proofs.lemmas.List.{take_all, drop_all, get_or-map}
+use Rattle.std.proofs.lemmas.Option.{get_or_from_slice_get, slice_get_within}
+use Rattle.std.specs.Cmp.{Equal-is}
 use Rattle.paged_map.specs.declared.spots.Spot.{Spot}
 use Rattle.paged_map.specs.Octets.{octets_cmp, is_key_of}
-use Rattle.paged_map.specs.Pages.{joined, page_at, before, after, beyond, IsWithin, Ascend, AreFit, values_in, entries_of, IsSound, HasAt, LacksAt}
+use Rattle.paged_map.specs.Pages.{joined, page_at, key_there, before, after, beyond, IsWithin, Ascend, AreFit, values_in, entries_of, IsSound, HasAt, LacksAt}
 use Rattle.paged_map.proofs.Orders.{ascend_back}
 use Rattle.paged_map.proofs.Places.{split_joined, none_left, got_here}
-use Rattle.paged_map.proofs.Keys.{Below, From, lookup_found, lookup_absent, insert_found, insert_absent, remove_found}
+use Rattle.paged_map.proofs.Keys.{Below, From, lookup_found, lookup_absent, insert_found, insert_absent, remove_found, same_octets}
 
 module _ {X : Type 0} where
   -- all entries are those before a place and those from there on
@@ -82,6 +84,14 @@ module _ {V : Type 0} (ps : List (List (List ℕ × V))) (s : Spot) (k : List �
     pub get_found : lookup (is_at (octets_cmp k)) (joined ps) ≡ Some e.1
     get_found = ap (lookup (is_at (octets_cmp k))) parted ∙ lookup_found k (before ps s) e (beyond ps s) b same
 
+    pub key_found : key_there ps s ≡ k
+    key_found =
+        get_or-map (λ (x : List ℕ × V). x.0) (page_at ps s.page) s.at e [] (slice_get_within (page_at ps s.page) s.at e here)
+        ∙ ap (λ (x : List ℕ × V). x.0) (get_or_from_slice_get (page_at ps s.page) s.at e e here) ∙ same_octets k e.0 ((Equal-is (octets_cmp k e.0)).0 same)
+
+    pub value_found : lookup (is_at (octets_cmp k)) (joined ps) ≡ option_map (λ (x : List ℕ × V). x.1) (slice_get (page_at ps s.page) s.at)
+    value_found = get_found ∙ ap (option_map (λ (x : List ℕ × V). x.1)) (sym here)
+
     pub put_found : (v : V) → insert_entry octets_cmp (joined ps) k v ≡ before ps s ++ (k, v) ∷ beyond ps s
     put_found v = ap (λ l. insert_entry octets_cmp l k v) parted ∙ insert_found k v (before ps s) e (beyond ps s) b same
 
@@ -104,12 +114,20 @@ module _ {V : Type 0} (k : List ℕ) (ps : List (List (List ℕ × V))) (s : Spo
         page = page_within ps s.page s.at h.0 h.1;
         at = within_some (page_at ps s.page) s.at h.0 h.1;
         found = ap is_some (get_found ps s k w b h.0 h.1 h.2);
+        key = key_found ps s k w b h.0 h.1 h.2;
+        value = value_found ps s k w b h.0 h.1 h.2;
         inserted = put_found ps s k w b h.0 h.1 h.2;
         removed = take_found ps s k w b h.0 h.1 h.2;
       }
 
   pub lacks_at : From k (after ps s) → AllByRecursion (λ e. not (is_lt (octets_cmp k e.0)) ≡ false) (joined (drop (suc s.page) ps)) → Ascend (joined ps) → is_key_of k (slice_get (page_at ps s.page) s.at) ≡ false → LacksAt k ps s
   lacks_at f u sorted t = record { absent = get_absent ps s k w b f u t sorted; inserted = put_absent ps s k w b f u t }
+
+module _ {V : Type 0} (k : List ℕ) (ps : List (List (List ℕ × V))) (s : Spot) where
+  -- where a key is among all, its place has it
+  pub has_by : (b : Bool) → (IsTrue b → HasAt k ps s) → (b ≡ false → LacksAt k ps s) → IsSome (lookup (is_at (octets_cmp k)) (joined ps)) → HasAt k ps s
+  has_by true has lacks there = has refl
+  has_by false has lacks there = absurd (true≢false (sym there ∙ ap is_some (lacks refl).absent))
 
 module _ {V Z E : Type 0} (old new : List (Arc (List (List ℕ × V)) Z)) where
   -- what an edit leaves is sound, done or refused

@@ -5,3 +5,4 @@ pub mod Shared
 pub mod PageEdits
 pub mod Keys
 pub mod Cuts
+pub mod Lent

@@ -1,5 +1,5 @@
 -- Pages of entries in order, and places among them.
-use Rattle.std.specs.Prelude.{◌≡◌, ℕ, suc, ◌<◌, ◌≤◌, true, false, List, [], ◌∷◌, ◌++◌, map, take, drop, length, flat_map, slice_index_or, IsSome, None}
+use Rattle.std.specs.Prelude.{◌≡◌, ℕ, suc, ◌<◌, ◌≤◌, true, false, List, [], ◌∷◌, ◌++◌, map, take, drop, length, flat_map, slice_index_or, slice_get, option_map, IsSome, None}
 use Rattle.std.specs.List.{AllByRecursion}
 use Rattle.std.specs.List.Sorted.{IsStrictlySortedBy}
 use Rattle.std.specs.BTreeMap.{insert_entry, is_at}
@@ -42,6 +42,10 @@ first_key (e ∷ es) = e.0
 abbrev pub page_at : {X : Type 0} → List (List X) → ℕ → List X
 page_at ps q = slice_index_or ps q []
 
+-- the key at a place
+abbrev pub key_there : {X : Type 0} → List (List (List ℕ × X)) → Spot → List ℕ
+key_there ps s = slice_index_or (keys_of (page_at ps s.page)) s.at []
+
 -- the entries before a place
 abbrev pub before : {X : Type 0} → List (List X) → Spot → List X
 before ps s = joined (take s.page ps) ++ take s.at (page_at ps s.page)
@@ -83,6 +87,8 @@ pub record HasAt {X : Type 0} (k : List ℕ) (ps : List (List (List ℕ × X))) 
   pub page : s.page < length ps
   pub at : s.at < length (page_at ps s.page)
   pub found : IsSome (lookup (is_at (octets_cmp k)) (joined ps))
+  pub key : key_there ps s ≡ k
+  pub value : lookup (is_at (octets_cmp k)) (joined ps) ≡ option_map (λ e. e.1) (slice_get (page_at ps s.page) s.at)
   pub inserted : (v : X) → insert_entry octets_cmp (joined ps) k v ≡ before ps s ++ (k, v) ∷ beyond ps s
   pub removed : remove_entry (is_at (octets_cmp k)) (joined ps) ≡ before ps s ++ beyond ps s
 

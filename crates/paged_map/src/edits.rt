@@ -1,7 +1,9 @@
 // Edits of the pages of a map, each at a place. Without memory all is as before.
-ghost use Rattle.std.specs.Prelude.{◌≡◌, ◌++◌, ◌<◌, ◌≤◌, [], ◌∷◌, ℕ, suc, length, take, drop, insert, remove, slice_set, IfOk, OnOk, OnErr, vec_len};
+ghost use Rattle.std.specs.Prelude.{◌≡◌, ◌++◌, ◌<◌, ◌≤◌, [], ◌∷◌, ℕ, suc, length, take, drop, insert, remove, slice_set, slice_get, option_map, Some, IfOk, OnOk, OnErr, vec_len};
 ghost use Rattle.std.specs.Arc.{arc_value};
 ghost use Rattle.paged_map.specs.Pages.{AreFit, IsFit, IsWithin, after, before, beyond, joined, most, page_at, values_in};
+ghost use Rattle.std.specs.Borrow.{sem};
+ghost use Rattle.paged_map.specs.Lends.{lends_in, lends_there};
 
 use crate::page::{Entry, Page};
 use crate::spots::Spot;
@@ -46,6 +48,16 @@ fn take_from<V: Drop>(page: &mut Arc<Page<V>>, at: usize) -> Result<(), AllocErr
 {
     Arc::make_mut(page)?.remove(at);
     Ok(())
+}
+
+/// The value at a place of a page, to write. The page is copied first if others have it, and so is the entry.
+fn value_in<V: Clone + Drop>(page: &mut Arc<Page<V>>, at: usize) -> Result<&mut V, AllocError>
+    requires at { at < length (arc_value page.old) }
+    requires clones { (x copy : V) → V.is_clone x copy → copy ≡ x }
+    ensures* writes_back { sem 𝓛 (lends_in V.row page.entry at result) }
+    ensures value { IfOk result (λ x. option_map (λ e. e.1) (slice_get (arc_value page.old) at) ≡ Some x.now) }
+{
+    Arc::make_mut(page)?.value_mut(at)
 }
 
 /// Begins a page with an entry, after all others.
@@ -220,6 +232,21 @@ pub(crate) fn replace<V: Drop>(
     ensures fit { AreFit (values_in pages.new.items) }
 {
     replace_in(&mut pages[spot.page], spot.at, entry)
+}
+
+/// The value at a place among pages, to write.
+pub(crate) fn value_at<V: Clone + Drop>(
+    pages: &mut Vec<Arc<Page<V>>>,
+    spot: Spot,
+) -> Result<&mut V, AllocError>
+    requires fit { AreFit (values_in pages.old.items) }
+    requires page { spot.page < vec_len pages.old }
+    requires at { spot.at < length (page_at (values_in pages.old.items) spot.page) }
+    requires clones { (x copy : V) → V.is_clone x copy → copy ≡ x }
+    ensures* writes_back { sem 𝓛 (lends_there V.row pages.entry spot result) }
+    ensures value { IfOk result (λ x. option_map (λ e. e.1) (slice_get (page_at (values_in pages.old.items) spot.page) spot.at) ≡ Some x.now) }
+{
+    value_in(&mut pages[spot.page], spot.at)
 }
 
 /// Takes the entry at a place among pages out, and its page, if it was the last there.

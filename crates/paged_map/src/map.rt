@@ -1,5 +1,5 @@
 // The map.
-ghost use Rattle.std.specs.Prelude.{◌≡◌, ◌↔◌, [], IsTrue, IsNone, IsOk, OnOk, OnErr, option_copied, option_map, find, filter, not};
+ghost use Rattle.std.specs.Prelude.{◌≡◌, ◌↔◌, [], IsTrue, IsNone, IsSome, IsOk, IfOk, Some, OnOk, OnErr, option_copied, option_map, find, filter, not};
 ghost use Rattle.std.specs.Ordering.{is_le, is_lt};
 ghost use Rattle.std.specs.Box.{boxed_slice_items};
 ghost use Rattle.std.specs.BTreeMap.{insert_entry, is_at};
@@ -13,7 +13,7 @@ use crate::marks::Mark;
 use crate::page::Page;
 use crate::reads::{first_past, get};
 use crate::spots::{Spot, locate};
-use crate::writes::{insert, remove, remove_under};
+use crate::writes::{insert, remove, remove_under, value_mut};
 use std::alloc::{AllocError, Global};
 use std::boxed::BoxedSlice;
 use std::marker::Model;
@@ -146,6 +146,22 @@ impl<V: Drop> PagedMap<V> {
         ensures err { OnErr result (self.new ≡ self.old) }
     {
         remove_under(&mut self.pages, prefix)
+    }
+}
+
+// Edits of values in place.
+impl<V: Clone + Drop> PagedMap<V> {
+    ghost use Rattle.std.specs.Borrow.{sem};
+    ghost use Rattle.paged_map.specs.Lends.{lends_entry};
+
+    /// The value at a key that is there, to write. Only what other clones have of its page and its entry is copied first. Without memory all is as before.
+    pub fn value_mut(&mut self, key: &[u8]) -> Result<&mut V, AllocError>
+        requires there { IsSome (lookup (is_at (octets_cmp key.now)) self.old) }
+        requires clones { (x copy : V) → V.is_clone x copy → copy ≡ x }
+        ensures* writes_back { sem 𝓛 (lends_entry V.row self.entry key.now result) }
+        ensures value { IfOk result (λ x. lookup (is_at (octets_cmp key.now)) self.old ≡ Some x.now) }
+    {
+        Ok(value_mut(&mut self.pages, key)?)
     }
 }
 

@@ -1,11 +1,13 @@
 // The pages of a map: entries in order, each shared by the pages that have it.
-ghost use Rattle.std.specs.Prelude.{◌≡◌, ◌+◌, ◌-◌, ◌<◌, ◌≤◌, ◌++◌, [], ◌∷◌, false, true, length, take, drop, IfOk, IfErr, OnOk, OnErr, IsTrue, ◌↔◌, insert, remove, slice_set, slice_get, option_map};
+ghost use Rattle.std.specs.Prelude.{◌≡◌, ◌+◌, ◌-◌, ◌<◌, ◌≤◌, ◌++◌, [], ◌∷◌, false, true, length, take, drop, IfOk, IfErr, OnOk, OnErr, IsTrue, ◌↔◌, insert, remove, slice_set, slice_get, option_map, Some};
 ghost use Rattle.std.specs.List.{AllByRecursion};
 ghost use Rattle.std.specs.Arc.{arc_value};
 ghost use Rattle.std.specs.Box.{boxed_slice_items};
 ghost use Rattle.std.specs.Slice.Iter.{iter_rest};
 ghost use Rattle.paged_map.specs.Octets.{passes, reaches};
 ghost use Rattle.paged_map.specs.Pages.{Ascend, Passed, Ahead, first_key, values_in};
+ghost use Rattle.std.specs.Borrow.{sem};
+ghost use Rattle.paged_map.specs.Lends.{lends_shared};
 
 use crate::marks::Mark;
 use std::alloc::{AllocError, Global};
@@ -31,6 +33,9 @@ impl<V> Model for Entry<V> {
 }
 
 impl<V> Entry<V> {
+    ghost use Rattle.std.specs.Borrow.{sem};
+    ghost use Rattle.paged_map.specs.Lends.{lends_value};
+
     pub(crate) fn new(key: BoxedSlice<u8>, value: V) -> Entry<V>
         ensures { result ≡ (boxed_slice_items key, value) }
     {
@@ -47,6 +52,14 @@ impl<V> Entry<V> {
         ensures { result.now ≡ self.now.1 }
     {
         &self.value
+    }
+
+    /// The value, to write.
+    pub(crate) fn value_mut(&mut self) -> &mut V
+        ensures* writes_back { sem 𝓛 (lends_value V.row self.entry result) }
+        ensures value { result.now ≡ self.old.1 }
+    {
+        &mut self.value
     }
 }
 
@@ -178,5 +191,41 @@ impl<V: Drop> Clone for Page<V> {
         Ok(Page {
             entries: self.entries.clone()?,
         })
+    }
+}
+
+impl<V: Clone + Drop> Clone for Entry<V> {
+    ghost is_clone = { λ s copy. (copy.0 ≡ s.0) × V.is_clone s.1 copy.1 };
+
+    fn clone(&self) -> Result<Entry<V>, AllocError> {
+        Ok(Entry {
+            key: self.key.clone()?,
+            value: self.value.clone()?,
+        })
+    }
+}
+
+/// The value of an entry, which is copied first if others have it, to write.
+fn shared_value<V: Clone + Drop>(entry: &mut Arc<Entry<V>>) -> Result<&mut V, AllocError>
+    requires { (x copy : V) → V.is_clone x copy → copy ≡ x }
+    ensures* writes_back { sem 𝓛 (lends_shared V.row entry.entry result) }
+    ensures value { IfOk result (λ x. x.now ≡ (arc_value entry.old).1) }
+{
+    Ok(Arc::make_mut(entry)?.value_mut())
+}
+
+// Values to write.
+impl<V: Clone + Drop> Page<V> {
+    ghost use Rattle.std.specs.Borrow.{sem};
+    ghost use Rattle.paged_map.specs.Lends.{lends_at};
+
+    /// The value at a place, to write. Its entry is copied first if others have it.
+    pub(crate) fn value_mut(&mut self, at: usize) -> Result<&mut V, AllocError>
+        requires at { at < length self.old }
+        requires clones { (x copy : V) → V.is_clone x copy → copy ≡ x }
+        ensures* writes_back { sem 𝓛 (lends_at V.row self.entry at result) }
+        ensures value { IfOk result (λ x. option_map (λ e. e.1) (slice_get self.old at) ≡ Some x.now) }
+    {
+        shared_value(&mut self.entries[at])
     }
 }

@@ -1,12 +1,14 @@
 // Edits of the pages of a map, each at a key. Without memory all is as before.
-ghost use Rattle.std.specs.Prelude.{◌≡◌, None, not, filter, IsOk, OnOk, OnErr};
+ghost use Rattle.std.specs.Prelude.{◌≡◌, None, not, filter, IsOk, IsSome, IfOk, Some, OnOk, OnErr};
 ghost use Rattle.std.specs.Box.{boxed_slice_items};
 ghost use Rattle.std.specs.BTreeMap.{insert_entry, is_at};
 ghost use Rattle.std.specs.Map.{lookup, remove_entry};
 ghost use Rattle.paged_map.specs.Octets.{octets_cmp, begins_with};
 ghost use Rattle.paged_map.specs.Pages.{IsSound, entries_of, values_in};
+ghost use Rattle.std.specs.Borrow.{sem};
+ghost use Rattle.paged_map.specs.Lends.{lends_key};
 
-use crate::edits::{put, remove_between, replace, take_out};
+use crate::edits::{put, remove_between, replace, take_out, value_at};
 use crate::marks::Mark;
 use crate::page::{Entry, Page};
 use crate::reads::find;
@@ -33,6 +35,21 @@ pub(crate) fn insert<V: Drop>(
         return replace(pages, spot, entry);
     }
     put(pages, alloc, spot, entry)
+}
+
+/// The value at a key that is there, to write. Its page and its entry are copied first if others have them.
+pub(crate) fn value_mut<'p, V: Clone + Drop>(
+    pages: &'p mut Vec<Arc<Page<V>>>,
+    key: &[u8],
+) -> Result<&'p mut V, AllocError>
+    requires sound { IsSound pages.old.items }
+    requires there { IsSome (lookup (is_at (octets_cmp key.now)) (entries_of pages.old.items)) }
+    requires clones { (x copy : V) → V.is_clone x copy → copy ≡ x }
+    ensures* writes_back { sem 𝓛 (lends_key V.row pages.entry key.now result) }
+    ensures value { IfOk result (λ x. lookup (is_at (octets_cmp key.now)) (entries_of pages.old.items) ≡ Some x.now) }
+{
+    let (spot, _) = find(pages, key);
+    value_at(pages, spot)
 }
 
 /// Takes the entry at a key out. Where there is none, that needs no memory.

@@ -1,4 +1,5 @@
 // The keys of edits, and what two versions differ in at them.
+ghost use Rattle.zone_model.specs.Version.{IsValid};
 
 use crate::common::{APEX, HOST, address, changes_the_ttl, is, name, soa};
 use dns_name::{Class, Rtype, Ttl};
@@ -33,15 +34,25 @@ fn set_serial<R: Abort>(rt: &R, alloc: Global, draft: &mut Draft, serial: u32) {
         .expect(rt, "memory");
 }
 
+/// A zone without records.
+fn empty<R: Abort>(rt: &R, alloc: Global) -> Arc<ZoneVersion>
+    ensures { IsValid result.value }
+{
+    let empty = ZoneVersion::empty(alloc, &name(rt, alloc, APEX), Class::IN);
+    Arc::new(alloc, empty.expect(rt, "memory")).expect(rt, "memory")
+}
+
 /// The zone of serial 1 with three addresses of the TTL 3600.
-fn zone<R: Abort>(rt: &R, alloc: Global) -> Arc<ZoneVersion> {
-    let empty = ZoneVersion::empty(alloc, name(rt, alloc, APEX), Class::IN);
-    let base = Arc::new(alloc, empty).expect(rt, "memory");
+fn zone<R: Abort>(rt: &R, alloc: Global) -> Arc<ZoneVersion>
+    ensures { IsValid result.value }
+{
+    let base = empty(rt, alloc);
     let mut draft = Draft::of(alloc, base).expect(rt, "memory");
     set_serial(rt, alloc, &mut draft, 1);
     add(rt, alloc, &mut draft, address(rt, alloc, HOST, 3600, 1));
     add(rt, alloc, &mut draft, address(rt, alloc, HOST, 3600, 2));
     add(rt, alloc, &mut draft, address(rt, alloc, HOST, 3600, 3));
+    draft.close(alloc).expect(rt, "memory");
     draft.into_version()
 }
 

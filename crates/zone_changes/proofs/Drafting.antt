@@ -1,15 +1,16 @@
 -- An edit of a draft at keys that were noted before: done or refused, the keys cover what the draft and its base differ in.
-use Rattle.std.proofs.Common.{◌≡◌, ℕ, ◌+◌, ◌%◌, ◌^◌, Bool, true, false, not, ◌||◌, if◌then◌else◌, List, [], ◌∷◌, refl, sym, ap, ◌∙◌, subst, Option, Some, None, option_map, Result, Ok, Err, OnOk, OnErr}
+use Rattle.std.proofs.Common.{◌≡◌, ℕ, ◌+◌, ◌%◌, ◌^◌, ◌==◌, length, Bool, true, false, not, ◌||◌, if◌then◌else◌, List, [], ◌∷◌, refl, sym, ap, ◌∙◌, subst, Option, Some, None, option_map, Result, Ok, Err, OnOk, OnErr}
 use Rattle.dns_name.specs.Names.{Name, fold, under}
 use Rattle.dns_name.specs.Codes.{type_ns, type_cname, type_soa, type_ds}
 use Rattle.dns_rdata.specs.Records.{Field, Record}
 use Rattle.dns_rdata.specs.Soa.{serial_of, with_serial}
-use Rattle.zone_model.specs.Version.{RecordSet, Key, Sets, Version}
-use Rattle.zone_model.specs.Edits.{OutOfZone, Incompatible, InvalidData, put_set, remove_set, has_data, second_alias, add, add_glue, first_soa, is_news, bump_from, bump}
+use Rattle.std.specs.BTreeMap.{insert_entry}
+use Rattle.zone_model.specs.Version.{RecordSet, Key, Sets, Version, key_cmp}
+use Rattle.zone_model.specs.Edits.{OutOfZone, Incompatible, InvalidData, with_sets, put_set, remove_set, has_data, second_alias, add, add_glue, first_soa, is_news, bump_from, bump}
 use Rattle.zone_versions.specs.Nodes.{is_address_in, with_glue}
 use Rattle.zone_versions.specs.Puts.{StandsAt, appended}
 use Rattle.zone_changes.specs.Touched.{is_touched, noted, Covers, CoversIn, noted_in}
-use Rattle.zone_changes.specs.Drafts.{without_special}
+use Rattle.zone_changes.specs.Drafts.{without_special, BeganAs}
 use Rattle.zone_changes.proofs.Noting.{noted_itself, keeps_all, keeps_noted}
 use Rattle.zone_changes.proofs.Covering.{covers_noted, covers_put_set, covers_remove_set}
 
@@ -122,3 +123,45 @@ covers_special keys base v n h =
     let v2 : Version = remove_set v1 n type_ds in
     covers_remove_set all base v2 n type_cname (noted_itself two (fold n, type_cname))
     (covers_remove_set all base v1 n type_ds ds (covers_remove_set all base v n type_ns ns (covers_special_keys keys base v n h)))
+
+-- ---- the apex stays
+
+pub began_apex : (base v w : Version) → w.apex ≡ v.apex → BeganAs base v → BeganAs base w
+began_apex base v w e h = record { valid = h.valid; apex = e ∙ h.apex }
+
+pub began_either : {T E : Type 0} (r : Result T E) (base v w x : Version) → OnOk r (w ≡ x) → OnErr r (w ≡ v) → x.apex ≡ v.apex → BeganAs base v → BeganAs base w
+began_either (Ok t) base v w x ok err e h = began_apex base v w (ap (λ (y : Version). y.apex) ok ∙ e) h
+began_either (Err t) base v w x ok err e h = began_apex base v w (ap (λ (y : Version). y.apex) err) h
+
+pub put_apex : (v : Version) (owner : Name) (rtype : ℕ) (s : RecordSet) → (put_set v owner rtype s).apex ≡ v.apex
+put_apex v owner rtype s = by (length s.items == 0)
+  where
+    by : (b : Bool) → (if b then remove_set v owner rtype else with_sets v (insert_entry key_cmp v.sets (fold owner, rtype) s)).apex ≡ v.apex
+    by true = refl
+    by false = refl
+
+pub glue_apex : (v : Version) (r : Record) → (add_glue v r).apex ≡ v.apex
+glue_apex v r = by (not (is_address_in v r) || has_data v r)
+  where
+    by : (b : Bool) → (if b then v else with_glue v r).apex ≡ v.apex
+    by true = refl
+    by false = put_apex v r.owner r.rtype _
+
+pub bump_apex : (p v : Version) → (bump p v).apex ≡ v.apex
+bump_apex p v = by (first_soa p)
+  where
+    by : (old : Option (ℕ × List Field)) → (bump_from v old).apex ≡ v.apex
+    by None = refl
+    by (Some old) = case (is_news (first_soa v) old)
+      where
+        case : (b : Bool) → (if b then v else put_set v v.apex type_soa (record { ttl = old.0; items = with_serial ((serial_of old.1 + 1) % 2 ^ 32) old.1 ∷ [] })).apex ≡ v.apex
+        case true = refl
+        case false = put_apex v v.apex type_soa (record { ttl = old.0; items = with_serial ((serial_of old.1 + 1) % 2 ^ 32) old.1 ∷ [] })
+
+pub added_apex : {T E : Type 0} (r : Result T E) (k : Key) (ttl : ℕ) (fields : List Field) (v w : Version) → OnOk r (fold k.0 ≡ k.0) → ((q : Record) → StandsAt k ttl fields q → OnOk r (add v q ≡ Ok w)) → OnErr r (w ≡ v)
+    → w.apex ≡ v.apex
+added_apex (Ok o) k ttl fields v w folded done err =
+    let q : Record = standing k ttl fields in
+    let place : (fold k.0, k.1) ≡ k = λ i. (folded i, k.1) in
+    ap (λ (x : Version). x.apex) (added_is v w q (done q (place, refl, refl))) ∙ put_apex v k.0 k.1 _
+added_apex (Err e) k ttl fields v w folded done err = ap (λ (x : Version). x.apex) err

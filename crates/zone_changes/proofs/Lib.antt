@@ -4,3 +4,4 @@ pub mod SoundSets
 mod Changing
 mod Lacking
 pub mod Drafting
+mod Straying

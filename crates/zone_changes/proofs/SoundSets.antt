@@ -14,7 +14,7 @@ use Rattle.zone_changes.specs.Touched.{noted_all, keys_below, Covers}
 use Rattle.zone_changes.proofs.Covering.{covers_itself, covers_noted_all, covers_clear}
 
 -- an entry's owner is in the zone, and folded
-zoned_folded : (v : Version) (e : Key × RecordSet) → is_sound_at v e ≡ true → (under e.0.0 v.apex ≡ true) × IsFolded e.0
+pub zoned_folded : (v : Version) (e : Key × RecordSet) → is_sound_at v e ≡ true → (under e.0.0 v.apex ≡ true) × IsFolded e.0
 zoned_folded v e h =
     let alias : Bool = not (below_apex v e.0.0 && (e.0.1 == type_cname)) || (length e.1.items == 1) in
     let two = first_so _ (nat_le 1 (length e.1.items)) (first_so _ (all_differ e.1.items) (first_so _ alias h)) in

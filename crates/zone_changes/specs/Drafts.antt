@@ -1,7 +1,8 @@
 -- A version that is edited, and the one that it began as.
+use Rattle.std.specs.Prelude.{◌≡◌}
 use Rattle.dns_name.specs.Names.{Name}
 use Rattle.dns_name.specs.Codes.{type_ns, type_cname, type_ds}
-use Rattle.zone_model.specs.Version.{Version}
+use Rattle.zone_model.specs.Version.{Version, IsValid}
 use Rattle.zone_model.specs.Edits.{remove_set}
 
 pub record Drafted : Type 0 where
@@ -22,3 +23,8 @@ without_special v n = remove_set (remove_set (remove_set v n type_ns) n type_ds)
 -- the edited version
 abbrev pub version_of : Drafted → Version
 version_of d = d.version
+
+-- a version that was edited, from a published one of the same apex
+pub record BeganAs (base : Version) (v : Version) : Type 0 where
+  pub valid : IsValid base
+  pub apex : v.apex ≡ base.apex

@@ -1,10 +1,11 @@
 -- The keys that edits touched, and what that says of two versions.
-use Rattle.std.specs.Prelude.{◌≡◌, Bool, true, false, List, filter, fold as fold_list, Option, option_map, IfSome}
+use Rattle.std.specs.Prelude.{◌≡◌, ◌==◌, ◌&&◌, ◌||◌, Bool, true, false, not, List, filter, fold as fold_list, Option, option_map, IfSome, is_some}
 use Rattle.std.specs.List.{list_any}
 use Rattle.std.specs.BTreeSet.{insert_key}
 use Rattle.std.specs.Map.{keys_of}
 use Rattle.dns_name.specs.Names.{Name, under}
-use Rattle.zone_model.specs.Version.{Key, Sets, Version, key_cmp, has_key, set_in}
+use Rattle.dns_name.specs.Codes.{type_ns, type_ds}
+use Rattle.zone_model.specs.Version.{Key, Sets, Version, key_cmp, has_key, set_in, set_at, below_apex}
 use Rattle.zone_versions.specs.Strays.{is_stray_at}
 
 -- whether a key is among these
@@ -45,3 +46,7 @@ keys_below v n = filter (λ (k : Key). under k.0 n) (keys_of v.sets)
 -- the keys of the sets that a commit leaves out (RFC 4035, 2.4)
 abbrev pub stray_keys : Version → List Key
 stray_keys v = filter (is_stray_at v) (keys_of v.sets)
+
+-- whether a DS set stands without NS at the owner of a key of either type, below the apex
+abbrev pub is_stray_beside : Version → Key → Bool
+is_stray_beside v k = ((k.1 == type_ns) || (k.1 == type_ds)) && (below_apex v k.0 && is_some (set_at v k.0 type_ds) && not (is_some (set_at v k.0 type_ns)))

@@ -25,9 +25,10 @@ use zone_sets::SetKey;
 use zone_values::Rrset;
 use zone_versions::{EditError, ZoneVersion};
 
-/// A version that is edited, and the one that it began as. They agree but at the tracked keys.
+/// A version that is edited, and the published one that it began as. They agree but at the tracked keys.
 #[derive(Drop)]
 pub struct Draft {
+    alloc: Global,
     base: Arc<ZoneVersion>,
     version: Arc<ZoneVersion>,
     touched: TrackedKeys,
@@ -35,21 +36,23 @@ pub struct Draft {
 
 impl Model for Draft {
     ghost use Rattle.zone_changes.specs.Touched.{CoversIn};
-    ghost use Rattle.zone_changes.specs.Drafts.{Drafted, draft};
+    ghost use Rattle.zone_changes.specs.Drafts.{Drafted, draft, BeganAs};
 
     ghost Value = { Drafted };
 
     ghost view = { λ d. draft d.base.value d.version.value };
 
-    ghost invariant = { λ d. CoversIn d.touched d.base.value.sets d.version.value.sets };
+    ghost invariant = { λ d. CoversIn d.touched d.base.value.sets d.version.value.sets × BeganAs d.base.value d.version.value };
 }
 
 impl Draft {
-    /// A version before any edit.
+    /// A published version before any edit.
     pub fn of(alloc: Global, base: Arc<ZoneVersion>) -> Result<Draft, AllocError>
+        requires { IsValid base.value }
         ensures { IfOk result (λ d. d ≡ draft base.value base.value) }
     {
         Ok(Draft {
+            alloc,
             version: base.clone()?,
             base,
             touched: TrackedKeys::new(alloc),
@@ -73,7 +76,7 @@ impl Draft {
     /// Puts a record's data, which are of the key's type, last in the RRset at its owner and type, whose TTL, in seconds, is then the record's. Refused
     /// are, tested in this order, an owner outside the zone, data that the RRset has already (`Incompatible`), and a second CNAME below the apex
     /// (`InvalidData`). Want of memory hides no refusal.
-    #[tactic(auto, using(crate::proofs::Drafting::covers_added))]
+    #[tactic(auto, using(crate::proofs::Drafting::covers_added, crate::proofs::Drafting::began_apex))]
     pub fn add(
         &mut self,
         alloc: Global,
@@ -102,7 +105,7 @@ impl Draft {
     {
         self.touched
             .note(SetKey::new(deleted.owner(), deleted.rtype()))?;
-        remove(&mut self.version, deleted)
+        remove(&mut self.version, self.alloc, deleted)
     }
 
     /// Makes the apex SOA RRset one record.
@@ -129,7 +132,7 @@ impl Draft {
         ensures err { OnErr result (self.new ≡ self.old) }
     {
         self.touched.note(SetKey::new(owner, set.rtype()))?;
-        put_set(&mut self.version, owner, set)
+        put_set(&mut self.version, self.alloc, owner, set)
     }
 
     /// Removes the RRset of an owner and type.
@@ -138,7 +141,7 @@ impl Draft {
         ensures err { OnErr result (self.new ≡ self.old) }
     {
         self.touched.note(SetKey::new(owner, rtype))?;
-        remove_set(&mut self.version, owner, rtype)
+        remove_set(&mut self.version, self.alloc, owner, rtype)
     }
 
     /// Removes the NS, DS and CNAME sets of an owner below the apex.
@@ -152,7 +155,7 @@ impl Draft {
         self.touched.note(SetKey::new(owner, Rtype::NS))?;
         self.touched.note(SetKey::new(owner, Rtype::DS))?;
         self.touched.note(SetKey::new(owner, Rtype::CNAME))?;
-        remove_special(&mut self.version, owner)
+        remove_special(&mut self.version, self.alloc, owner)
     }
 
     /// Puts an address in the zone last in its RRset, unless equal data are there; the lower TTL stays. Other records change nothing.
@@ -176,7 +179,7 @@ impl Draft {
         ensures err { OnErr result (self.new ≡ self.old) }
     {
         self.touched.note_below(&self.version, name)?;
-        clear(&mut self.version, name)
+        clear(&mut self.version, self.alloc, name)
     }
 
     /// Removes every RRset.
@@ -206,10 +209,10 @@ impl Draft {
         ensures valid { OnOk result (IsValid self.new.version) }
         ensures err { OnErr result (self.new ≡ self.old) }
     {
-        if !self.version.has_stray() {
+        if !self.touched.has_stray(&self.base, &self.version) {
             return Ok(());
         }
-        let closed = Arc::new(alloc, self.version.closed()?)?;
+        let closed = Arc::new(alloc, self.version.closed(alloc)?)?;
         self.touched.note_strays(&self.version)?;
         self.version = closed;
         Ok(())
@@ -228,6 +231,7 @@ impl Clone for Draft {
 
     fn clone(&self) -> Result<Draft, AllocError> {
         Ok(Draft {
+            alloc: self.alloc,
             base: self.base.clone()?,
             version: self.version.clone()?,
             touched: self.touched.clone()?,
@@ -248,6 +252,7 @@ fn add(
     ensures refused { (r : Record) → StandsAt key ttl (data_fields item) r → IfErr result (λ e. IfSome (refusal_of e) (λ why. add (arc_value pending.old) r ≡ Err why)) }
     ensures memory { (r : Record) → StandsAt key ttl (data_fields item) r → result ≡ Err EditError.Memory → IsOk (add (arc_value pending.old) r) }
     ensures err { OnErr result (arc_value pending.new ≡ arc_value pending.old) }
+    ensures apex { (arc_value pending.new).apex ≡ (arc_value pending.old).apex }
     ensures covered { (keys : List Key) (base : Sets) → is_touched keys key ≡ true → Covers keys base (arc_value pending.old).sets → Covers keys base (arc_value pending.new).sets }
 {
     match Arc::make_mut(pending) {
@@ -270,14 +275,17 @@ fn without_memory(version: &ZoneVersion, key: &SetKey, item: StoredRecordData) -
 }
 
 /// Takes a record's data out of its RRset.
-fn remove(pending: &mut Arc<ZoneVersion>, deleted: &StoredRecord) -> Result<(), AllocError>
+fn remove(
+    pending: &mut Arc<ZoneVersion>,
+    alloc: Global,
+    deleted: &StoredRecord,
+) -> Result<(), AllocError>
     requires { delete (arc_value pending.old) deleted.now ≡ Ok (without (arc_value pending.old) deleted.now) }
     ensures ok { OnOk result (arc_value pending.new ≡ without (arc_value pending.old) deleted.now) }
     ensures err { OnErr result (arc_value pending.new ≡ arc_value pending.old) }
 {
     let version = Arc::make_mut(pending)?;
-    version.remove(deleted);
-    Ok(())
+    version.remove(alloc, deleted)
 }
 
 /// Makes the apex SOA RRset one record.
@@ -295,7 +303,12 @@ fn set_soa(
 }
 
 /// Puts an RRset in place of the one of its owner and type.
-fn put_set(pending: &mut Arc<ZoneVersion>, owner: &KeyName, set: Rrset) -> Result<(), AllocError>
+fn put_set(
+    pending: &mut Arc<ZoneVersion>,
+    alloc: Global,
+    owner: &KeyName,
+    set: Rrset,
+) -> Result<(), AllocError>
     requires zone { under owner.now (arc_value pending.old).apex ≡ true }
     requires differ { all_differ set.contents.items ≡ true }
     requires alias { edits.is_bad_alias (arc_value pending.old) owner.now set.rtype set.contents ≡ false }
@@ -303,12 +316,13 @@ fn put_set(pending: &mut Arc<ZoneVersion>, owner: &KeyName, set: Rrset) -> Resul
     ensures err { OnErr result (arc_value pending.new ≡ arc_value pending.old) }
 {
     let version = Arc::make_mut(pending)?;
-    version.put_set(owner, set)
+    version.put_set(alloc, owner, set)
 }
 
 /// Removes the RRset of an owner and type.
 fn remove_set(
     pending: &mut Arc<ZoneVersion>,
+    alloc: Global,
     owner: &KeyName,
     rtype: Rtype,
 ) -> Result<(), AllocError>
@@ -316,30 +330,40 @@ fn remove_set(
     ensures err { OnErr result (arc_value pending.new ≡ arc_value pending.old) }
 {
     let version = Arc::make_mut(pending)?;
-    version.remove_set(owner, rtype);
-    Ok(())
+    version.remove_set(alloc, owner, rtype)
 }
 
-/// Removes the NS, DS and CNAME sets of an owner.
-fn remove_special(pending: &mut Arc<ZoneVersion>, owner: &KeyName) -> Result<(), AllocError>
+/// Removes the NS, DS and CNAME sets of an owner. So that all go or none, it is done on a copy, which shares what doesn't change.
+fn remove_special(
+    pending: &mut Arc<ZoneVersion>,
+    alloc: Global,
+    owner: &KeyName,
+) -> Result<(), AllocError>
     ensures ok { OnOk result (arc_value pending.new ≡ without_special (arc_value pending.old) owner.now) }
     ensures err { OnErr result (arc_value pending.new ≡ arc_value pending.old) }
 {
-    let version = Arc::make_mut(pending)?;
-    version.remove_set(owner, Rtype::NS);
-    version.remove_set(owner, Rtype::DS);
-    version.remove_set(owner, Rtype::CNAME);
+    *pending = Arc::new(alloc, plain(pending, alloc, owner)?)?;
     Ok(())
 }
 
+/// A version without the NS, DS and CNAME sets of an owner.
+fn plain(version: &ZoneVersion, alloc: Global, owner: &KeyName) -> Result<ZoneVersion, AllocError>
+    ensures { IfOk result (λ v. v ≡ without_special version.now owner.now) }
+{
+    let mut plain = version.clone()?;
+    plain.remove_set(alloc, owner, Rtype::NS)?;
+    plain.remove_set(alloc, owner, Rtype::DS)?;
+    plain.remove_set(alloc, owner, Rtype::CNAME)?;
+    Ok(plain)
+}
+
 /// Removes the sets of a name and of all names below it.
-fn clear(pending: &mut Arc<ZoneVersion>, name: &KeyName) -> Result<(), AllocError>
+fn clear(pending: &mut Arc<ZoneVersion>, alloc: Global, name: &KeyName) -> Result<(), AllocError>
     ensures ok { OnOk result (arc_value pending.new ≡ edits.clear (arc_value pending.old) name.now) }
     ensures err { OnErr result (arc_value pending.new ≡ arc_value pending.old) }
 {
     let version = Arc::make_mut(pending)?;
-    version.clear(name);
-    Ok(())
+    version.clear(alloc, name)
 }
 
 /// Puts an address in the zone last in its RRset.

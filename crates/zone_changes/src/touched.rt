@@ -1,11 +1,13 @@
 // The keys that edits touched.
-ghost use Rattle.std.specs.Prelude.{◌≡◌, [], ◌==◌, length, OnOk, OnErr, if◌then◌else◌};
+ghost use Rattle.std.specs.Prelude.{◌≡◌, [], ◌==◌, ◌&&◌, ◌||◌, not, is_some, length, OnOk, OnErr, if◌then◌else◌};
+ghost use Rattle.std.specs.List.{list_any};
 ghost use Rattle.std.specs.List.Sorted.{IsStrictlySortedBy};
 ghost use Rattle.dns_name.specs.Names.{under};
-ghost use Rattle.zone_model.specs.Version.{key_cmp};
-ghost use Rattle.zone_changes.specs.Touched.{noted, noted_all, keys_below, stray_keys, Keeps};
+ghost use Rattle.dns_name.specs.Codes.{type_ns, type_ds};
+ghost use Rattle.zone_model.specs.Version.{key_cmp, set_at, below_apex};
+ghost use Rattle.zone_changes.specs.Touched.{noted, noted_all, keys_below, stray_keys, is_stray_beside, Keeps};
 
-use dns_name::{KeyName, Labelled, ToName};
+use dns_name::{KeyName, Labelled, Rtype, ToName};
 use std::alloc::{AllocError, Global};
 use std::collections::BTreeSet;
 use std::collections::btree_set::Iter;
@@ -98,7 +100,7 @@ impl TouchedKeys {
         ensures err { OnErr result (Keeps self.old self.new) }
     {
         for key in version.keys() {
-            self.note_if(key, key.owner().ends_with(name))?;
+            self.note_if(&key, key.owner().ends_with(name))?;
         }
         Ok(())
     }
@@ -110,9 +112,17 @@ impl TouchedKeys {
         ensures err { OnErr result (Keeps self.old self.new) }
     {
         for key in version.keys() {
-            self.note_if(key, version.is_stray(key))?;
+            self.note_if(&key, version.is_stray(&key))?;
         }
         Ok(())
+    }
+
+    /// Whether a DS RRset of a version stands without NS below the apex, at the owner of a noted NS or DS key (RFC 4035, 2.4).
+    pub fn has_stray(&self, version: &ZoneVersion) -> bool
+        ensures { result ≡ list_any (is_stray_beside version.now) self.now }
+    {
+        let mut keys = self.keys.iter();
+        keys.any(|key| is_stray_beside(version, key))
     }
 
     /// Forgets the keys.
@@ -131,4 +141,27 @@ impl Clone for TouchedKeys {
             keys: self.keys.clone()?,
         })
     }
+}
+
+/// Whether a DS RRset stands without NS at the owner of a key of either type, below the apex.
+fn is_stray_beside(version: &ZoneVersion, key: &SetKey) -> bool
+    ensures { result ≡ is_stray_beside version.now key.now }
+{
+    is_ns_or_ds(key.rtype()) && is_stray_owner(version, key.owner())
+}
+
+/// Whether a type is NS or DS.
+fn is_ns_or_ds(rtype: Rtype) -> bool
+    ensures { result ≡ ((rtype == type_ns) || (rtype == type_ds)) }
+{
+    rtype == Rtype::NS || rtype == Rtype::DS
+}
+
+/// Whether a DS RRset stands without NS at a name below the apex.
+fn is_stray_owner(version: &ZoneVersion, owner: &KeyName) -> bool
+    ensures { result ≡ (below_apex version.now owner.now && is_some (set_at version.now owner.now type_ds) && not (is_some (set_at version.now owner.now type_ns))) }
+{
+    version.is_below_apex(owner)
+        && version.has_set(owner, Rtype::DS)
+        && !version.has_set(owner, Rtype::NS)
 }

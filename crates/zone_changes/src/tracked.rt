@@ -1,7 +1,11 @@
 // The keys at which two versions may differ, where that isn't any key.
-ghost use Rattle.std.specs.Prelude.{◌≡◌, [], Some, None, IfOk, OnOk, OnErr, if◌then◌else◌};
-ghost use Rattle.zone_model.specs.Version.{Sets};
+ghost use Rattle.std.specs.Prelude.{◌≡◌, [], false, Some, None, IfOk, OnOk, OnErr, if◌then◌else◌};
+ghost use Rattle.std.specs.List.{list_any};
+ghost use Rattle.std.specs.Map.{keys_of};
+ghost use Rattle.zone_model.specs.Version.{Sets, IsValid};
 ghost use Rattle.zone_model.specs.Difference.{difference, diffable};
+ghost use Rattle.zone_versions.specs.Strays.{is_stray_at};
+ghost use Rattle.zone_changes.specs.Drafts.{BeganAs};
 ghost use Rattle.zone_changes.specs.Touched.{noted_in, noted_all_in, keys_below, stray_keys, CoversIn};
 
 use crate::changes::{difference, difference_anywhere};
@@ -84,6 +88,23 @@ impl TrackedKeys {
         match &mut self.kept {
             Some(keys) => keys.note_strays(version),
             None => Ok(()),
+        }
+    }
+
+    /// Whether a commit may leave an RRset of a version out that began as a published one. Where keys are kept, only their owners are looked at.
+    pub(crate) fn has_stray(&self, base: &ZoneVersion, version: &ZoneVersion) -> bool
+        requires covered { CoversIn self.now base.now.sets version.now.sets }
+        requires began { BeganAs base.now version.now }
+        ensures none { result ≡ false → list_any (is_stray_at version.now) (keys_of version.now.sets) ≡ false }
+        ensures valid { result ≡ false → IsValid version.now }
+    {
+        match &self.kept {
+            Some(keys) => {
+                // For the proof: what a version keeps while it is edited.
+                version.soundness();
+                keys.has_stray(version)
+            }
+            None => version.has_stray(),
         }
     }
 

@@ -2,10 +2,10 @@
 use Rattle.std.proofs.Common.{◌≡◌, ℕ, refl, ap, ◌∙◌, true≢false, Option, Some, None, option_map, is_some, IfSome}
 use denote.Ref.{Bor}
 use Rattle.std.specs.Option.{option_copied}
-use Rattle.zone_model.specs.Version.{RecordSet, Key}
+use Rattle.zone_model.specs.Version.{RecordSet}
 use Rattle.zone_values.specs.TypedSets.{TypedSet}
 use Rattle.zone_versions.proofs.TypedStops.{untyped_typed}
-use Rattle.zone_values.specs.TypedEntries.{typed, untyped, item_of, entry_of}
+use Rattle.zone_values.specs.TypedEntries.{typed, untyped}
 
 -- what a look-up lends
 pub lent_set : (rtype : ℕ) (r : Option (Bor TypedSet)) (o : Option RecordSet) → option_copied r ≡ option_map (typed rtype) o → untyped (option_copied r) ≡ o
@@ -18,8 +18,3 @@ lent_type rtype (Some s) o e = by o e
     by : (p : Option RecordSet) → Some s.now ≡ option_map (typed rtype) p → s.now.rtype ≡ rtype
     by None g = absurd (true≢false (ap is_some g))
     by (Some t) g = ap (λ (x : Option TypedSet). elim x as (λ y. ℕ) [ Some y ↦ y.rtype | None ↦ s.now.rtype ]) g
-
--- an entry that is found, without its set's type
-pub found_untyped : (o : Option (Key × RecordSet)) → option_map entry_of (option_map item_of o) ≡ o
-found_untyped None = refl
-found_untyped (Some e) = refl

@@ -6,6 +6,7 @@ ghost use Rattle.zone_model.specs.Answer.{answer, answer_at, alias_at, at_cut, c
 
 use crate::content::LentAnswer;
 use dns_name::{KeyName, NameOctets, NameRef, Rtype, ToName};
+use name_keys::NameKey;
 use zone_versions::ZoneVersion;
 
 /// Whether a name is the apex, or an owner is at or below it (RFC 4592, 2.2.2).
@@ -17,7 +18,7 @@ fn exists(version: &ZoneVersion, name: &NameRef<'_>) -> bool
         return true;
     }
     match version.first_from(name) {
-        Some((key, _)) => key.owner().ends_with(name),
+        Some(found) => found.owner().is_under(&NameKey::of(name)),
         None => false,
     }
 }
@@ -46,11 +47,11 @@ fn first_set<'v>(version: &'v ZoneVersion, name: &NameRef<'_>) -> LentAnswer<'v>
     ensures { result ≡ first_set (sets_of version.now name.now) }
 {
     match version.first_from(name) {
-        Some((key, set)) => {
-            if key.owner().name_eq(name) {
-                LentAnswer::set_or_no_data(key.rtype(), Some(set))
+        Some(found) => {
+            if found.owner().to_name().name_eq(name) {
+                LentAnswer::set_or_no_data(found.rtype(), Some(found.set()))
             } else {
-                LentAnswer::set_or_no_data(key.rtype(), None)
+                LentAnswer::set_or_no_data(found.rtype(), None)
             }
         }
         None => LentAnswer::set_or_no_data(Rtype::ANY, None),

@@ -12,9 +12,9 @@ use Rattle.dns_name.specs.Names.{Name, fold, under, canonical_cmp}
 use Rattle.zone_model.specs.Version.{RecordSet, Key, Sets, Version, key_cmp, has_key, set_in, exists}
 use Rattle.zone_model.specs.Edits.{with_sets, remove_set}
 use Rattle.zone_model.proofs.Steps.{Good}
-use Rattle.zone_nodes.specs.Trees.{NodeSets, Nodes, IsHeld, IsTree, has_records, node_at, sets_of, in_tree, with_set, built}
+use Rattle.zone_nodes.specs.Trees.{NodeSets, Nodes, IsHeld, IsTree, has_records, node_at, sets_of, in_tree, with_set, built, type_in, set_of_type}
 use Rattle.zone_nodes.specs.Ways.{put_node, add_upwards, lacking_upwards, add_above, lacking_above, put_held, put_steps, version_of, topmost, stays_at, climb, node_stays, taken_out, remove_held, remove_steps}
-use Rattle.zone_nodes.proofs.Flat.{type_in, set_of_type, set_in-sets_of, sets_of-good}
+use Rattle.zone_nodes.proofs.Flat.{set_in-sets_of, sets_of-good}
 use Rattle.zone_nodes.proofs.Above.{under_root}
 use Rattle.zone_nodes.proofs.Kept.{nothing_held, nodes_put, is_put, sets_removed}
 use Rattle.zone_nodes.proofs.Existing.{any_under, any_sets, others_stay}

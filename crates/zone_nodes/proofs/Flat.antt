@@ -5,7 +5,6 @@ use Rattle.std.specs.Ordering.{ordering_then}
 use Rattle.std.specs.Cmp.{tied_itself}
 use Rattle.std.specs.List.{AllByRecursion}
 use Rattle.std.specs.List.Sorted.{IsStrictlySortedBy}
-use Rattle.std.specs.BTreeMap.{is_at}
 use Rattle.std.specs.Map.{lookup, keys_of, values_of}
 use Rattle.std.proofs.lemmas.List.Elements.{filter-append}
 use Rattle.std.proofs.lemmas.Map.Keys.{sorted_head, sorted_tail}
@@ -15,16 +14,7 @@ use Rattle.zone_model.specs.Version.{RecordSet, Key, Sets, key_cmp, has_key, set
 use Rattle.zone_model.proofs.Folded.{IsFolded}
 use Rattle.zone_model.proofs.Ordered.{sorted_none, sorted_cons, past_head}
 use Rattle.zone_model.proofs.Steps.{Good}
-use Rattle.zone_nodes.specs.Trees.{NodeSets, Nodes, AreNodes, IsHeld, node_at, sets_of_node, sets_of}
-
--- a node's set of a type
-abbrev pub set_of_type : NodeSets → ℕ → Option RecordSet
-set_of_type held t = lookup (is_at (nat_cmp t)) held
-
--- the same, where there is a node
-abbrev pub type_in : Option NodeSets → ℕ → Option RecordSet
-type_in None t = None
-type_in (Some held) t = set_of_type held t
+use Rattle.zone_nodes.specs.Trees.{NodeSets, Nodes, AreNodes, IsHeld, node_at, sets_of_node, sets_of, set_of_type, type_in}
 
 lookup-append : {K X : Type 0} (test : K → Bool) (xs ys : List (K × X)) → lookup test (xs ++ ys) ≡ option_or (lookup test xs) (lookup test ys)
 lookup-append test [] ys = refl

@@ -9,9 +9,8 @@ use Rattle.zone_model.specs.Version.{RecordSet, Version, key_cmp, has_key, exist
 use Rattle.zone_model.specs.Edits.{with_sets, put_set}
 use Rattle.zone_model.proofs.Folded.{fold-fold, under_alike}
 use Rattle.zone_model.proofs.Ordered.{find_alike, lookup-insert_entry, lookup-remove_entry}
-use Rattle.zone_nodes.specs.Trees.{NodeSets, Nodes, AreNodes, IsHeld, IsTree, has_records, node_at, sets_of, in_tree}
+use Rattle.zone_nodes.specs.Trees.{NodeSets, Nodes, AreNodes, IsHeld, IsTree, has_records, node_at, sets_of, in_tree, set_of_type, type_in}
 use Rattle.zone_nodes.specs.Ways.{put_node, add_upwards, lacking_upwards}
-use Rattle.zone_nodes.proofs.Flat.{set_of_type, type_in}
 use Rattle.zone_nodes.proofs.Above.{under_itself, under_trans, under_longer, under_cases, under_root, under_longest, under_both, is_same, same_is, tied, ties}
 use Rattle.zone_nodes.proofs.Kept.{nothing_held, held_insert, nodes_put, node_at-put, edited_at, sets_put}
 use Rattle.zone_nodes.proofs.Existing.{or_so, or_left, or_right, and_so, in_tree_above, apex_in_tree, put_exists}

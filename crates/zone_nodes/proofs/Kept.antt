@@ -13,9 +13,9 @@ use Rattle.zone_model.proofs.Folded.{IsFolded, key_total}
 use Rattle.zone_model.proofs.Ordered.{sorted_none, sorted_cons, lookup-insert_entry, lookup-remove_entry, sorted-insert_entry, sorted-remove_entry, passes-insert_entry, passes-remove_entry}
 use Rattle.zone_model.proofs.Alike.{equal_from_found}
 use Rattle.zone_model.proofs.Steps.{Good}
-use Rattle.zone_nodes.specs.Trees.{NodeSets, Nodes, AreNodes, IsHeld, has_records, node_at, sets_of}
+use Rattle.zone_nodes.specs.Trees.{NodeSets, Nodes, AreNodes, IsHeld, has_records, node_at, sets_of, type_in}
 use Rattle.zone_nodes.specs.Ways.{put_node}
-use Rattle.zone_nodes.proofs.Flat.{type_in, set_in-sets_of, sets_of-good}
+use Rattle.zone_nodes.proofs.Flat.{set_in-sets_of, sets_of-good}
 use Rattle.zone_nodes.proofs.Above.{tied}
 
 -- ---- one node

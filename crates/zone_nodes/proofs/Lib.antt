@@ -15,3 +15,5 @@ pub mod Few
 pub mod Walked
 pub mod Cleared
 pub mod NoSet
+pub mod Written
+pub mod InPlace

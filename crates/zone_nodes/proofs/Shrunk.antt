@@ -8,9 +8,9 @@ use Rattle.zone_model.specs.Version.{RecordSet, Version, has_key, set_in}
 use Rattle.zone_model.specs.Edits.{remove_set}
 use Rattle.zone_model.proofs.Folded.{fold-fold, under_alike}
 use Rattle.zone_model.proofs.Steps.{Good}
-use Rattle.zone_nodes.specs.Trees.{NodeSets, Nodes, AreNodes, IsHeld, IsTree, node_at, sets_of, in_tree}
+use Rattle.zone_nodes.specs.Trees.{NodeSets, Nodes, AreNodes, IsHeld, IsTree, node_at, sets_of, in_tree, type_in}
 use Rattle.zone_nodes.specs.Ways.{put_node, topmost}
-use Rattle.zone_nodes.proofs.Flat.{type_in, set_in-sets_of, sets_of-good}
+use Rattle.zone_nodes.proofs.Flat.{set_in-sets_of, sets_of-good}
 use Rattle.zone_nodes.proofs.Above.{under_itself, under_trans, under_longer, under_cases, under_root, tied}
 use Rattle.zone_nodes.proofs.Kept.{held_remove, nodes_put, nodes_filter, node_at-filter, edited_at, is_put, sets_removed}
 use Rattle.zone_nodes.proofs.Existing.{in_tree_above, in_tree_alike, apex_in_tree, left, still_in_tree, gone_from_tree, others_stay}

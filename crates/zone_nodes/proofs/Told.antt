@@ -12,9 +12,9 @@ use Rattle.zone_model.specs.Version.{RecordSet, Key, Version, key_cmp, has_key, 
 use Rattle.zone_model.specs.Edits.{with_sets}
 use Rattle.zone_model.proofs.Folded.{fold-fold}
 use Rattle.zone_model.proofs.Ordered.{sorted_none, sorted_cons, past_head}
-use Rattle.zone_nodes.specs.Trees.{NodeSets, Nodes, IsTree, node_at, sets_of_node, sets_of, in_tree, sets_at, node_of, with_set, built}
+use Rattle.zone_nodes.specs.Trees.{NodeSets, Nodes, IsTree, node_at, sets_of_node, sets_of, in_tree, sets_at, node_of, with_set, built, type_in}
 use Rattle.zone_nodes.specs.Ways.{version_of}
-use Rattle.zone_nodes.proofs.Flat.{type_in, set_in-sets_of}
+use Rattle.zone_nodes.proofs.Flat.{set_in-sets_of}
 use Rattle.zone_nodes.proofs.Above.{is_same, same_is, tied, ties}
 use Rattle.zone_nodes.proofs.Kept.{nothing_held}
 use Rattle.zone_nodes.proofs.Existing.{in_tree_alike, apex_in_tree}
@@ -83,6 +83,9 @@ removed_at v folded rtype = with_sets v (remove_entry (has_key (folded, rtype)) 
 
 abbrev put_at : Version → Name → ℕ → RecordSet → Version
 put_at v folded rtype s = if length s.items == 0 then removed_at v folded rtype else with_sets v (insert_entry key_cmp v.sets (folded, rtype) s)
+
+pub set_folded : (v : Version) (n : Name) (rtype : ℕ) → set_at v (fold n) rtype ≡ set_at v n rtype
+set_folded v n rtype = ap (λ m. set_in v.sets (m, rtype)) (fold-fold n)
 
 pub with_folded : (v : Version) (n : Name) (rtype : ℕ) (s : Option RecordSet) → with_set v (fold n) rtype s ≡ with_set v n rtype s
 with_folded v n rtype None = ap (λ m. removed_at v m rtype) (fold-fold n)

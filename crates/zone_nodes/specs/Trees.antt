@@ -30,6 +30,15 @@ pub record IsHeld (held : NodeSets) : Type 0 where
 abbrev pub node_at : Nodes → Name → Option NodeSets
 node_at nodes n = lookup (is_at (canonical_cmp n)) nodes
 
+-- a node's set of a type
+abbrev pub set_of_type : NodeSets → ℕ → Option RecordSet
+set_of_type held t = lookup (is_at (nat_cmp t)) held
+
+-- .. where there is a node
+abbrev pub type_in : Option NodeSets → ℕ → Option RecordSet
+type_in None t = None
+type_in (Some held) t = set_of_type held t
+
 -- the sets of a node by owner and type
 abbrev pub sets_of_node : Name × NodeSets → Sets
 sets_of_node node = map (λ (e : ℕ × RecordSet). ((node.0, e.0), e.1)) node.1

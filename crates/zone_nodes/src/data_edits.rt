@@ -1,18 +1,20 @@
 // Edits of one record's data in a version.
-ghost use Rattle.std.specs.Prelude.{◌≡◌, true, Some, [], ◌∷◌, not, filter, option_copied, IfOk, IfSome, OnOk, OnErr};
+ghost use Rattle.std.specs.Prelude.{◌≡◌, true, Some, [], ◌∷◌, not, filter, IfOk, IsSome, OnOk, OnErr};
+ghost use Rattle.std.specs.List.{list_any};
 ghost use Rattle.dns_name.specs.Names.{under};
 ghost use Rattle.dns_rdata.specs.Records.{same_data};
 ghost use Rattle.dns_rdata.specs.ZoneData.{rtype_of, data_fields};
 ghost use Rattle.zone_model.specs.Version.{set_at, data_at};
 ghost use Rattle.zone_model.specs.Edits as edits;
-ghost use Rattle.zone_values.specs.TypedSets.{set_of};
-ghost use Rattle.zone_values.specs.TypedEntries.{typed, untyped};
+ghost use Rattle.zone_values.specs.TypedEntries.{typed};
 ghost use Rattle.zone_values.specs.SetEdits.{last_set, opening_set};
 ghost use Rattle.zone_values.specs.PutCauses.{TellsPut};
 ghost use Rattle.zone_nodes.specs.Held.{counted};
 ghost use Rattle.zone_nodes.specs.Trees.{built};
+ghost use Rattle.zone_nodes.specs.DataEdits.{thinned_set};
 
 use crate::node::NodeCount;
+use crate::set_edit::{Appending, Opening, Thinning};
 use crate::tree::VersionTree;
 use dns_name::{Labelled, Ttl};
 use dns_rdata::{RecordData, StoredRecordData};
@@ -38,12 +40,21 @@ impl VersionTree {
         ensures steps { OnOk result (steps.new ≡ counted steps.old (built self.old self.new (N.labels owner.now) (rtype_of item))) }
     {
         let rtype = item.rtype();
-        match with_last(self.get(owner, rtype), alloc, ttl, item, alone) {
-            Ok(set) => match self.with_set(alloc, owner, rtype, Some(set), steps) {
+        match self.get(owner, rtype) {
+            Some(set) => match may_append(set, &item, alone) {
+                Ok(()) => match self.append_in_place(alloc, owner, ttl, item, steps) {
+                    Ok(()) => Ok(()),
+                    Err(_) => Err(PutError::Memory),
+                },
+                Err(error) => {
+                    drop(item);
+                    Err(error)
+                }
+            },
+            None => match self.put_first(alloc, owner, ttl, item, steps) {
                 Ok(()) => Ok(()),
                 Err(_) => Err(PutError::Memory),
             },
-            Err(error) => Err(error),
         }
     }
 
@@ -63,9 +74,9 @@ impl VersionTree {
         ensures steps { OnOk result (steps.new ≡ counted steps.old (built self.old self.new (N.labels owner.now) (rtype_of item))) }
     {
         let rtype = item.rtype();
-        match with_opening(self.get(owner, rtype), alloc, ttl, item) {
-            Ok(set) => self.with_set(alloc, owner, rtype, Some(set), steps),
-            Err(error) => Err(error),
+        match self.get(owner, rtype) {
+            Some(_) => self.open_in_place(alloc, owner, ttl, item, steps),
+            None => self.put_first(alloc, owner, ttl, item, steps),
         }
     }
 
@@ -91,115 +102,99 @@ impl VersionTree {
         let Some(found) = self.get(owner, rtype) else {
             return Ok(());
         };
-        let left = without(found, alloc, ttl, item)?;
-        self.with_set(alloc, owner, rtype, Some(left), steps)
+        if found.has_others(item) {
+            return self.thin_in_place(owner, ttl, item, steps);
+        }
+        self.with_set(alloc, owner, rtype, None, steps)
+    }
+
+    /// Puts data last in the RRset of their type at an owner, which stands there, and this TTL in place of the RRset's.
+    fn append_in_place<N: Labelled>(
+        &mut self,
+        alloc: Global,
+        owner: &N,
+        ttl: Ttl,
+        item: StoredRecordData,
+        steps: &mut NodeCount,
+    ) -> Result<(), AllocError>
+        requires zone { under (N.labels owner.now) self.old.apex ≡ true }
+        requires there { IsSome (set_at self.old (N.labels owner.now) (rtype_of item)) }
+        ensures ok { OnOk result (self.new ≡ edits.put_set self.old (N.labels owner.now) (rtype_of item) (last_set ttl (data_fields item) (set_at self.old (N.labels owner.now) (rtype_of item)))) }
+        ensures err { OnErr result (self.new ≡ self.old) }
+        ensures steps { OnOk result (steps.new ≡ counted steps.old (built self.old self.new (N.labels owner.now) (rtype_of item))) }
+    {
+        let rtype = item.rtype();
+        self.edit_in_place(owner, rtype, Appending { alloc, ttl, item }, steps)
+    }
+
+    /// Puts data that a zone opens with in the RRset of their type at an owner, which stands there.
+    fn open_in_place<N: Labelled>(
+        &mut self,
+        alloc: Global,
+        owner: &N,
+        ttl: Ttl,
+        item: StoredRecordData,
+        steps: &mut NodeCount,
+    ) -> Result<(), AllocError>
+        requires zone { under (N.labels owner.now) self.old.apex ≡ true }
+        requires there { IsSome (set_at self.old (N.labels owner.now) (rtype_of item)) }
+        ensures ok { OnOk result (self.new ≡ edits.put_set self.old (N.labels owner.now) (rtype_of item) (opening_set ttl (data_fields item) (set_at self.old (N.labels owner.now) (rtype_of item)))) }
+        ensures err { OnErr result (self.new ≡ self.old) }
+        ensures steps { OnOk result (steps.new ≡ counted steps.old (built self.old self.new (N.labels owner.now) (rtype_of item))) }
+    {
+        let rtype = item.rtype();
+        self.edit_in_place(owner, rtype, Opening { alloc, ttl, item }, steps)
+    }
+
+    /// Takes the data equal to these out of the RRset of their type at an owner, which has others, and puts this TTL in place of the RRset's.
+    fn thin_in_place<N: Labelled>(
+        &mut self,
+        owner: &N,
+        ttl: Ttl,
+        item: &StoredRecordData,
+        steps: &mut NodeCount,
+    ) -> Result<(), AllocError>
+        requires zone { under (N.labels owner.now) self.old.apex ≡ true }
+        requires others { list_any (λ d. not (same_data (data_fields item.now) d)) (data_at self.old (N.labels owner.now) (rtype_of item.now)) ≡ true }
+        ensures ok { OnOk result (self.new ≡ edits.put_set self.old (N.labels owner.now) (rtype_of item.now) (thinned_set ttl (data_fields item.now) (set_at self.old (N.labels owner.now) (rtype_of item.now)))) }
+        ensures err { OnErr result (self.new ≡ self.old) }
+        ensures steps { OnOk result (steps.new ≡ counted steps.old (built self.old self.new (N.labels owner.now) (rtype_of item.now))) }
+    {
+        let rtype = item.rtype();
+        self.edit_in_place(owner, rtype, Thinning { ttl, item }, steps)
+    }
+
+    /// Puts data in a new RRset of their type at an owner.
+    fn put_first<N: Labelled>(
+        &mut self,
+        alloc: Global,
+        owner: &N,
+        ttl: Ttl,
+        item: StoredRecordData,
+        steps: &mut NodeCount,
+    ) -> Result<(), AllocError>
+        requires { under (N.labels owner.now) self.old.apex ≡ true }
+        ensures ok { OnOk result (self.new ≡ edits.put_set self.old (N.labels owner.now) (rtype_of item) (record { ttl = ttl; items = data_fields item ∷ [] })) }
+        ensures err { OnErr result (self.new ≡ self.old) }
+        ensures steps { OnOk result (steps.new ≡ counted steps.old (built self.old self.new (N.labels owner.now) (rtype_of item))) }
+    {
+        let rtype = item.rtype();
+        let set = first_of(alloc, ttl, item)?;
+        self.with_set(alloc, owner, rtype, Some(set), steps)
     }
 }
 
-/// A copy of an RRset, if there is one, with data of its type put last and this TTL, or else the RRset of the data alone. Equal data and a second that
-/// stands alone are refused before memory is asked for.
-fn with_last(
-    found: Option<&Rrset>,
-    alloc: Global,
-    ttl: Ttl,
-    item: StoredRecordData,
-    alone: bool,
-) -> Result<SharedRrset, PutError>
-    requires { IfSome (option_copied found) (λ s. s.rtype ≡ rtype_of item) }
-    ensures is { IfOk result (λ s. s ≡ typed (rtype_of item) (last_set ttl (data_fields item) (untyped (option_copied found.entry)))) }
-    ensures cause { TellsPut (data_fields item) alone (untyped (option_copied found.entry)) result }
+/// Whether data may be put in an RRset: equal data don't stand there, and they don't stand alone. Otherwise why not.
+fn may_append(set: &Rrset, item: &StoredRecordData, alone: bool) -> Result<(), PutError>
+    ensures { TellsPut (data_fields item.now) alone (Some set.now.contents) result }
 {
-    match found {
-        Some(set) => appended(set, alloc, ttl, item, alone),
-        None => match first_of(alloc, ttl, item) {
-            Ok(set) => Ok(set),
-            Err(_) => Err(PutError::Memory),
-        },
-    }
-}
-
-/// A copy of an RRset with data of its type put last and this TTL, unless equal data stand there, or the data stand alone.
-fn appended(
-    set: &Rrset,
-    alloc: Global,
-    ttl: Ttl,
-    item: StoredRecordData,
-    alone: bool,
-) -> Result<SharedRrset, PutError>
-    requires { set.now.rtype ≡ rtype_of item }
-    ensures is { IfOk result (λ s. s ≡ typed (rtype_of item) (last_set ttl (data_fields item) (Some set.now.contents))) }
-    ensures cause { TellsPut (data_fields item) alone (Some set.now.contents) result }
-{
-    if set.contains(&item) {
-        drop(item);
+    if set.contains(item) {
         return Err(PutError::Equal);
     }
     if alone {
-        drop(item);
         return Err(PutError::Second);
     }
-    match grown(set, alloc, ttl, item) {
-        Ok(set) => Ok(set),
-        Err(_) => Err(PutError::Memory),
-    }
-}
-
-/// A copy of an RRset with data of its type put last and this TTL.
-fn grown(
-    set: &Rrset,
-    alloc: Global,
-    ttl: Ttl,
-    item: StoredRecordData,
-) -> Result<SharedRrset, AllocError>
-    requires { set.now.rtype ≡ rtype_of item }
-    ensures { IfOk result (λ s. s ≡ typed (rtype_of item) (last_set ttl (data_fields item) (Some set.now.contents))) }
-{
-    let mut copy = match set.clone() {
-        Ok(copy) => copy,
-        Err(error) => {
-            drop(item);
-            return Err(error);
-        }
-    };
-    copy.append(alloc, ttl, item)?;
-    copy.into_shared(alloc)
-}
-
-/// A copy of an RRset, if there is one, with data of its type that a zone opens with, or else the RRset of the data alone.
-fn with_opening(
-    found: Option<&Rrset>,
-    alloc: Global,
-    ttl: Ttl,
-    item: StoredRecordData,
-) -> Result<SharedRrset, AllocError>
-    requires { IfSome (option_copied found) (λ s. s.rtype ≡ rtype_of item) }
-    ensures { IfOk result (λ s. s ≡ typed (rtype_of item) (opening_set ttl (data_fields item) (untyped (option_copied found.entry)))) }
-{
-    match found {
-        Some(set) => opened(set, alloc, ttl, item),
-        None => first_of(alloc, ttl, item),
-    }
-}
-
-/// A copy of an RRset with data of its type that a zone opens with.
-fn opened(
-    set: &Rrset,
-    alloc: Global,
-    ttl: Ttl,
-    item: StoredRecordData,
-) -> Result<SharedRrset, AllocError>
-    requires { set.now.rtype ≡ rtype_of item }
-    ensures { IfOk result (λ s. s ≡ typed (rtype_of item) (opening_set ttl (data_fields item) (Some set.now.contents))) }
-{
-    let mut copy = match set.clone() {
-        Ok(copy) => copy,
-        Err(error) => {
-            drop(item);
-            return Err(error);
-        }
-    };
-    copy.open_with(alloc, ttl, item)?;
-    copy.into_shared(alloc)
+    Ok(())
 }
 
 /// The RRset of one record's data.
@@ -207,18 +202,4 @@ fn first_of(alloc: Global, ttl: Ttl, item: StoredRecordData) -> Result<SharedRrs
     ensures { IfOk result (λ s. s ≡ typed (rtype_of item) (record { ttl = ttl; items = data_fields item ∷ [] })) }
 {
     Rrset::of_one(alloc, ttl, item)?.into_shared(alloc)
-}
-
-/// A copy of an RRset without the data equal to these, and with this TTL.
-fn without(
-    set: &Rrset,
-    alloc: Global,
-    ttl: Ttl,
-    item: &StoredRecordData,
-) -> Result<SharedRrset, AllocError>
-    ensures { IfOk result (λ s. s ≡ set_of set.now.rtype ttl (filter (λ d. not (same_data (data_fields item.now) d)) set.now.contents.items)) }
-{
-    let mut copy = set.clone()?;
-    copy.remove(ttl, item);
-    copy.into_shared(alloc)
 }

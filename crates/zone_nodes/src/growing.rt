@@ -1,11 +1,12 @@
 // A set is put among nodes.
-ghost use Rattle.std.specs.Prelude.{◌≡◌, ◌≤◌, true, length, OnOk, OnErr};
+ghost use Rattle.std.specs.Prelude.{◌≡◌, ◌≤◌, true, length, IsSome, OnOk, OnErr};
 ghost use Rattle.zone_nodes.specs.Held.{counted};
-ghost use Rattle.zone_nodes.specs.Trees.{NodeSets, node_at};
+ghost use Rattle.zone_nodes.specs.Trees.{NodeSets, node_at, type_in};
 ghost use Rattle.zone_nodes.specs.Ways.{put_node, add_upwards, lacking_upwards, add_above, lacking_above, put_held, put_steps};
 
 use crate::node::{NodeCount, ZoneNode};
 use crate::node_map::NodeMap;
+use crate::set_edit::SetEdit;
 use dns_name::Rtype;
 use name_keys::NameKeyRef;
 use std::alloc::{AllocError, Global};
@@ -134,4 +135,20 @@ pub(crate) fn put_set(
             put_new(nodes, alloc, name, node, steps)
         }
     }
+}
+
+/// Edits the RRset of a name and type, which stands there and keeps data, in place. No node is built. Without memory all is as before.
+pub(crate) fn edit_set<E: SetEdit + Drop>(
+    nodes: &mut NodeMap,
+    name: &NameKeyRef<'_>,
+    rtype: Rtype,
+    edit: E,
+) -> Result<(), AllocError>
+    requires there { IsSome (type_in (node_at nodes.old name.now) rtype) }
+    requires fits { E.fits edit rtype }
+    requires full { 1 ≤ length (E.edited edit (type_in (node_at nodes.old name.now) rtype)).items }
+    ensures ok { OnOk result (nodes.new ≡ put_held nodes.old name.now rtype (E.edited edit (type_in (node_at nodes.old name.now) rtype)) (node_at nodes.old name.now)) }
+    ensures err { OnErr result (nodes.new ≡ nodes.old) }
+{
+    nodes.node_mut(name)?.edit(rtype, edit)
 }

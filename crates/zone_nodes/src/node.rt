@@ -1,11 +1,13 @@
 // Nodes, and how many were built.
-ghost use Rattle.std.specs.Prelude.{◌≡◌, ◌≤◌, ◌==◌, [], ◌∷◌, length, IfOk, OnOk, OnErr, option_copied, map};
+ghost use Rattle.std.specs.Prelude.{◌≡◌, ◌≤◌, ◌==◌, [], ◌∷◌, length, IfOk, IsSome, IsTrue, OnOk, OnErr, option_copied, map};
 ghost use Rattle.std.specs.Ordering.{nat_cmp};
 ghost use Rattle.std.specs.BTreeMap.{insert_entry, is_at};
-ghost use Rattle.std.specs.Map.{remove_entry};
-ghost use Rattle.zone_nodes.specs.Held.{typed_set_of, typed_sets, after_type, held_of, IsKept, counted};
+ghost use Rattle.std.specs.Map.{lookup, remove_entry};
+ghost use Rattle.zone_values.specs.TypedEntries.{typed};
+ghost use Rattle.zone_nodes.specs.Held.{typed_set_of, typed_sets, after_type, held_of, own_types, IsKept, counted};
 ghost use Rattle.zone_nodes.specs.Trees.{IsHeld};
 
+use crate::set_edit::SetEdit;
 use dns_name::Rtype;
 use std::alloc::{AllocError, Global};
 use std::collections::BTreeMap;
@@ -43,14 +45,14 @@ impl NodeCount {
     }
 
     /// One more.
-    fn add_one(&mut self)
+    pub(crate) fn add_one(&mut self)
         ensures { self.new ≡ counted self.old 1 }
     {
         self.nodes = self.nodes.saturating_add(1);
     }
 }
 
-/// The node of a name: its RRsets by type, none of them empty (RFC 2181, 5). A node doesn't change: an edit builds another.
+/// The node of a name: its RRsets by type, none of them empty (RFC 2181, 5). An edit builds another, but for one of an RRset in place.
 #[derive(Drop)]
 pub struct ZoneNode {
     sets: BTreeMap<Rtype, SharedRrset>,
@@ -137,6 +139,21 @@ impl ZoneNode {
         Ok(ZoneNode::build(steps, sets))
     }
 
+    /// Edits the RRset of a type, which stands there and keeps data, in place. Without memory all is as before.
+    pub(crate) fn edit<E: SetEdit + Drop>(
+        &mut self,
+        rtype: Rtype,
+        edit: E,
+    ) -> Result<(), AllocError>
+        requires there { IsSome (lookup (is_at (nat_cmp rtype)) self.old) }
+        requires fits { E.fits edit rtype }
+        requires full { 1 ≤ length (E.edited edit (lookup (is_at (nat_cmp rtype)) self.old)).items }
+        ensures ok { OnOk result (self.new ≡ insert_entry nat_cmp self.old rtype (E.edited edit (lookup (is_at (nat_cmp rtype)) self.old))) }
+        ensures err { OnErr result (self.new ≡ self.old) }
+    {
+        edit_set(&mut self.sets, rtype, edit)
+    }
+
     /// The RRset of a type.
     pub fn get(&self, rtype: Rtype) -> Option<&Rrset>
         ensures { option_copied result ≡ typed_set_of self.now rtype }
@@ -190,4 +207,32 @@ fn copied(sets: &BTreeMap<Rtype, SharedRrset>) -> Result<BTreeMap<Rtype, SharedR
     ensures { IfOk result (λ copy. copy.entries ≡ sets.now.entries) }
 {
     sets.clone()
+}
+
+/// Edits the RRset of a type, which is there, in place.
+fn edit_set<E: SetEdit + Drop>(
+    sets: &mut BTreeMap<Rtype, SharedRrset>,
+    rtype: Rtype,
+    edit: E,
+) -> Result<(), AllocError>
+    requires there { IsSome (lookup (is_at (nat_cmp rtype)) sets.old.entries) }
+    requires fits { E.fits edit rtype }
+    requires own { IsTrue (own_types sets.old.entries) }
+    ensures ok { OnOk result (sets.new.entries ≡ insert_entry nat_cmp sets.old.entries rtype (typed rtype (E.edited edit (lookup (is_at (nat_cmp rtype)) (held_of sets.old.entries))))) }
+    ensures err { OnErr result (sets.new.entries ≡ sets.old.entries) }
+{
+    match sets.get_mut(&rtype) {
+        Some(set) => edit.edit(set.make_mut()?),
+        None => Ok(()),
+    }
+}
+
+impl Clone for ZoneNode {
+    ghost is_clone = { λ s copy. copy ≡ s };
+
+    fn clone(&self) -> Result<ZoneNode, AllocError> {
+        Ok(ZoneNode {
+            sets: copied(&self.sets)?,
+        })
+    }
 }

@@ -1,5 +1,5 @@
 // Nodes by name.
-ghost use Rattle.std.specs.Prelude.{◌≡◌, ◌==◌, ◌&&◌, [], length, not, filter, IfOk, OnOk, OnErr, is_some, option_copied};
+ghost use Rattle.std.specs.Prelude.{◌≡◌, ◌==◌, ◌&&◌, [], length, not, filter, IfOk, OnOk, OnErr, IsSome, Some, is_some, option_copied};
 ghost use Rattle.std.specs.List.{list_any};
 ghost use Rattle.std.specs.Ordering.{is_eq, is_le};
 ghost use Rattle.std.specs.List.Sorted.{IsStrictlySortedBy};
@@ -37,6 +37,9 @@ impl Model for NodeMap {
 }
 
 impl NodeMap {
+    ghost use Rattle.std.specs.Borrow.{sem};
+    ghost use Rattle.zone_nodes.specs.Lends.{lends_node};
+
     /// No nodes.
     pub(crate) fn new(alloc: Global) -> NodeMap
         ensures { result ≡ [] }
@@ -101,6 +104,15 @@ impl NodeMap {
         ensures err { OnErr result (self.new ≡ self.old) }
     {
         self.pages.insert(alloc, name.as_slice(), node)
+    }
+
+    /// The node of a name that has one, to write. Only what copies share with it on the way is copied first. Without memory all is as before.
+    pub(crate) fn node_mut(&mut self, name: &NameKeyRef<'_>) -> Result<&mut ZoneNode, AllocError>
+        requires { IsSome (node_at self.old name.now) }
+        ensures* writes_back { sem 𝓛 (lends_node self.entry name.now result) }
+        ensures value { IfOk result (λ x. node_at self.old name.now ≡ Some x.now) }
+    {
+        Ok(self.pages.value_mut(name.as_slice())?)
     }
 
     /// Takes the nodes at and below a name out. Without memory all is as before.

@@ -1,5 +1,5 @@
 // Versions as trees.
-ghost use Rattle.std.specs.Prelude.{◌≡◌, ◌≤◌, ◌==◌, [], length, true, false, if◌then◌else◌, filter, find, map, option_copied, option_map, IfOk, IfSome, OnOk, OnErr};
+ghost use Rattle.std.specs.Prelude.{◌≡◌, ◌≤◌, ◌==◌, [], length, true, false, if◌then◌else◌, filter, find, map, option_copied, option_map, IfOk, IfSome, IsSome, OnOk, OnErr};
 ghost use Rattle.dns_name.specs.Names.{fold, under, canonical_cmp};
 ghost use Rattle.zone_model.specs.Version.{key_cmp, set_at};
 ghost use Rattle.zone_model.specs.Edits as edits;
@@ -11,9 +11,10 @@ ghost use Rattle.zone_nodes.specs.Keyed.{named, AreKeys};
 ghost use Rattle.zone_nodes.specs.Trees.{IsTree, sets_of, node_of, built, built_by_clear};
 
 use crate::clearing::clear_below;
-use crate::growing::put_set;
+use crate::growing::{edit_set, put_set};
 use crate::node::{NodeCount, ZoneNode};
 use crate::node_map::NodeMap;
+use crate::set_edit::SetEdit;
 use crate::shrinking::remove_set;
 use crate::walk::{TreeSet, TreeSets};
 use dns_name::{Class, Labelled, Rtype, StoredName};
@@ -257,6 +258,50 @@ impl VersionTree {
         let _ = owner.as_slice();
         put_set(&mut self.nodes, alloc, owner, rtype, set, steps)
     }
+
+    /// Edits the RRset of an owner and type, which stands there and keeps data, in place: what another version shares with it on the way is copied first,
+    /// and no node is built. Without memory all is as before.
+    pub(crate) fn edit_set<E: SetEdit + Drop>(
+        &mut self,
+        owner: &NameKeyRef<'_>,
+        rtype: Rtype,
+        edit: E,
+    ) -> Result<(), AllocError>
+        requires zone { under owner.now self.old.apex ≡ true }
+        requires there { IsSome (set_at self.old owner.now rtype) }
+        requires fits { E.fits edit rtype }
+        requires full { 1 ≤ length (E.edited edit (set_at self.old owner.now rtype)).items }
+        ensures ok { OnOk result (self.new ≡ trees.with_set self.old owner.now rtype (Some (E.edited edit (set_at self.old owner.now rtype)))) }
+        ensures err { OnErr result (self.new ≡ self.old) }
+        ensures one { OnOk result (built self.old self.new owner.now rtype ≡ 1) }
+    {
+        // For the proof: a key's name is in lower case.
+        let _ = owner.as_slice();
+        edit_set(&mut self.nodes, owner, rtype, edit)
+    }
+
+    /// The same by the owner's name. It counts as the node that `with_set` would build.
+    pub(crate) fn edit_in_place<N: Labelled, E: SetEdit + Drop>(
+        &mut self,
+        owner: &N,
+        rtype: Rtype,
+        edit: E,
+        steps: &mut NodeCount,
+    ) -> Result<(), AllocError>
+        requires zone { under (N.labels owner.now) self.old.apex ≡ true }
+        requires there { IsSome (set_at self.old (N.labels owner.now) rtype) }
+        requires fits { E.fits edit rtype }
+        requires full { 1 ≤ length (E.edited edit (set_at self.old (N.labels owner.now) rtype)).items }
+        ensures ok { OnOk result (self.new ≡ edits.put_set self.old (N.labels owner.now) rtype (E.edited edit (set_at self.old (N.labels owner.now) rtype))) }
+        ensures err { OnErr result (self.new ≡ self.old) }
+        ensures steps { OnOk result (steps.new ≡ counted steps.old (built self.old self.new (N.labels owner.now) rtype)) }
+    {
+        let key = NameKey::of(owner);
+        self.edit_set(&key.borrowed(), rtype, edit)?;
+        steps.add_one();
+        Ok(())
+    }
+
     /// Takes the RRset of an owner and type out, where there is one.
     fn remove(
         &mut self,

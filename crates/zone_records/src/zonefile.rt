@@ -306,7 +306,9 @@ impl Zonefile {
         let mut sets = self.normal.into_sets();
         sets.put_all(cuts)?;
         sets.put_all(aliases)?;
-        Ok(ZoneVersion::of_sets(self.origin, self.class, sets))
+        let version = ZoneVersion::of_sets(self.alloc, &self.origin, self.class, sets);
+        drop(self.origin);
+        version
     }
 }
 

@@ -34,7 +34,9 @@ impl ZoneApex {
     pub fn new(alloc: Global, apex: StoredName, class: Class) -> Result<ZoneApex, AllocError>
         ensures { IfOk result (λ z. z ≡ record { number = 0; version = record { apex = apex; class = class; sets = [] } }) }
     {
-        let version = Arc::new(alloc, ZoneVersion::empty(alloc, apex, class))?;
+        let version = ZoneVersion::empty(alloc, &apex, class);
+        drop(apex);
+        let version = Arc::new(alloc, version?)?;
         Ok(ZoneApex {
             current: ReadZone::of(0, version),
         })

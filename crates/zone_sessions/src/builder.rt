@@ -8,6 +8,7 @@ ghost use Rattle.zone_values.specs.TypedSets.{TypedSet};
 ghost use Rattle.zone_versions.specs.Puts.{adds_alias};
 
 use crate::apex::ZoneApex;
+use crate::opening::Opening;
 use crate::read::ReadZone;
 use dns_name::{Class, KeyName, Labelled, StoredName, ToName};
 use dns_rdata::StoredRecord;
@@ -17,13 +18,13 @@ use std::sync::Arc;
 use zone_errors::{ContextError, InsertCnameError, InsertCutError, InsertError};
 use zone_records::{FileError, Zonefile};
 use zone_values::{Rrset, SharedRr, SharedRrset};
-use zone_versions::{ZoneVersion, make_alias, make_cut, replace_set};
+use zone_versions::is_bad_alias;
 
 /// The records that a zone opens with, put one by one. It is seen as the version that they make.
 #[derive(Drop)]
 pub struct ZoneBuilder {
     alloc: Global,
-    version: ZoneVersion,
+    version: Opening,
 }
 
 impl Model for ZoneBuilder {
@@ -41,7 +42,7 @@ impl ZoneBuilder {
     {
         ZoneBuilder {
             alloc,
-            version: ZoneVersion::empty(alloc, apex, class),
+            version: Opening::new(apex, class),
         }
     }
 
@@ -67,7 +68,7 @@ impl ZoneBuilder {
         ensures alias { (result ≡ Err InsertError.InvalidData) ↔ ((under added.owner self.old.apex ≡ true) × (adds_alias self.old added ≡ true)) }
         ensures err { OnErr result (self.new ≡ self.old) }
     {
-        if self.version.is_outside(&added) {
+        if !added.owner().ends_with(self.version.apex()) {
             drop(added);
             return Err(InsertError::OutOfZone);
         }
@@ -121,10 +122,10 @@ impl ZoneBuilder {
         if !owner.ends_with(self.version.apex()) {
             return Err(InsertError::OutOfZone);
         }
-        if self.version.is_bad_alias(owner, set) {
+        if is_bad_alias(self.version.apex(), owner, set) {
             return Err(InsertError::InvalidData);
         }
-        replace_set(&mut self.version, self.alloc, owner, set)?;
+        self.version.replace_set(self.alloc, owner, set)?;
         Ok(())
     }
 
@@ -178,7 +179,7 @@ impl ZoneBuilder {
         if !name.ends_with(self.version.apex()) {
             return Err(InsertCutError::OutOfZone);
         }
-        make_cut(&mut self.version, self.alloc, name, ns, ds, glue)?;
+        self.version.make_cut(self.alloc, name, ns, ds, glue)?;
         Ok(())
     }
 
@@ -219,7 +220,7 @@ impl ZoneBuilder {
         if !name.ends_with(self.version.apex()) {
             return Err(InsertCnameError::OutOfZone);
         }
-        make_alias(&mut self.version, self.alloc, name, alias)?;
+        self.version.make_alias(self.alloc, name, alias)?;
         Ok(())
     }
 
@@ -234,7 +235,7 @@ impl ZoneBuilder {
     pub fn build_at(self, number: u64) -> Result<ZoneApex, AllocError>
         ensures { IfOk result (λ z. z ≡ record { number = number; version = edits.close self }) }
     {
-        let version = Arc::new(self.alloc, self.version.into_closed()?)?;
+        let version = Arc::new(self.alloc, self.version.into_closed(self.alloc)?)?;
         Ok(ZoneApex::of(ReadZone::of(number, version)))
     }
 }
@@ -254,7 +255,7 @@ impl TryFrom<Zonefile> for ZoneBuilder {
 
     fn try_from(file: Zonefile) -> Result<ZoneBuilder, FileError<ContextError>> {
         let alloc = file.memory();
-        let version = file.into_version()?;
+        let version = Opening::of(file.into_version()?)?;
         Ok(ZoneBuilder { alloc, version })
     }
 }

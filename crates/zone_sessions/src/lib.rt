@@ -6,6 +6,7 @@ mod builder;
 mod child;
 mod edits;
 mod node;
+mod opening;
 mod read;
 mod write;
 

@@ -123,7 +123,8 @@ impl ReadZone {
 
     /// One more owner of the version.
     pub(crate) fn share(&self) -> Result<Arc<ZoneVersion>, AllocError>
-        ensures { IfOk result (λ v. v.value ≡ self.now.version) }
+        ensures is { IfOk result (λ v. v.value ≡ self.now.version) }
+        ensures valid { IfOk result (λ v. IsValid v.value) }
     {
         self.version.clone()
     }

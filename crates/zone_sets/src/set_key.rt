@@ -51,6 +51,13 @@ impl SetKey {
     {
         self.rtype
     }
+
+    /// For proofs: the owner is in lower case. It does nothing.
+    pub fn tell_folded(&self)
+        ensures { fold self.now.0 ≡ self.now.0 }
+    {
+        let _rtype = self.rtype;
+    }
 }
 
 impl Clone for SetKey {

@@ -7,3 +7,4 @@ pub mod DataIndex
 pub mod TypedEntries
 pub mod SetEdits
 pub mod PutCauses
+pub mod SetLends

@@ -277,3 +277,17 @@ impl Eq for SharedRrset {
 
     ghost laws = { same_typed_set_equiv };
 }
+
+// The RRset in place.
+impl SharedRrset {
+    ghost use Rattle.std.specs.Borrow.{sem};
+    ghost use Rattle.zone_values.specs.SetLends.{lends_set};
+
+    /// The RRset, to write. If copies share it, this one gets its own first. Without memory it is as before.
+    pub fn make_mut(&mut self) -> Result<&mut Rrset, AllocError>
+        ensures* writes_back { sem 𝓛 (lends_set self.entry result) }
+        ensures value { IfOk result (λ x. x.now ≡ self.old) }
+    {
+        Ok(Arc::make_mut(&mut self.set)?)
+    }
+}

@@ -1,12 +1,13 @@
 -- What a key and data say of each record that stands there.
-use Rattle.std.proofs.Common.{◌≡◌, ℕ, Bool, true, false, ◌&&◌, not, ◌==◌, if◌then◌else◌, List, refl, sym, ap, ◌∙◌, subst, Option, Some, None, is_some, option_map, Result, Ok, Err, OnOk, OnErr, eqb-true}
+use Rattle.std.proofs.Common.{◌≡◌, ℕ, Bool, true, false, ◌&&◌, not, ◌==◌, if◌then◌else◌, List, length, refl, sym, ap, ◌∙◌, subst, Option, Some, None, is_some, option_map, Result, Ok, Err, OnOk, OnErr, eqb-true}
 use Rattle.dns_name.specs.Names.{fold, under}
 use Rattle.dns_name.specs.Codes.{type_cname}
 use Rattle.dns_rdata.specs.Records.{Field, Record}
-use Rattle.zone_model.specs.Version.{RecordSet, Key, Sets, Version, set_in, below_apex}
-use Rattle.zone_model.specs.Edits.{OutOfZone, Incompatible, InvalidData, add, has_data, second_alias, with_sets}
+use Rattle.zone_model.specs.Version.{RecordSet, Key, Version, set_in, set_at, below_apex}
+use Rattle.zone_model.specs.Edits.{OutOfZone, Incompatible, InvalidData, add, has_data, second_alias, with_sets, put_set}
 use Rattle.zone_model.proofs.Folded.{fold-fold, under_alike, same_name_alike}
 use Rattle.zone_values.specs.SetEdits.{put_with, last_set}
+use Rattle.zone_versions.proofs.Putting.{appended_is, put_some, pushed_some}
 use Rattle.zone_values.specs.PutCauses.{has_equal, TellsPut}
 use Rattle.zone_values.specs.TypedEntries.{typed, untyped}
 use Rattle.zone_values.specs.declared.rrset_edits.PutError.{PutError}
@@ -14,7 +15,6 @@ use Rattle.zone_values.specs.TypedSets.{TypedSet}
 use Rattle.zone_versions.specs.Sound.{IsSound}
 use Rattle.zone_versions.proofs.Sound.{add_sound}
 use Rattle.zone_versions.specs.Puts.{StandsAt, appended}
-use Rattle.zone_versions.proofs.Putting.{appended_is}
 
 folds_alike : (k : Key) (r : Record) → (fold r.owner, r.rtype) ≡ k → fold k.0 ≡ fold r.owner
 folds_alike k r e = sym (ap (λ (l : Key). fold l.0) e) ∙ fold-fold r.owner
@@ -67,6 +67,20 @@ is_taken v k ttl fields r e h d s = added_by v k fields r true false false e.0 e
 pub appended_at : (v : Version) (k : Key) (ttl : ℕ) (fields : List Field) (r : Record) → StandsAt k ttl fields r → with_sets v (put_with (last_set ttl fields) k v.sets) ≡ appended v r
 appended_at v k ttl fields r e = sym (λ i. with_sets v (put_with (last_set (e.1 i) (e.2 i)) (e.0 i) v.sets)) ∙ appended_is v r
 
+-- the set at a key whose owner is in lower case
+pub set_there : (v : Version) (k : Key) → fold k.0 ≡ k.0 → set_at v k.0 k.1 ≡ set_in v.sets k
+set_there v k f = ap (λ n. set_in v.sets (n, k.1)) f
+
+last_some : (ttl : ℕ) (fields : List Field) (o : Option RecordSet) → (length (last_set ttl fields o).items == 0) ≡ false
+last_some ttl fields None = refl
+last_some ttl fields (Some s) = pushed_some s.items fields
+
+-- .. and data put last in it
+pub last_put : (v : Version) (k : Key) (ttl : ℕ) (fields : List Field) → fold k.0 ≡ k.0
+    → put_set v k.0 k.1 (last_set ttl fields (set_at v k.0 k.1)) ≡ with_sets v (put_with (last_set ttl fields) k v.sets)
+last_put v k ttl fields f =
+    sym (put_some v k.0 k.1 (last_set ttl fields (set_at v k.0 k.1)) (last_some ttl fields (set_at v k.0 k.1))) ∙ ap (λ n. with_sets v (put_with (last_set ttl fields) (n, k.1) v.sets)) f
+
 -- a set found at a key, or none
 untyped_is : (n : ℕ) (o : Option RecordSet) → untyped (option_map (typed n) o) ≡ o
 untyped_is n None = refl
@@ -83,11 +97,11 @@ and_false true = refl
 and_false false = refl
 
 -- what putting data at a key in the zone leaves is sound
-pub added_sound : {T : Type 0} (v : Version) (k : Key) (ttl : ℕ) (fields : List Field) (alone : Bool) (sets : Sets) (r : Result T PutError) → IsSound v → fold k.0 ≡ k.0 → under k.0 v.apex ≡ true → alone ≡ alone_at v k
-    → OnOk r (sets ≡ put_with (last_set ttl fields) k v.sets) → TellsPut fields alone (set_in v.sets k) r → OnErr r (sets ≡ v.sets) → IsSound (with_sets v sets)
-added_sound v k ttl fields alone sets (Ok t) h folded u a ok cause err =
+pub added_sound : {T : Type 0} (v after : Version) (k : Key) (ttl : ℕ) (fields : List Field) (alone : Bool) (r : Result T PutError) → IsSound v → fold k.0 ≡ k.0 → under k.0 v.apex ≡ true → alone ≡ alone_at v k
+    → OnOk r (after ≡ with_sets v (put_with (last_set ttl fields) k v.sets)) → TellsPut fields alone (set_in v.sets k) r → OnErr r (after ≡ v) → IsSound after
+added_sound v after k ttl fields alone (Ok t) h folded u a ok cause err =
     let r : Record = record { owner = k.0; rtype = k.1; class = v.class; ttl = ttl; fields = fields } in
     let e : StandsAt k ttl fields r = ((λ i. (folded i, k.1)), refl, refl) in
-    subst (λ (w : Version). IsSound w) (sym (ap (with_sets v) ok ∙ appended_at v k ttl fields r e))
+    subst (λ (w : Version). IsSound w) (sym (ok ∙ appended_at v k ttl fields r e))
     (add_sound v (appended v r) r h (is_taken v k ttl fields r e u cause.0 ((λ i. sym a i && is_some (set_in v.sets k)) ∙ cause.1)))
-added_sound v k ttl fields alone sets (Err e) h folded u a ok cause err = subst (λ (l : Sets). IsSound (with_sets v l)) (sym err) h
+added_sound v after k ttl fields alone (Err e) h folded u a ok cause err = subst (λ (w : Version). IsSound w) (sym err) h

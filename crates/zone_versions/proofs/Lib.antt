@@ -3,10 +3,14 @@ pub mod Conditions
 pub mod Putting
 mod Removing
 pub mod Closing
-mod Stops
+pub mod Stops
 pub mod TypedStops
 mod Distinct
 mod Sound
 pub mod NodeEdits
 pub mod NextSerial
 mod Adding
+pub mod Outcomes
+mod Places
+mod Dropping
+mod Moving

@@ -19,7 +19,7 @@ use Rattle.zone_model.proofs.Ordered.{sorted-remove_entry}
 use Rattle.zone_values.proofs.Equality.{filter_map}
 use Rattle.zone_versions.specs.Sound.{is_sound_at, IsSound}
 use Rattle.zone_versions.specs.Nodes.{put_at, is_address_in, with_glue}
-use Rattle.zone_versions.proofs.Putting.{put_some, pushed_some}
+use Rattle.zone_versions.proofs.Putting.{put_some, pushed_some, opening_some}
 use Rattle.zone_sets.proofs.Thinning.{suc_not}
 use Rattle.zone_sets.proofs.KeptTypes.{all_remove}
 use Rattle.zone_values.proofs.FirstData.{distinct_same, distinct_differ}
@@ -125,6 +125,10 @@ glue_is v r = by (set_at v r.owner r.rtype)
     by (Some s) h =
         ap (λ (b : Bool). with_sets v (insert_entry key_cmp v.sets (fold r.owner, r.rtype) (record { ttl = min s.ttl r.ttl; items = if b then s.items else s.items ++ r.fields ∷ [] }))) h
         ∙ put_some v r.owner r.rtype (record { ttl = min s.ttl r.ttl; items = s.items ++ r.fields ∷ [] }) (pushed_some s.items r.fields)
+
+pub glue_put : (v : Version) (r : Record) → has_data v r ≡ false → put_set v r.owner r.rtype (opening_set r.ttl r.fields (set_at v r.owner r.rtype)) ≡ with_glue v r
+glue_put v r h =
+    sym (put_some v r.owner r.rtype (opening_set r.ttl r.fields (set_at v r.owner r.rtype)) (opening_some r.ttl r.fields (set_at v r.owner r.rtype))) ∙ glue_is v r h
 
 -- ---- one value
 

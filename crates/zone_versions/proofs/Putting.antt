@@ -49,6 +49,19 @@ opened_is v r = by (set_in v.sets (fold r.owner, r.rtype))
     by None = put_some v r.owner r.rtype (record { ttl = r.ttl; items = r.fields ∷ [] }) refl
     by (Some s) = some s (list_any (same_data r.fields) s.items) refl
 
+pub opening_some : (ttl : ℕ) (fields : List Field) (o : Option RecordSet) → (length (opening_set ttl fields o).items == 0) ≡ false
+opening_some ttl fields None = refl
+opening_some ttl fields (Some s) = by (list_any (same_data fields) s.items) refl
+  where
+    by : (b : Bool) → list_any (same_data fields) s.items ≡ b → (length (if b then s.items else s.items ++ fields ∷ []) == 0) ≡ false
+    by true h = any_some (same_data fields) s.items h
+    by false h = pushed_some s.items fields
+
+-- an opening record put in place of its set
+pub opened_put : (v : Version) (r : Record) → put_set v r.owner r.rtype (opening_set r.ttl r.fields (set_in v.sets (fold r.owner, r.rtype))) ≡ opened_by v r
+opened_put v r =
+    sym (put_some v r.owner r.rtype (opening_set r.ttl r.fields (set_in v.sets (fold r.owner, r.rtype))) (opening_some r.ttl r.fields (set_in v.sets (fold r.owner, r.rtype)))) ∙ opened_is v r
+
 -- a value for Ok that equals another
 pub if_ok_same : {T E V : Type 0} (r : Result T E) (f : T → V) (a b : V) → IfOk r (λ x. f x ≡ a) → a ≡ b → IfOk r (λ x. f x ≡ b)
 if_ok_same (Ok x) f a b h e = h ∙ e

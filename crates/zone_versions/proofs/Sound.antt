@@ -45,7 +45,7 @@ implies : (a b : Bool) → (a ≡ true → b ≡ true) → (not a || b) ≡ true
 implies true b h = h refl
 implies false b h = refl
 
-taken_apart : (v : Version) (e : Key × RecordSet) → is_sound_at v e ≡ true → Sounds v e.0 e.1
+pub taken_apart : (v : Version) (e : Key × RecordSet) → is_sound_at v e ≡ true → Sounds v e.0 e.1
 taken_apart v e h =
     let alias : Bool = not (below_apex v e.0.0 && (e.0.1 == type_cname)) || (length e.1.items == 1) in
     let four = first_so _ alias h in
@@ -70,7 +70,7 @@ put_together v k s h =
 -- ---- entries
 
 -- the entry that a look-up finds
-found_sound : (v : Version) (es : Sets) (k : Key) (s : RecordSet) → IsFolded k → list_all (is_sound_at v) es ≡ true → set_in es k ≡ Some s → Sounds v k s
+pub found_sound : (v : Version) (es : Sets) (k : Key) (s : RecordSet) → IsFolded k → list_all (is_sound_at v) es ≡ true → set_in es k ≡ Some s → Sounds v k s
 found_sound v [] k s f h found = absurd (true≢false (sym (ap is_some found)))
 found_sound v (e ∷ es) k s f h found = by (is_eq (key_cmp k e.0)) refl found (λ g. found_sound v es k s f (second_so (is_sound_at v e) _ h) g)
   where
@@ -232,7 +232,18 @@ delete_sound v w r h e = by (under r.owner v.apex) (has_data v r) refl e
         let fewer : length items ≤ length (data_at v r.owner r.rtype) = length_left (λ d. not (same_data r.fields d)) (data_at v r.owner r.rtype) in
         subst P same (sound_put v r.owner r.rtype (record { ttl = r.ttl; items = items }) h p (differ_left (λ d. not (same_data r.fields d)) (data_at v r.owner r.rtype) it.differ) (λ b. let most : length (data_at v r.owner r.rtype) ≤ 1 = it.alias b in omega arith))
 
-under_itself : (n : Name) → under n n ≡ true
+-- what is deleted stands in the zone
+pub delete_in_zone : (v w : Version) (r : Record) → delete v r ≡ Ok w → under r.owner v.apex ≡ true
+delete_in_zone v w r e = by (under r.owner v.apex) (has_data v r) refl e
+  where
+    put : Version
+    put = put_set v r.owner r.rtype (record { ttl = r.ttl; items = filter (λ d. not (same_data r.fields d)) (data_at v r.owner r.rtype) })
+
+    by : (u d : Bool) → under r.owner v.apex ≡ u → (if not u then Err OutOfZone else if not d then Err Incompatible else Ok put) ≡ Ok w → u ≡ true
+    by false d p g = absurd (cc)
+    by true d p g = refl
+
+pub under_itself : (n : Name) → under n n ≡ true
 under_itself n = (pointwise_decides bytes_decides (fold n) (drop (length (fold n) - length (fold n)) (fold n))).1 (whole (length (fold n) - length (fold n)) (omega arith))
   where
     whole : (k : ℕ) → k ≡ 0 → fold n ≡ drop k (fold n)

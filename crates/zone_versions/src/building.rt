@@ -26,7 +26,7 @@ pub fn replace_set(
     ensures err { OnErr result (version.new ≡ version.old) }
 {
     let first = set.to_distinct(alloc)?;
-    version.put_set(owner, first)
+    version.put_set(alloc, owner, first)
 }
 
 /// Makes an owner an alias (RFC 1034, 3.6.2).
@@ -44,7 +44,7 @@ pub fn make_alias(
 {
     let item = alias.data().clone()?;
     let set = Rrset::of_one(alloc, alias.ttl(), item)?;
-    version.put_set(owner, set)
+    version.put_set(alloc, owner, set)
 }
 
 /// Makes an owner a zone cut (RFC 1034, 4.2.1). So that all of it is done or nothing, the version is copied first.
@@ -110,10 +110,7 @@ fn put_signer(
 {
     match signer {
         Some(set) => replace_set(version, alloc, owner, set),
-        None => {
-            version.remove_set(owner, Rtype::DS);
-            Ok(())
-        }
+        None => version.remove_set(alloc, owner, Rtype::DS),
     }
 }
 

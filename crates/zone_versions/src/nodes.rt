@@ -1,24 +1,24 @@
 // Edits of whole nodes, and the serial that a commit counts on.
-ghost use Rattle.std.specs.Prelude.{◌≡◌, ◌+◌, ◌%◌, ◌^◌, ◌==◌, ◌||◌, not, true, false, map, length, filter, option_copied, option_map, IfOk, OnOk, OnErr};
+ghost use Rattle.std.specs.Prelude.{◌≡◌, ◌+◌, ◌%◌, ◌^◌, ◌==◌, ◌||◌, ◌&&◌, not, true, false, map, length, filter, option_copied, option_map, IfOk, OnOk, OnErr};
 ghost use Rattle.std.specs.List.{list_all};
-ghost use Rattle.dns_name.specs.Names.{under};
-ghost use Rattle.dns_name.specs.Codes.{type_a, type_aaaa, type_soa};
+ghost use Rattle.dns_name.specs.Names.{under, same_name};
+ghost use Rattle.dns_name.specs.Codes.{type_a, type_cname, type_aaaa, type_soa};
 ghost use Rattle.dns_rdata.specs.Records.{same_data};
 ghost use Rattle.dns_rdata.specs.DataFields.{soa_fields};
 ghost use Rattle.dns_rdata.specs.Soa.{serial_of, with_serial};
 ghost use Rattle.dns_rdata.specs.ZoneData.{rtype_of, data_fields};
-ghost use Rattle.zone_model.specs.Version.{all_differ, set_at};
+ghost use Rattle.zone_model.specs.Version.{Version, all_differ, set_at};
 ghost use Rattle.zone_model.specs.Edits as edits;
 ghost use Rattle.zone_model.specs.Edits.{distinct, first_record, first_soa, bump_from};
 ghost use Rattle.zone_values.specs.TypedEntries.{typed};
 ghost use Rattle.zone_versions.specs.Puts.{with_soa};
 ghost use Rattle.zone_versions.specs.Nodes.{put_at, is_address_in, with_glue};
 
-use crate::version::ZoneVersion;
-use dns_name::{KeyName, Rtype, StoredName, ToName, Ttl};
+use crate::version::{ZoneVersion, put_opening};
+use dns_name::{KeyName, Labelled, Rtype, StoredName, ToName, Ttl};
 use dns_rdata::{RecordData, Soa, StoredRecord, StoredRecordData, ZoneRecordData};
 use std::alloc::{AllocError, Global};
-use zone_sets::{KeyedSets, SetKey};
+use zone_nodes::{NodeCount, VersionTree};
 use zone_values::Rrset;
 
 impl ZoneVersion {
@@ -26,40 +26,46 @@ impl ZoneVersion {
     pub fn is_bad_alias(&self, owner: &KeyName, set: &Rrset) -> bool
         ensures { result ≡ edits.is_bad_alias self.now owner.now set.now.rtype set.now.contents }
     {
-        if !self.is_below_apex(owner) {
-            return false;
-        }
-        if set.rtype() != Rtype::CNAME {
-            return false;
-        }
-        !has_one_value(set.data())
+        is_bad_alias(self.apex(), owner, set)
     }
 
     /// Puts an RRset in place of the one of its owner and type; an empty one removes that.
-    pub fn put_set(&mut self, owner: &KeyName, set: Rrset) -> Result<(), AllocError>
+    pub fn put_set(&mut self, alloc: Global, owner: &KeyName, set: Rrset) -> Result<(), AllocError>
         requires zone { under owner.now self.old.apex ≡ true }
         requires differ { all_differ set.contents.items ≡ true }
         requires alias { edits.is_bad_alias self.old owner.now set.rtype set.contents ≡ false }
         ensures ok { OnOk result (self.new ≡ edits.put_set self.old owner.now set.rtype set.contents) }
         ensures err { OnErr result (self.new ≡ self.old) }
     {
-        let key = SetKey::new(owner, set.rtype());
-        put_at(&mut self.sets, key, set)?;
-        Ok(())
+        let rtype = set.rtype();
+        put_at(&mut self.tree, alloc, owner, rtype, set)
     }
 
     /// Removes the RRset of an owner and type.
-    pub fn remove_set(&mut self, owner: &KeyName, rtype: Rtype)
-        ensures { self.new ≡ edits.remove_set self.old owner.now rtype }
+    pub fn remove_set(
+        &mut self,
+        alloc: Global,
+        owner: &KeyName,
+        rtype: Rtype,
+    ) -> Result<(), AllocError>
+        ensures ok { OnOk result (self.new ≡ edits.remove_set self.old owner.now rtype) }
+        ensures err { OnErr result (self.new ≡ self.old) }
     {
-        self.sets.remove(&SetKey::new(owner, rtype));
+        // Only names at and below the apex have RRsets.
+        if !owner.ends_with(self.apex()) {
+            return Ok(());
+        }
+        let mut steps = NodeCount::new();
+        self.tree.with_set(alloc, owner, rtype, None, &mut steps)
     }
 
     /// Removes the sets of a name and of all names below it.
-    pub fn clear(&mut self, name: &KeyName)
-        ensures { self.new ≡ edits.clear self.old name.now }
+    pub fn clear(&mut self, alloc: Global, name: &KeyName) -> Result<(), AllocError>
+        ensures ok { OnOk result (self.new ≡ edits.clear self.old name.now) }
+        ensures err { OnErr result (self.new ≡ self.old) }
     {
-        drop_under(&mut self.sets, name);
+        let mut steps = NodeCount::new();
+        self.tree.clear(alloc, name, &mut steps)
     }
 
     /// Puts an address at or below the apex last in its RRset, whose TTL is then the lower one, unless equal data are there (RFC 1034, 4.2.1).
@@ -95,10 +101,7 @@ impl ZoneVersion {
         ensures ok { OnOk result (self.new ≡ with_glue self.old added) }
         ensures err { OnErr result (self.new ≡ self.old) }
     {
-        let key = SetKey::new(added.owner(), added.rtype());
-        let ttl = added.ttl();
-        self.sets.put_opening(alloc, key, ttl, added.into_data())?;
-        Ok(())
+        put_opening(&mut self.tree, alloc, added)
     }
 
     /// Makes the apex SOA RRset the first record of the published one with the next serial (RFC 1982, 3.1), unless its own first record is another.
@@ -117,7 +120,7 @@ impl ZoneVersion {
     fn soa_set(&self) -> Option<&Rrset>
         ensures { option_copied result ≡ option_map (typed type_soa) (set_at self.now self.now.apex type_soa) }
     {
-        self.set_at(&self.apex, Rtype::SOA)
+        self.set_at(self.apex(), Rtype::SOA)
     }
 
     /// The same with the published SOA RRset.
@@ -160,16 +163,47 @@ impl ZoneVersion {
     }
 
     /// Makes the apex SOA RRset this one record.
-    fn put_soa(&mut self, alloc: Global, ttl: Ttl, item: StoredRecordData) -> Result<(), AllocError>
+    pub(crate) fn put_soa(
+        &mut self,
+        alloc: Global,
+        ttl: Ttl,
+        item: StoredRecordData,
+    ) -> Result<(), AllocError>
         requires { rtype_of item ≡ type_soa }
         ensures ok { OnOk result (self.new ≡ with_soa self.old ttl (data_fields item)) }
         ensures err { OnErr result (self.new ≡ self.old) }
     {
-        let key = SetKey::new(&self.apex, Rtype::SOA);
+        let apex = self.apex().to_key_name();
         let set = Rrset::of_one(alloc, ttl, item)?;
-        self.sets.insert(key, set)?;
-        Ok(())
+        put_at(&mut self.tree, alloc, &apex, Rtype::SOA, set)
     }
+}
+
+/// Whether an RRset is refused at a name of the zone of an apex: a CNAME RRset below the apex whose data aren't one value (RFC 2181, 10.1).
+pub fn is_bad_alias(apex: &StoredName, owner: &KeyName, set: &Rrset) -> bool
+    ensures { (v : Version) → v.apex ≡ apex.now → result ≡ edits.is_bad_alias v owner.now set.now.rtype set.now.contents }
+{
+    is_bad_below(apex, owner, set)
+}
+
+/// Whether a name is below an apex.
+fn is_below(apex: &StoredName, owner: &KeyName) -> bool
+    ensures { result ≡ (under owner.now apex.now && not (same_name owner.now apex.now)) }
+{
+    owner.ends_with(apex) && !owner.name_eq(apex)
+}
+
+/// Whether an RRset is a CNAME RRset below an apex whose data aren't one value.
+fn is_bad_below(apex: &StoredName, owner: &KeyName, set: &Rrset) -> bool
+    ensures { result ≡ ((under owner.now apex.now && not (same_name owner.now apex.now)) && (set.now.rtype == type_cname) && not (length (distinct set.now.contents.items) == 1)) }
+{
+    if !is_below(apex, owner) {
+        return false;
+    }
+    if set.rtype() != Rtype::CNAME {
+        return false;
+    }
+    !has_one_value(set.data())
 }
 
 /// Whether data are there and all equal.
@@ -196,25 +230,22 @@ fn is_address(rtype: Rtype) -> bool
     rtype == Rtype::A || rtype == Rtype::AAAA
 }
 
-/// Puts an RRset at a key, or takes the one there away where it is empty.
-fn put_at(sets: &mut KeyedSets, key: SetKey, set: Rrset) -> Result<(), AllocError>
-    requires { set.rtype ≡ key.1 }
-    ensures ok { OnOk result (sets.new ≡ put_at key set.contents sets.old) }
-    ensures err { OnErr result (sets.new ≡ sets.old) }
+/// Puts an RRset of this type at an owner in a tree, or takes the one there away where it is empty.
+fn put_at(
+    tree: &mut VersionTree,
+    alloc: Global,
+    owner: &KeyName,
+    rtype: Rtype,
+    set: Rrset,
+) -> Result<(), AllocError>
+    requires zone { under owner.now tree.old.apex ≡ true }
+    requires own { set.rtype ≡ rtype }
+    ensures ok { OnOk result (tree.new ≡ edits.put_set tree.old owner.now rtype set.contents) }
+    ensures err { OnErr result (tree.new ≡ tree.old) }
 {
-    if set.data().is_empty() {
-        drop(set);
-        sets.remove(&key);
-        return Ok(());
-    }
-    sets.insert(key, set)
-}
-
-/// Drops the sets of a name and of all names below it.
-fn drop_under(sets: &mut KeyedSets, name: &KeyName)
-    ensures { sets.new ≡ filter (λ e. not (under e.0.0 name.now)) sets.old }
-{
-    sets.retain_keys(|key| !key.owner().ends_with(name));
+    let mut steps = NodeCount::new();
+    let set = set.into_shared(alloc)?;
+    tree.with_set(alloc, owner, rtype, Some(set), &mut steps)
 }
 
 /// Whether the first record of an RRset is there and another one than this.

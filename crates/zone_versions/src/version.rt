@@ -1,21 +1,24 @@
 // One version of a zone: look-ups, the walk, and edits.
-ghost use Rattle.std.specs.Prelude.{◌≡◌, ◌==◌, ◌&&◌, true, false, not, IsOk, IsSome, ◌++◌, ◌∷◌, [], Some, None, Ok, Err, IfOk, IfErr, IfSome, OnOk, OnErr, IfNone, IsSomeAnd, is_some, option_copied, option_map, map, find, filter};
+ghost use Rattle.std.specs.Prelude.{◌≡◌, ◌==◌, ◌&&◌, true, false, not, IsOk, IsSome, ◌++◌, ◌∷◌, [], Some, None, Ok, Err, IfOk, IfErr, IfSome, OnOk, OnErr, if◌then◌else◌, IfNone, IsSomeAnd, is_some, option_copied, option_map, map, find, filter};
 ghost use Rattle.std.specs.List.{list_any};
 ghost use Rattle.dns_name.specs.Names.{fold, under};
 ghost use Rattle.zone_model.specs.Version.{IsValid, key_cmp, set_in, set_at, below_apex, is_cut};
 ghost use Rattle.zone_model.specs.Classify.{opened_with};
 ghost use Rattle.zone_model.specs.Answer.{highest_cut};
 ghost use Rattle.zone_model.specs.Walk.{next_stop};
-ghost use Rattle.zone_versions.specs.Stops.{stop_of, first_stop, first_from};
+ghost use Rattle.zone_nodes.specs.Held.{told};
+ghost use Rattle.zone_versions.specs.Stops.{stop_of, first_stop, first_from, entry_told};
 ghost use Rattle.zone_model.specs.Edits.{delete, with_sets};
 ghost use Rattle.zone_model.specs.Edits as edits;
 ghost use Rattle.zone_versions.specs.Causes.{refusal_of};
 ghost use Rattle.zone_versions.specs.Sound.{IsSound};
 ghost use Rattle.zone_versions.specs.Strays.{is_stray_at};
 ghost use Rattle.zone_versions.specs.Puts.{StandsAt, adds_alias, appended, without, with_soa};
-ghost use Rattle.zone_values.specs.TypedEntries.{item_of, entry_of, typed, typed_set_in};
+ghost use Rattle.zone_values.specs.TypedEntries.{typed, typed_set_in};
+ghost use Rattle.zone_values.specs.PutCauses.{TellsPut};
+ghost use Rattle.zone_values.specs.SetEdits.{put_with, last_set, opening_set};
+ghost use Rattle.std.specs.BTreeMap.{insert_entry};
 ghost use Rattle.std.specs.Map.{keys_of};
-ghost use Rattle.std.specs.Map.Iter.{deref_pair};
 ghost use Rattle.std.specs.Ordering.{is_lt};
 ghost use Rattle.dns_name.specs.Codes.{type_cname};
 ghost use Rattle.dns_rdata.specs.Records.{Record};
@@ -23,21 +26,19 @@ ghost use Rattle.dns_rdata.specs.DataFields.{soa_fields};
 ghost use Rattle.dns_rdata.specs.ZoneData.{rtype_of, data_fields};
 
 use crate::errors::EditError;
-use crate::walk::WalkItem;
+use crate::walk::{VersionKeys, WalkItem};
 use dns_name::{Class, KeyName, Labelled, NameRef, Rtype, StoredName, ToName, Ttl};
 use dns_rdata::{RecordData, Soa, StoredRecord, StoredRecordData, ZoneRecordData};
 use std::alloc::{AllocError, Global};
-use std::collections::btree_map::{Iter, Keys};
 use std::marker::Model;
+use zone_nodes::{NodeCount, TreeSet, TreeSets, VersionTree};
 use zone_sets::{KeyedSets, SetKey};
 use zone_values::{PutError, Rrset};
 
-/// One version of a zone (RFC 1034, 4.2): the apex as it was given, the class, and the RRsets.
+/// One version of a zone (RFC 1034, 4.2): the apex as it was given, the class, and the RRsets, in a tree whose parts versions share.
 #[derive(Drop)]
 pub struct ZoneVersion {
-    pub(crate) apex: StoredName,
-    class: Class,
-    pub(crate) sets: KeyedSets,
+    pub(crate) tree: VersionTree,
 }
 
 impl Model for ZoneVersion {
@@ -46,78 +47,100 @@ impl Model for ZoneVersion {
 
     ghost Value = { Version };
 
-    ghost view = { λ v. record { apex = v.apex; class = v.class; sets = v.sets } };
+    ghost view = { λ v. v.tree };
 
-    ghost invariant = { λ v. IsSound (record { apex = v.apex; class = v.class; sets = v.sets }) };
+    ghost invariant = { λ v. IsSound v.tree };
 }
 
 impl Clone for ZoneVersion {
     ghost is_clone = { λ v copy. copy ≡ v };
 
+    /// The same version, which shares all nodes.
     fn clone(&self) -> Result<ZoneVersion, AllocError> {
         Ok(ZoneVersion {
-            apex: self.apex.clone()?,
-            class: self.class,
-            sets: self.sets.clone()?,
+            tree: self.tree.fork()?,
         })
     }
 }
 
 impl ZoneVersion {
     /// A version without records.
-    #[tactic(auto, using(crate::proofs::Sound::empty_sound, crate::proofs::Sound::empty_valid))]
-    pub fn empty(alloc: Global, apex: StoredName, class: Class) -> ZoneVersion
-        ensures is { result ≡ record { apex = apex; class = class; sets = [] } }
-        ensures valid { IsValid result }
+    pub fn empty(alloc: Global, apex: &StoredName, class: Class) -> Result<ZoneVersion, AllocError>
+        ensures is { IfOk result (λ v. v ≡ record { apex = apex.now; class = class; sets = [] }) }
+        ensures valid { IfOk result (λ v. IsValid v) }
     {
-        ZoneVersion {
-            apex,
-            class,
-            sets: KeyedSets::new(alloc),
-        }
+        let mut steps = NodeCount::new();
+        Ok(ZoneVersion {
+            tree: VersionTree::new(alloc, apex, class, &mut steps)?,
+        })
     }
 
-    /// A version of RRsets that may stand together in one.
-    pub fn of_sets(apex: StoredName, class: Class, sets: KeyedSets) -> ZoneVersion
-        requires { IsSound (record { apex = apex; class = class; sets = sets }) }
-        ensures { result ≡ record { apex = apex; class = class; sets = sets } }
+    /// A version of RRsets that may stand together in one. They are moved, and none is copied.
+    pub fn of_sets(
+        alloc: Global,
+        apex: &StoredName,
+        class: Class,
+        sets: KeyedSets,
+    ) -> Result<ZoneVersion, AllocError>
+        requires { IsSound (record { apex = apex.now; class = class; sets = sets }) }
+        ensures { IfOk result (λ v. v ≡ record { apex = apex.now; class = class; sets = sets }) }
     {
-        ZoneVersion { apex, class, sets }
+        let mut version = ZoneVersion::empty(alloc, apex, class)?;
+        for (key, set) in sets.into_entries() {
+            version.put_at(alloc, &key, set)?;
+        }
+        Ok(version)
+    }
+
+    /// Puts an RRset of a key's type, which may stand there, at the key, where none is.
+    fn put_at(&mut self, alloc: Global, key: &SetKey, set: Rrset) -> Result<(), AllocError>
+        requires own { set.rtype ≡ key.now.1 }
+        requires sound { IsSound (with_sets self.old (insert_entry key_cmp self.old.sets key.now set.contents)) }
+        ensures { OnOk result (self.new ≡ with_sets self.old (insert_entry key_cmp self.old.sets key.now set.contents)) }
+    {
+        // For the proof: the owner is in lower case.
+        key.tell_folded();
+        let mut steps = NodeCount::new();
+        let set = set.into_shared(alloc)?;
+        self.tree
+            .with_set(alloc, key.owner(), key.rtype(), Some(set), &mut steps)
     }
 
     /// A version of the same apex and class without records.
     pub fn emptied(&self, alloc: Global) -> Result<ZoneVersion, AllocError>
         ensures { IfOk result (λ v. v ≡ with_sets self.now []) }
     {
-        Ok(ZoneVersion::empty(alloc, self.apex.clone()?, self.class))
+        ZoneVersion::empty(alloc, self.apex(), self.class())
     }
 
     /// The apex, as it was given.
     pub fn apex(&self) -> &StoredName
         ensures { result.now ≡ self.now.apex }
     {
-        &self.apex
+        self.tree.apex()
     }
 
     /// The class.
     pub fn class(&self) -> Class
         ensures { result ≡ self.now.class }
     {
-        self.class
+        self.tree.class()
     }
 
     /// The RRset at a key.
     fn set_in(&self, key: &SetKey) -> Option<&Rrset>
         ensures { option_copied result ≡ typed_set_in self.now.sets key.now }
     {
-        self.sets.get(key)
+        // For the proof: the owner is in lower case.
+        key.tell_folded();
+        self.tree.get(key.owner(), key.rtype())
     }
 
     /// The RRset of an owner and type.
     pub fn set_at<N: Labelled>(&self, owner: &N, rtype: Rtype) -> Option<&Rrset>
         ensures { option_copied result ≡ option_map (typed rtype) (set_at self.now (N.labels owner.now) rtype) }
     {
-        self.set_in(&SetKey::new(owner, rtype))
+        self.tree.get(owner, rtype)
     }
 
     /// Whether an owner has an RRset of a type.
@@ -125,14 +148,14 @@ impl ZoneVersion {
     pub fn has_set<N: Labelled>(&self, owner: &N, rtype: Rtype) -> bool
         ensures { result ≡ is_some (set_at self.now (N.labels owner.now) rtype) }
     {
-        self.set_in(&SetKey::new(owner, rtype)).is_some()
+        self.set_at(owner, rtype).is_some()
     }
 
     /// Whether a name is below the apex.
     pub fn is_below_apex<N: ToName>(&self, name: &N) -> bool
         ensures { result ≡ below_apex self.now (N.labels name.now) }
     {
-        name.ends_with(&self.apex) && !name.name_eq(&self.apex)
+        name.ends_with(self.apex()) && !name.name_eq(self.apex())
     }
 
     /// Whether a zone cut stands at a name (RFC 1034, 4.2.1).
@@ -160,66 +183,73 @@ impl ZoneVersion {
 
 // The walk.
 impl ZoneVersion {
-    /// The entries, in order.
-    pub(crate) fn entries(&self) -> Iter<'_, SetKey, Rrset>
-        ensures { result ≡ map item_of self.now.sets }
+    /// The RRsets with their owners, in order.
+    pub fn sets(&self) -> TreeSets<'_>
+        ensures is { result ≡ map told self.now.sets }
+        ensures sound { IsSound self.now }
     {
-        self.sets.iter()
+        self.tree.sets()
     }
 
     /// The keys of the RRsets, in order.
-    pub fn keys(&self) -> Keys<'_, SetKey, Rrset>
+    pub fn keys(&self) -> VersionKeys<'_>
         ensures is { result ≡ keys_of self.now.sets }
         ensures sound { IsSound self.now }
     {
-        self.sets.keys()
+        VersionKeys::of(self.sets())
     }
 
-    /// An entry as a walk shows it.
-    pub(crate) fn stop<'v>(&'v self, key: &SetKey, contents: &'v Rrset) -> WalkItem<'v>
-        requires { contents.now.rtype ≡ key.now.1 }
-        ensures { result ≡ stop_of self.now (entry_of (key.now, contents.now)) }
+    /// What a version keeps while it is edited: all that a published one keeps, but NS beside DS (RFC 2181, 5 and 10.1). It does nothing.
+    pub fn soundness(&self)
+        ensures { IsSound self.now }
     {
-        let owner = if key.owner().name_eq(&self.apex) {
-            self.apex.to_key_name()
+        let _class = self.tree.class();
+    }
+
+    /// An RRset as a walk shows it.
+    pub(crate) fn stop<'v>(&'v self, found: &TreeSet<'v>) -> WalkItem<'v>
+        ensures { result ≡ stop_of self.now (entry_told found.now) }
+    {
+        let name = found.owner().to_name();
+        let below_cut = self.is_below_cut(&name);
+        let owner = if name.name_eq(self.apex()) {
+            self.apex().to_key_name()
         } else {
-            key.owner().duplicate()
+            name
         };
-        let below_cut = self.is_below_cut(key.owner());
-        WalkItem::of(owner, key.rtype(), contents, below_cut)
+        WalkItem::of(owner, found.rtype(), found.set(), below_cut)
     }
 
     /// The first stop of the walk.
     pub fn first_stop(&self) -> Option<WalkItem<'_>>
         ensures { result ≡ first_stop self.now }
     {
-        match self.entries().next() {
-            Some((key, contents)) => Some(self.stop(key, contents)),
+        match self.sets().next() {
+            Some(found) => Some(self.stop(&found)),
             None => None,
         }
     }
 
-    /// The first entry after a key.
-    fn entry_behind(&self, key: &SetKey) -> Option<(&SetKey, &Rrset)>
-        ensures { option_map deref_pair result ≡ option_map item_of (find (λ e. is_lt (key_cmp key.now e.0)) self.now.sets) }
+    /// The first RRset whose owner isn't before a name in canonical order (RFC 4034, 6.1).
+    pub fn first_from<N: Labelled>(&self, owner: &N) -> Option<TreeSet<'_>>
+        ensures { result ≡ option_map told (first_from self.now (N.labels owner.now)) }
     {
-        self.sets.first_behind(key)
+        self.tree.first_from(owner)
     }
 
-    /// The first RRset whose owner isn't before a name in canonical order (RFC 4034, 6.1).
-    pub fn first_from<N: Labelled>(&self, owner: &N) -> Option<(&SetKey, &Rrset)>
-        ensures { option_map deref_pair result ≡ option_map item_of (first_from self.now (N.labels owner.now)) }
+    /// The first RRset after an owner and type.
+    fn first_after(&self, owner: &KeyName, rtype: Rtype) -> Option<TreeSet<'_>>
+        ensures { result ≡ option_map told (find (λ e. is_lt (key_cmp (fold owner.now, rtype) e.0)) self.now.sets) }
     {
-        self.sets
-            .first_from(&SetKey::new(owner, Rtype::from_int(0)))
+        self.tree.first_after(owner, rtype)
     }
 
     /// The first stop after an owner and type.
     pub fn next_stop(&self, owner: &KeyName, rtype: Rtype) -> Option<WalkItem<'_>>
         ensures { result ≡ next_stop self.now owner.now rtype }
     {
-        match self.entry_behind(&SetKey::new(owner, rtype)) {
-            Some((key, contents)) => Some(self.stop(key, contents)),
+        match self.first_after(owner, rtype) {
+            Some(found) => Some(self.stop(&found)),
             None => None,
         }
     }
@@ -231,8 +261,10 @@ impl ZoneVersion {
     pub fn has_data(&self, added: &StoredRecord) -> bool
         ensures { result ≡ edits.has_data self.now added.now }
     {
-        self.sets
-            .has_item(&SetKey::new(added.owner(), added.rtype()), added.data())
+        match self.set_at(added.owner(), added.rtype()) {
+            Some(set) => set.contains(added.data()),
+            None => false,
+        }
     }
 
     /// Whether a record would be a second CNAME of a name below the apex (RFC 2181, 10.1).
@@ -259,14 +291,14 @@ impl ZoneVersion {
     pub fn is_outside(&self, added: &StoredRecord) -> bool
         ensures { result ≡ not (under added.now.owner self.now.apex) }
     {
-        !added.owner().ends_with(&self.apex)
+        !added.owner().ends_with(self.apex())
     }
 
     /// Whether a key's owner is the apex or below it.
     fn is_in_zone(&self, key: &SetKey) -> bool
         ensures { result ≡ under key.now.0 self.now.apex }
     {
-        key.owner().ends_with(&self.apex)
+        key.owner().ends_with(self.apex())
     }
 
     /// Whether data of a key's type stand alone: below the apex a name has one CNAME record at most (RFC 2181, 10.1).
@@ -347,7 +379,7 @@ impl ZoneVersion {
             return Err(EditError::OutOfZone);
         }
         let alone = self.stands_alone(&key);
-        match self.sets.put_new(alloc, key, ttl, item, alone) {
+        match put_last(&mut self.tree, alloc, &key, ttl, item, alone) {
             Ok(()) => Ok(()),
             Err(PutError::Equal) => Err(EditError::Incompatible),
             Err(PutError::Second) => Err(EditError::InvalidData),
@@ -356,12 +388,15 @@ impl ZoneVersion {
     }
 
     /// Takes the data of a record that isn't refused out of its RRset, whose TTL is then the record's; an emptied RRset goes.
-    pub fn remove(&mut self, deleted: &StoredRecord)
+    pub fn remove(&mut self, alloc: Global, deleted: &StoredRecord) -> Result<(), AllocError>
         requires { delete self.old deleted.now ≡ Ok (without self.old deleted.now) }
-        ensures { self.new ≡ without self.old deleted.now }
+        ensures ok { OnOk result (self.new ≡ without self.old deleted.now) }
+        ensures err { OnErr result (self.new ≡ self.old) }
     {
-        let key = SetKey::new(deleted.owner(), deleted.rtype());
-        self.sets.take_out(&key, deleted.ttl(), deleted.data());
+        let mut steps = NodeCount::new();
+        let (ttl, item) = (deleted.ttl(), deleted.data());
+        self.tree
+            .take_out(alloc, deleted.owner(), ttl, item, &mut steps)
     }
 
     /// Puts a record that the zone opens with: data that the RRset has already are not put again, and the lower TTL stays.
@@ -371,10 +406,7 @@ impl ZoneVersion {
         ensures ok { OnOk result (self.new ≡ opened_with self.old added) }
         ensures err { OnErr result (self.new ≡ self.old) }
     {
-        let key = SetKey::new(added.owner(), added.rtype());
-        let ttl = added.ttl();
-        self.sets.put_opening(alloc, key, ttl, added.into_data())?;
-        Ok(())
+        put_opening(&mut self.tree, alloc, added)
     }
 
     /// Makes the apex SOA RRset this one record. The TTL is in seconds.
@@ -387,10 +419,7 @@ impl ZoneVersion {
         ensures ok { OnOk result (self.new ≡ with_soa self.old ttl (soa_fields (λ n. n) soa)) }
         ensures err { OnErr result (self.new ≡ self.old) }
     {
-        let key = SetKey::new(&self.apex, Rtype::SOA);
-        let set = Rrset::of_one(alloc, ttl, ZoneRecordData::Soa(soa))?;
-        self.sets.insert(key, set)?;
-        Ok(())
+        self.put_soa(alloc, ttl, ZoneRecordData::Soa(soa))
     }
 
     /// Whether a DS RRset at a key would be without NS beside it, below the apex (RFC 4035, 2.4).
@@ -411,27 +440,39 @@ impl ZoneVersion {
         ensures is { result ≡ list_any (is_stray_at self.now) (keys_of self.now.sets) }
         ensures none { result ≡ false → IsValid self.now }
     {
-        any_stray(self, &self.sets)
+        any_stray(self, self.keys())
     }
 
     /// What a commit publishes: the version without DS RRsets below the apex that lack NS.
-    pub fn closed(&self) -> Result<ZoneVersion, AllocError>
+    pub fn closed(&self, alloc: Global) -> Result<ZoneVersion, AllocError>
         ensures is { IfOk result (λ v. v ≡ edits.close self.now) }
         ensures valid { IfOk result (λ v. IsValid v) }
     {
         let mut copy = self.clone()?;
-        drop_strays(self, &mut copy.sets);
+        for key in self.keys() {
+            copy.drop_if(alloc, &key, self.is_stray(&key))?;
+        }
         Ok(copy)
+    }
+
+    /// Takes the RRset at a key out, where that is wanted.
+    fn drop_if(&mut self, alloc: Global, key: &SetKey, wanted: bool) -> Result<(), AllocError>
+        ensures { OnOk result (self.new ≡ (if wanted then edits.remove_set self.old key.now.0 key.now.1 else self.old)) }
+    {
+        if !wanted {
+            return Ok(());
+        }
+        self.remove_set(alloc, key.owner(), key.rtype())
     }
 
     /// The same of a version that isn't needed otherwise, which is copied only where an RRset goes.
     #[tactic(auto, using(crate::proofs::Closing::closed_is))]
-    pub fn into_closed(self) -> Result<ZoneVersion, AllocError>
+    pub fn into_closed(self, alloc: Global) -> Result<ZoneVersion, AllocError>
         ensures is { IfOk result (λ v. v ≡ edits.close self) }
         ensures valid { IfOk result (λ v. IsValid v) }
     {
         if self.has_stray() {
-            let closed = self.closed();
+            let closed = self.closed(alloc);
             drop(self);
             return closed;
         }
@@ -439,16 +480,48 @@ impl ZoneVersion {
     }
 }
 
-/// Whether a commit of the version would leave one of the RRsets out.
-fn any_stray(version: &ZoneVersion, sets: &KeyedSets) -> bool
-    ensures { result ≡ list_any (is_stray_at version.now) (keys_of sets.now) }
+/// Whether a commit of the version would leave an RRset at one of the keys out.
+fn any_stray(version: &ZoneVersion, keys: VersionKeys<'_>) -> bool
+    ensures { result ≡ list_any (is_stray_at version.now) keys.entry }
 {
-    sets.any_key(|key| version.is_stray(key))
+    let mut keys = keys;
+    keys.any(|key| version.is_stray(&key))
 }
 
-/// Drops the RRsets that a commit of the version leaves out.
-fn drop_strays(version: &ZoneVersion, sets: &mut KeyedSets)
-    ensures { sets.new ≡ filter (λ e. not (is_stray_at version.now e.0)) sets.old }
+/// Puts data of the key's type last in the RRset at the key in a tree, and this TTL, in seconds, in place of the RRset's, unless equal data stand
+/// there, or the data stand alone and the RRset is there. The key's owner is in lower case.
+fn put_last(
+    tree: &mut VersionTree,
+    alloc: Global,
+    key: &SetKey,
+    ttl: Ttl,
+    item: StoredRecordData,
+    alone: bool,
+) -> Result<(), PutError>
+    requires zone { under key.now.0 tree.old.apex ≡ true }
+    requires item { rtype_of item ≡ key.now.1 }
+    ensures ok { OnOk result (tree.new ≡ with_sets tree.old (put_with (last_set ttl (data_fields item)) key.now tree.old.sets)) }
+    ensures cause { TellsPut (data_fields item) alone (set_in tree.old.sets key.now) result }
+    ensures err { OnErr result (tree.new ≡ tree.old) }
+    ensures folded { fold key.now.0 ≡ key.now.0 }
 {
-    sets.retain_keys(|key| !version.is_stray(key));
+    key.tell_folded();
+    let mut steps = NodeCount::new();
+    tree.append(alloc, key.owner(), ttl, item, alone, &mut steps)
+}
+
+/// Puts a record's data in their RRset in a tree, unless equal data are there; the RRset's TTL is the lower one.
+pub(crate) fn put_opening(
+    tree: &mut VersionTree,
+    alloc: Global,
+    added: StoredRecord,
+) -> Result<(), AllocError>
+    requires { under added.owner tree.old.apex ≡ true }
+    ensures ok { OnOk result (tree.new ≡ edits.put_set tree.old added.owner added.rtype (opening_set added.ttl added.fields (set_at tree.old added.owner added.rtype))) }
+    ensures err { OnErr result (tree.new ≡ tree.old) }
+{
+    let mut steps = NodeCount::new();
+    let owner = added.owner().to_key_name();
+    let ttl = added.ttl();
+    tree.open_with(alloc, &owner, ttl, added.into_data(), &mut steps)
 }

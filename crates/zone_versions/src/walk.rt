@@ -2,12 +2,13 @@
 ghost use Rattle.std.specs.Prelude.{◌≡◌, map, All};
 ghost use Rattle.dns_rdata.specs.ZoneData.{rtype_of, data_fields};
 ghost use Rattle.zone_model.specs.Walk.{walk};
+ghost use Rattle.zone_versions.specs.Stops.{key_told};
 
 use crate::version::ZoneVersion;
 use dns_name::{KeyName, Rtype, Ttl};
 use dns_rdata::StoredRecordData;
-use std::collections::btree_map::Iter;
 use std::marker::Model;
+use zone_nodes::{TreeSet, TreeSets};
 use zone_sets::SetKey;
 use zone_values::Rrset;
 
@@ -93,21 +94,17 @@ impl<'v> WalkItem<'v> {
 #[derive(Drop)]
 pub struct RrsetIter<'v> {
     version: &'v ZoneVersion,
-    entries: Iter<'v, SetKey, Rrset>,
+    sets: TreeSets<'v>,
 }
 
 impl<'v> Model for RrsetIter<'v> {
-    ghost use Rattle.std.specs.Prelude.{List, map, IsTrue};
-    ghost use Rattle.std.specs.List.{list_all};
+    ghost use Rattle.std.specs.Prelude.{List, map};
     ghost use Rattle.zone_model.specs.Walk.{Stop};
-    ghost use Rattle.zone_values.specs.TypedEntries.{entry_of, has_own_type};
-    ghost use Rattle.zone_versions.specs.Stops.{stop_of};
+    ghost use Rattle.zone_versions.specs.Stops.{stop_of, entry_told};
 
     ghost Value = { List Stop };
 
-    ghost view = { λ w. map (stop_of w.version.now) (map entry_of w.entries) };
-
-    ghost invariant = { λ w. IsTrue (list_all has_own_type w.entries) };
+    ghost view = { λ w. map (stop_of w.version.now) (map entry_told w.sets) };
 }
 
 impl<'v> RrsetIter<'v> {
@@ -117,7 +114,7 @@ impl<'v> RrsetIter<'v> {
     {
         RrsetIter {
             version,
-            entries: version.entries(),
+            sets: version.sets(),
         }
     }
 }
@@ -133,9 +130,58 @@ impl<'v> Iterator for RrsetIter<'v> {
 
     fn next(&mut self) -> Option<WalkItem<'v>> {
         let version = self.version;
-        match self.entries.next() {
-            Some((key, contents)) => Some(version.stop(key, contents)),
+        match self.sets.next() {
+            Some(found) => Some(version.stop(&found)),
             None => None,
         }
     }
+}
+
+/// The keys of a version's RRsets in order.
+#[derive(Drop)]
+pub struct VersionKeys<'v> {
+    sets: TreeSets<'v>,
+}
+
+impl<'v> Model for VersionKeys<'v> {
+    ghost use Rattle.std.specs.Prelude.{List, map};
+    ghost use Rattle.zone_model.specs.Version.{Key};
+    ghost use Rattle.zone_versions.specs.Stops.{key_told};
+
+    ghost Value = { List Key };
+
+    ghost view = { λ k. map key_told k.sets };
+}
+
+impl<'v> VersionKeys<'v> {
+    /// The keys of RRsets.
+    pub(crate) fn of(sets: TreeSets<'v>) -> VersionKeys<'v>
+        ensures { result ≡ map key_told sets.entry }
+    {
+        VersionKeys { sets }
+    }
+}
+
+impl<'v> Iterator for VersionKeys<'v> {
+    type Item = SetKey;
+
+    ghost use Rattle.std.specs.Iterator.{YieldsFirst, item_count};
+
+    ghost next_gives = { YieldsFirst (λ k. k) };
+
+    ghost remaining = { item_count (λ k. k) };
+
+    fn next(&mut self) -> Option<SetKey> {
+        match self.sets.next() {
+            Some(found) => Some(key_of(&found)),
+            None => None,
+        }
+    }
+}
+
+/// Where an RRset of a walk stands.
+fn key_of(found: &TreeSet<'_>) -> SetKey
+    ensures { result ≡ key_told found.now }
+{
+    SetKey::new(&found.owner().to_name(), found.rtype())
 }

@@ -1,32 +1,26 @@
-use Rattle.std.proofs.Common.{sym, ap, ◌∙◌, option_map}
-use Rattle.std.specs.Map.Iter.{deref_pair}
+use Rattle.std.proofs.Common.{Some, None, sym, ap, ◌∙◌}
 use Rattle.dns_name.specs.Names.{same_name}
 use Rattle.zone_model.specs.Answer.Answer.{Found}
-use Rattle.zone_values.specs.TypedEntries.{entry_of}
-use Rattle.zone_versions.proofs.TypedStops.{found_type}
-use Rattle.zone_lookup.proofs.LentTypes.{found_untyped}
+use Rattle.zone_versions.specs.Stops.{entry_told}
+use Rattle.zone_versions.proofs.Stops.{found_told}
 use Rattle.zone_lookup.proofs.FirstSets.{first_is, own_then, own_else}
 use Rattle.zone_lookup.proofs.look_up_steps.first_set.Goals as goal
-
--- The set is of its key's type.
-pub set_or_no_data-requires : goal.set_or_no_data-requires
-set_or_no_data-requires c = found_type _ c.in-Some.key.now c.in-Some.set.now (sym (ap (option_map deref_pair) c.in-Some.is) ∙ c.first_from.ensures) ∙ sym c.rtype.ensures
 
 -- The first set from the name on is the name's.
 pub returns-then-name_eq : goal.returns-then-name_eq
 returns-then-name_eq c =
-    c.set_or_no_data.ensures ∙ ap (λ t. Found t c.in-Some.set.now.contents) c.rtype.ensures
-    ∙ sym (own_then c.args.name.now c.in-Some.key.now c.in-Some.set.now.contents (c.if-name_eq.ensures ∙ ap (λ o. same_name o c.args.name.now) c.owner.ensures))
-    ∙ sym (first_is c.args.version.now c.args.name.now _ c.requires (ap (option_map entry_of) (sym (ap (option_map deref_pair) c.in-Some.is) ∙ c.first_from.ensures) ∙ found_untyped _))
+    c.set_or_no_data.ensures ∙ (λ i. Found (c.rtype.ensures i) (c.set.ensures i).contents)
+    ∙ sym (own_then c.args.name.now (entry_told c.in-Some.found).0 c.in-Some.found.1.contents (c.if-name_eq.ensures ∙ ap (λ o. same_name o c.args.name.now) (c.to_name.ensures ∙ c.owner.ensures.is)))
+    ∙ sym (first_is c.args.version.now c.args.name.now (Some (entry_told c.in-Some.found)) c.requires (found_told (Some c.in-Some.found) _ c.in-Some.ensures))
 
 -- It is another name's.
 pub returns-else-name_eq : goal.returns-else-name_eq
 returns-else-name_eq c =
     c.set_or_no_data-else-name_eq.ensures
-    ∙ sym (own_else c.args.name.now c.in-Some.key.now c.in-Some.set.now.contents (c.if-name_eq.ensures ∙ ap (λ o. same_name o c.args.name.now) c.owner.ensures))
-    ∙ sym (first_is c.args.version.now c.args.name.now _ c.requires (ap (option_map entry_of) (sym (ap (option_map deref_pair) c.in-Some.is) ∙ c.first_from.ensures) ∙ found_untyped _))
+    ∙ sym (own_else c.args.name.now (entry_told c.in-Some.found).0 c.in-Some.found.1.contents (c.if-name_eq.ensures ∙ ap (λ o. same_name o c.args.name.now) (c.to_name.ensures ∙ c.owner.ensures.is)))
+    ∙ sym (first_is c.args.version.now c.args.name.now (Some (entry_told c.in-Some.found)) c.requires (found_told (Some c.in-Some.found) _ c.in-Some.ensures))
 
 -- There is none.
 pub returns-in-None : goal.returns-in-None
 returns-in-None c =
-    c.set_or_no_data-in-None.ensures ∙ sym (first_is c.args.version.now c.args.name.now _ c.requires (ap (option_map entry_of) (sym (ap (option_map deref_pair) c.in-None.is) ∙ c.first_from.ensures) ∙ found_untyped _))
+    c.set_or_no_data-in-None.ensures ∙ sym (first_is c.args.version.now c.args.name.now None c.requires (found_told None _ c.in-None.ensures))

@@ -10,8 +10,8 @@ pub loop-key-preserved : goal.loop-key-preserved
 loop-key-preserved c =
     let p : Key → Bool = λ k. under k.0 c.args.name.now in
     let keys = c.loop-key.self in
-    let now : c.note_if.new.self ≡ (if p c.in-Some.key.now then noted keys c.in-Some.key.now else keys)
-    = c.in_ok-note_if.ensures.ok ∙ ap (λ b. if b then noted keys c.in-Some.key.now else keys) (c.ends_with.ensures ∙ ap (λ n. under n c.args.name.now) c.owner.ensures) in (
-      note_step p keys c.note_if.new.self c.next.new.self c.in-Some.key.now now ∙ ap (λ (l : List Key). noted_all keys (filter p l)) (sym c.in-Some.ensures.steps) ∙ c.loop-key.invariant.0,
-      keeps_step (p c.in-Some.key.now) c.args.self.now keys c.note_if.new.self c.in-Some.key.now now c.loop-key.invariant.1,
+    let now : c.note_if.new.self ≡ (if p c.in-Some.key then noted keys c.in-Some.key else keys)
+    = c.in_ok-note_if.ensures.ok ∙ ap (λ b. if b then noted keys c.in-Some.key else keys) (c.ends_with.ensures ∙ ap (λ n. under n c.args.name.now) c.owner.ensures) in (
+      note_step p keys c.note_if.new.self c.next.new.self c.in-Some.key now ∙ ap (λ (l : List Key). noted_all keys (filter p l)) (sym c.in-Some.ensures.steps) ∙ c.loop-key.invariant.0,
+      keeps_step (p c.in-Some.key) c.args.self.now keys c.note_if.new.self c.in-Some.key now c.loop-key.invariant.1,
     )

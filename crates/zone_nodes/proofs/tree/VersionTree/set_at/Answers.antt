@@ -2,7 +2,7 @@ use Rattle.std.proofs.Common.{ap, ◌∙◌, option_map}
 use Rattle.zone_model.specs.Version.{set_at}
 use Rattle.zone_values.specs.TypedEntries.{typed}
 use Rattle.zone_nodes.specs.Ways.{version_of}
-use Rattle.zone_nodes.proofs.Flat.{type_in}
+use Rattle.zone_nodes.specs.Trees.{type_in}
 use Rattle.zone_nodes.proofs.Told.{set_told}
 use Rattle.zone_nodes.proofs.tree.VersionTree.set_at.Goals as goal
 

@@ -1,14 +1,5 @@
-use Rattle.std.proofs.Common.{◌≡◌, ◌==◌, true, not, length, List, sym, ap, ◌∙◌}
-use Rattle.dns_rdata.specs.Records.{Field}
-use Rattle.dns_name.specs.Codes.{type_cname}
-use Rattle.zone_model.specs.Version.{below_apex}
-use Rattle.zone_model.specs.Edits.{distinct}
-use Rattle.zone_versions.proofs.Conditions.{not_false, third}
+use Rattle.std.proofs.Common.{sym}
 use Rattle.zone_versions.proofs.version.ZoneVersion.is_bad_alias.Goals as goal
 
--- The owner is below the apex, and the type is CNAME.
 pub returns : goal.returns
-returns c =
-    let below : below_apex c.args.self.now c.args.owner.now ≡ true = sym c.if-not-is_below_apex.ensures in
-    let alias : (c.args.set.now.rtype == type_cname) ≡ true = ap (λ t. t == type_cname) (sym c.rtype.ensures) ∙ not_false (c.rtype.result == type_cname) c.if-ne.ensures in
-    ap not (c.has_one_value.ensures ∙ ap (λ (xs : List (List Field)). length (distinct xs) == 1) c.data.ensures.fields) ∙ third _ _ _ below alias
+returns c = c.is_bad_alias.ensures c.args.self.now (sym c.apex.ensures)

@@ -1,22 +1,38 @@
-use Rattle.std.proofs.Common.{◌≡◌, ap, sym, subst, ◌∙◌}
-use Rattle.std.specs.BTreeMap.{insert_entry}
+use Rattle.std.proofs.Common.{◌≡◌, ap, sym, ◌∙◌}
+use Rattle.dns_name.specs.Names.{under}
+use Rattle.dns_name.specs.Codes.{type_soa}
 use Rattle.dns_rdata.specs.ZoneData.{data_fields}
-use Rattle.zone_model.specs.Version.{Version, Key, key_cmp}
-use Rattle.zone_model.specs.Edits.{with_sets}
+use Rattle.zone_model.specs.Version.{Version}
+use Rattle.zone_model.specs.Edits.{put_set}
 use Rattle.zone_values.specs.TypedSets.{TypedSet}
 use Rattle.zone_versions.specs.Puts.{with_soa}
-use Rattle.zone_versions.specs.Sound.{IsSound}
-use Rattle.zone_versions.proofs.Sound.{soa_sound}
+use Rattle.zone_versions.proofs.Outcomes.{on_ok, sound_after}
+use Rattle.zone_versions.proofs.Sound.{soa_sound, under_itself}
 use Rattle.zone_versions.proofs.version.ZoneVersion.put_soa.Goals as goal
 
--- An SOA set stands at the apex.
-pub insert-requires : goal.insert-requires
-insert-requires c = ap (λ (s : TypedSet). s.rtype) c.in_ok-set.ensures ∙ c.requires ∙ sym (ap (λ (k : Key). k.1) c.new-key.ensures)
+-- The apex stands in the zone, and an SOA set there.
+pub put_at-requires-clause-zone : goal.put_at-requires-clause-zone
+put_at-requires-clause-zone c =
+    let apex = c.self.inside.tree.apex in
+    let name : c.to_key_name-apex.result ≡ apex = c.to_key_name-apex.ensures.value ∙ c.apex.ensures ∙ ap (λ (v : Version). v.apex) (sym c.self.view_is) in
+    ap (λ n. under n apex) name ∙ under_itself apex
+
+pub put_at-requires-clause-own : goal.put_at-requires-clause-own
+put_at-requires-clause-own c = ap (λ (s : TypedSet). s.rtype) c.in_ok-set.ensures ∙ c.requires
 
 -- One SOA record at the apex keeps the version sound.
-pub invariant_of-self-2 : goal.invariant_of-self-2
-invariant_of-self-2 c =
-    let before : Version = record { apex = c.self.inside.apex; class = c.self.inside.class; sets = c.self.inside.sets } in
-    let made : with_sets before c.insert.new.self ≡ with_soa before c.args.ttl (data_fields c.args.item)
-    = ap (with_sets before) (c.in_ok-insert.ensures.ok ∙ (λ i. insert_entry key_cmp before.sets (c.new-key.ensures i) (c.in_ok-set.ensures i).contents)) in
-    subst (λ (v : Version). IsSound v) (sym made) (soa_sound before c.args.ttl (data_fields c.args.item) c.self.invariant)
+pub invariant_of-self : goal.invariant_of-self
+invariant_of-self c =
+    let before = c.self.inside.tree in
+    let name : c.to_key_name-apex.result ≡ before.apex = c.to_key_name-apex.ensures.value ∙ c.apex.ensures ∙ ap (λ (v : Version). v.apex) (sym c.self.view_is) in
+    sound_after c.put_at.result before c.put_at.new.tree (with_soa before c.args.ttl (data_fields c.args.item))
+    (on_ok c.put_at.result (λ e. e ∙ (λ i. put_set before (name i) type_soa (c.in_ok-set.ensures i).contents)) c.put_at.ensures.ok) c.put_at.ensures.err c.self.invariant
+    (soa_sound before c.args.ttl (data_fields c.args.item) c.self.invariant)
+
+pub returns-clause-ok : goal.returns-clause-ok
+returns-clause-ok c =
+    let before = c.self.inside.tree in
+    let name : c.to_key_name-apex.result ≡ before.apex = c.to_key_name-apex.ensures.value ∙ c.apex.ensures ∙ ap (λ (v : Version). v.apex) (sym c.self.view_is) in
+    on_ok c.put_at.result
+    (λ e. e ∙ (λ i. put_set before (name i) type_soa (c.in_ok-set.ensures i).contents) ∙ ap (λ (v : Version). with_soa v c.args.ttl (data_fields c.args.item)) c.self.view_is)
+    c.put_at.ensures.ok
