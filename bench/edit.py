@@ -11,9 +11,10 @@ It prints, for each size of zone:
 - the time in which the program makes and opens the zone, and that of one edit with its commit;
 - resident memory at its peak without edits and with them, and how much more the edits took;
 
-beside each how many times that of the smallest zone it is. What grows with the zone: the first edit behind a commit copies the map of its
-sets, and the commit copies it once more and looks for DS sets to leave out; the records are shared. The difference is found at the keys that
-edits touched. Time is the processor's, the least of the runs. Only ratios say something on another machine.
+beside each how many times that of the smallest zone it is. What grows with the zone: the first edit behind a commit copies the list of a
+version's pages, a counted pointer for each 64 names or fewer, and the commit copies it once more; pages, nodes and records are shared. The
+difference, and DS sets to leave out, are looked for at the keys that edits touched. Time is the processor's, the least of the runs; so short a
+time wants many edits (`--edits 1000`). Only ratios say something on another machine.
 """
 
 import argparse
