@@ -59,6 +59,16 @@ fn put<R: Abort>(
     builder.insert_rrset(&owner, set)
 }
 
+/// How many RRsets a version has.
+fn set_count(read: &ReadZone) -> usize {
+    let mut count = 0_usize;
+    for stop in read.iter_rrsets() {
+        count = count.saturating_add(1);
+        drop(stop);
+    }
+    count
+}
+
 #[test]
 fn opens_with_rrsets(rt: HostRuntime) {
     let alloc = rt.alloc();
@@ -80,7 +90,7 @@ fn opens_with_rrsets(rt: HostRuntime) {
     is(&rt, of_three, Some((Ttl::from_int(300), 3)));
     let of_one = shown(&rt, &read, A, Rtype::CNAME);
     is(&rt, of_one, Some((Ttl::from_int(30), 1)));
-    is(&rt, read.iter_rrsets().count(), 2);
+    is(&rt, set_count(&read), 2);
     drop(read);
 }
 
@@ -100,7 +110,7 @@ fn a_later_rrset_takes_the_place(rt: HostRuntime) {
     is(&rt, only.ttl(), Ttl::from_int(3600));
     is(&rt, only.items().len(), 1);
     drop(only);
-    is(&rt, read.iter_rrsets().count(), 1);
+    is(&rt, set_count(&read), 1);
     drop(read);
 }
 
@@ -131,7 +141,7 @@ fn opens_with_an_alias(rt: HostRuntime) {
     let read = opened(&rt, builder);
     let alias = shown(&rt, &read, A, Rtype::CNAME);
     is(&rt, alias, Some((Ttl::from_int(3600), 1)));
-    is(&rt, read.iter_rrsets().count(), 1);
+    is(&rt, set_count(&read), 1);
     drop(read);
 }
 
