@@ -3,7 +3,7 @@ use Rattle.std.proofs.Common.{◌≡◌, ℕ, List, [], ◌∷◌, ◌++◌, map
 use Rattle.std.specs.Prelude.{flat_map}
 use Rattle.std.specs.List.{join_with_byte}
 use Rattle.std.proofs.lemmas.List.{append-nil}
-use Rattle.dns_label.specs.LabelText.{octet_text}
+use Rattle.dns_name.specs.LabelText.{octet_text}
 use Rattle.dns_name.specs.Names.{Name, name_text}
 use Rattle.dns_name.specs.Text.{rest_text}
 

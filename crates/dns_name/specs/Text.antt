@@ -1,6 +1,6 @@
 -- The text of a name, label by label.
 use Rattle.std.specs.Prelude.{ℕ, List, ◌∷◌, flat_map}
-use Rattle.dns_label.specs.LabelText.{octet_text}
+use Rattle.dns_name.specs.LabelText.{octet_text}
 use Rattle.dns_name.specs.Names.{Name}
 
 -- a dot and the text of each label

@@ -1,8 +1,8 @@
 // The labels of a name, one after another.
 ghost use Rattle.std.specs.Prelude.{◌≡◌};
 
+use crate::label::Label;
 use crate::parsed::ParsedName;
-use dns_label::Label;
 use std::marker::Model;
 
 /// The labels of a name from the left, without the root label.

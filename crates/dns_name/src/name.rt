@@ -3,11 +3,12 @@ ghost use Rattle.std.specs.Prelude.{◌≡◌, ◌≤◌, ◌∷◌, [], ℕ, Li
 ghost use Rattle.std.specs.Bool.{OnTrue};
 ghost use Rattle.dns_name.specs.Names.{Name as LabelList, is_name, name_wire, fold, labels_in};
 
+use crate::error::NameError;
+use crate::label::Label;
 use crate::labels::Labels;
 use crate::name_octets::NameOctets;
 use crate::parsed::{ParsedName, decode};
 use bytes::Bytes;
-use dns_label::{Label, NameError};
 use std::alloc::{AllocError, Global};
 use std::convert::AsSlice;
 use std::marker::Model;

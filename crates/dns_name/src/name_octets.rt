@@ -3,7 +3,7 @@ ghost use Rattle.std.specs.Prelude.{◌≡◌, ◌≤◌, ◌<◌, ◌+◌, ◌+
 ghost use Rattle.std.specs.Char.{to_ascii_lowercase};
 ghost use Rattle.std.specs.Prelude.{if◌then◌else◌, nat_le, OnErr, OnOk};
 
-use dns_label::NameError;
+use crate::error::NameError;
 use std::convert::AsSlice;
 use std::marker::Model;
 

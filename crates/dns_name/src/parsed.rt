@@ -4,11 +4,12 @@ ghost use Rattle.dns_name.specs.Names.{is_name, name_wire, labels_in};
 ghost use Rattle.dns_name.specs.Compression.{name_at, element_at};
 ghost use Rattle.dns_name.specs.Pieces.{element_of, IsWithin};
 
+use crate::label::Label;
 use crate::labels::Labels;
 use crate::name::{KeyName, StoredName};
 use crate::name_octets::NameOctets;
+use crate::octets::ParseError;
 use crate::to_name::{Labelled, ToName};
-use dns_label::{Label, ParseError};
 use std::alloc::{AllocError, Global};
 use std::marker::Model;
 

@@ -9,20 +9,22 @@ use std::process::Abort;
 use std::sync::Arc;
 use zone_changes::{Draft, TouchedKeys};
 use zone_types::InMemoryZoneDiff;
-use zone_versions::{SetKey, ZoneVersion};
+use zone_versions::{NodeCount, SetKey, ZoneVersion};
 
 fn add<R: Abort>(rt: &R, alloc: Global, draft: &mut Draft, added: StoredRecord) {
     assert!(rt; draft.shown().refusal(&added).is_none());
     let key = SetKey::new(added.owner(), added.rtype());
     let ttl = added.ttl();
+    let mut steps = NodeCount::new();
     draft
-        .add(alloc, key, ttl, added.into_data())
+        .add(alloc, key, ttl, added.into_data(), &mut steps)
         .expect(rt, "no refusal");
 }
 
 fn delete<R: Abort>(rt: &R, draft: &mut Draft, deleted: StoredRecord) {
     assert!(rt; draft.shown().deletion_refusal(&deleted).is_none());
-    draft.remove(&deleted).expect(rt, "memory");
+    let mut steps = NodeCount::new();
+    draft.remove(&deleted, &mut steps).expect(rt, "memory");
     drop(deleted);
 }
 

@@ -1,11 +1,13 @@
 // A zone of four records, from its session to its walk.
 
 use crate::common::{APEX, SERVER, add, address, alias, commit, filled, is, name, server, zone};
+use crate::zonefile_tests::text;
 use dns_name::{Class, NameRef, Rtype, Ttl};
 use dns_rdata::{StoredRecord, record_from_octets};
 use std::alloc::Global;
 use std::process::Abort;
 use zone_store::{EditError, InsertError, ReadZone, WriteZone, ZoneBuilder};
+use zone_versions::NodeCount;
 
 const A: &[u8] = b"\x01a\x07example\x00";
 
@@ -283,6 +285,59 @@ fn finds_equal_data_among_many(rt: HostRuntime) {
     is(&rt, lacking, Err(EditError::Incompatible));
     commit(&rt, &mut session);
     is(&rt, add_servers(&rt, alloc, &mut session), 19);
+    drop(session);
+    drop(zone);
+}
+
+/// Whether a record is added, and how many nodes were built so far.
+fn add_counted(
+    session: &mut WriteZone<'_>,
+    record: StoredRecord,
+    steps: &mut NodeCount,
+) -> (bool, u64) {
+    let is_added = session.add_record_counted(record, steps).is_ok();
+    (is_added, steps.get())
+}
+
+/// The same of a deletion.
+fn delete_counted(
+    session: &mut WriteZone<'_>,
+    record: StoredRecord,
+    steps: &mut NodeCount,
+) -> (bool, u64) {
+    let is_deleted = session.delete_record_counted(&record, steps).is_ok();
+    drop(record);
+    (is_deleted, steps.get())
+}
+
+#[test]
+fn counts_the_nodes_of_edits(rt: HostRuntime) {
+    let alloc = rt.alloc();
+    let first = b"\x01a\x01b\x07example\x00";
+    let second = b"\x01c\x01B\x07example\x00";
+    let mut steps = NodeCount::new();
+    let mut zone = zone(&rt, alloc);
+    let mut session = zone.write(alloc);
+    let added = address(&rt, alloc, first, 60, 1);
+    let told = add_counted(&mut session, added, &mut steps);
+    is(&rt, told, (true, 2));
+    let added = address(&rt, alloc, second, 60, 1);
+    let told = add_counted(&mut session, added, &mut steps);
+    is(&rt, told, (true, 3));
+    let told = add_counted(&mut session, text(&rt, alloc, second, 1), &mut steps);
+    is(&rt, told, (true, 4));
+    let again = add_counted(&mut session, text(&rt, alloc, second, 1), &mut steps);
+    is(&rt, again, (false, 4));
+    let there = delete_counted(&mut session, text(&rt, alloc, second, 1), &mut steps);
+    is(&rt, there, (true, 5));
+    let lacking = delete_counted(&mut session, text(&rt, alloc, second, 1), &mut steps);
+    is(&rt, lacking, (false, 5));
+    let deleted = address(&rt, alloc, second, 60, 1);
+    let there = delete_counted(&mut session, deleted, &mut steps);
+    is(&rt, there, (true, 5));
+    let deleted = address(&rt, alloc, first, 60, 1);
+    let there = delete_counted(&mut session, deleted, &mut steps);
+    is(&rt, there, (true, 5));
     drop(session);
     drop(zone);
 }

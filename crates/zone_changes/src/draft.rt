@@ -9,6 +9,8 @@ ghost use Rattle.zone_model.specs.Version.{Key, Sets, IsValid, all_differ};
 ghost use Rattle.zone_model.specs.Difference.{difference, diffable};
 ghost use Rattle.zone_model.specs.Edits as edits;
 ghost use Rattle.zone_model.specs.Edits.{add, delete, with_sets};
+ghost use Rattle.zone_nodes.specs.Held.{counted};
+ghost use Rattle.zone_nodes.specs.Trees.{built};
 ghost use Rattle.zone_versions.specs.Causes.{refusal_of};
 ghost use Rattle.zone_versions.specs.Puts.{StandsAt, without, with_soa};
 ghost use Rattle.zone_changes.specs.Touched.{is_touched, Covers};
@@ -23,7 +25,7 @@ use std::sync::Arc;
 use zone_diffs::InMemoryZoneDiff;
 use zone_sets::SetKey;
 use zone_values::Rrset;
-use zone_versions::{EditError, ZoneVersion};
+use zone_versions::{EditError, NodeCount, ZoneVersion};
 
 /// A version that is edited, and the published one that it began as. They agree but at the tracked keys.
 #[derive(Drop)]
@@ -83,6 +85,7 @@ impl Draft {
         key: SetKey,
         ttl: Ttl,
         item: StoredRecordData,
+        steps: &mut NodeCount,
     ) -> Result<(), EditError>
         requires { rtype_of item ≡ key.1 }
         ensures ok { (r : Record) → StandsAt key ttl (data_fields item) r → OnOk result (add self.old.version r ≡ Ok self.new.version) }
@@ -90,22 +93,30 @@ impl Draft {
         ensures memory { (r : Record) → StandsAt key ttl (data_fields item) r → result ≡ Err EditError.Memory → IsOk (add self.old.version r) }
         ensures else_same { self.new ≡ with_version self.old self.new.version }
         ensures err { OnErr result (self.new ≡ self.old) }
+        ensures steps { OnOk result (steps.new ≡ counted steps.old (built self.old.version self.new.version key.0 key.1)) }
+        ensures uncounted { OnErr result (steps.new ≡ steps.old) }
     {
         match self.touched.note_copy(&key) {
-            Ok(()) => add(&mut self.version, alloc, key, ttl, item),
+            Ok(()) => add(&mut self.version, alloc, key, ttl, item, steps),
             Err(_) => Err(without_memory(&self.version, &key, item)),
         }
     }
 
     /// Takes the data of a record that isn't refused out of its RRset.
-    pub fn remove(&mut self, deleted: &StoredRecord) -> Result<(), AllocError>
+    pub fn remove(
+        &mut self,
+        deleted: &StoredRecord,
+        steps: &mut NodeCount,
+    ) -> Result<(), AllocError>
         requires { delete self.old.version deleted.now ≡ Ok (without self.old.version deleted.now) }
         ensures ok { OnOk result (self.new ≡ with_version self.old (without self.old.version deleted.now)) }
         ensures err { OnErr result (self.new ≡ self.old) }
+        ensures steps { OnOk result (steps.new ≡ counted steps.old (built self.old.version self.new.version deleted.now.owner deleted.now.rtype)) }
+        ensures uncounted { OnErr result (steps.new ≡ steps.old) }
     {
         self.touched
             .note(SetKey::new(deleted.owner(), deleted.rtype()))?;
-        remove(&mut self.version, self.alloc, deleted)
+        remove(&mut self.version, self.alloc, deleted, steps)
     }
 
     /// Makes the apex SOA RRset one record.
@@ -246,6 +257,7 @@ fn add(
     key: SetKey,
     ttl: Ttl,
     item: StoredRecordData,
+    steps: &mut NodeCount,
 ) -> Result<(), EditError>
     requires { rtype_of item ≡ key.1 }
     ensures ok { (r : Record) → StandsAt key ttl (data_fields item) r → OnOk result (add (arc_value pending.old) r ≡ Ok (arc_value pending.new)) }
@@ -254,9 +266,11 @@ fn add(
     ensures err { OnErr result (arc_value pending.new ≡ arc_value pending.old) }
     ensures apex { (arc_value pending.new).apex ≡ (arc_value pending.old).apex }
     ensures covered { (keys : List Key) (base : Sets) → is_touched keys key ≡ true → Covers keys base (arc_value pending.old).sets → Covers keys base (arc_value pending.new).sets }
+    ensures steps { OnOk result (steps.new ≡ counted steps.old (built (arc_value pending.old) (arc_value pending.new) key.0 key.1)) }
+    ensures uncounted { OnErr result (steps.new ≡ steps.old) }
 {
     match Arc::make_mut(pending) {
-        Ok(version) => version.add(alloc, key, ttl, item),
+        Ok(version) => version.add(alloc, key, ttl, item, steps),
         Err(_) => Err(without_memory(pending, &key, item)),
     }
 }
@@ -279,13 +293,16 @@ fn remove(
     pending: &mut Arc<ZoneVersion>,
     alloc: Global,
     deleted: &StoredRecord,
+    steps: &mut NodeCount,
 ) -> Result<(), AllocError>
     requires { delete (arc_value pending.old) deleted.now ≡ Ok (without (arc_value pending.old) deleted.now) }
     ensures ok { OnOk result (arc_value pending.new ≡ without (arc_value pending.old) deleted.now) }
     ensures err { OnErr result (arc_value pending.new ≡ arc_value pending.old) }
+    ensures steps { OnOk result (steps.new ≡ counted steps.old (built (arc_value pending.old) (arc_value pending.new) deleted.now.owner deleted.now.rtype)) }
+    ensures uncounted { OnErr result (steps.new ≡ steps.old) }
 {
     let version = Arc::make_mut(pending)?;
-    version.remove(alloc, deleted)
+    version.remove(alloc, deleted, steps)
 }
 
 /// Makes the apex SOA RRset one record.

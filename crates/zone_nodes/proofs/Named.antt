@@ -1,5 +1,5 @@
 -- Nodes kept by the keys of their names.
-use Rattle.std.proofs.Common.{◌≡◌, ℕ, Bool, true, false, cond, ◌&&◌, ◌||◌, ◌==◌, not, length, List, [], ◌∷◌, filter, refl, sym, ap, ◌∙◌, subst, Ordering, Less, Equal, Greater, Some, is_eq, is_le, Result, Ok, Err, OnOk, OnErr}
+use Rattle.std.proofs.Common.{◌≡◌, ℕ, Bool, true, false, cond, ◌&&◌, ◌||◌, ◌==◌, not, length, List, [], ◌∷◌, filter, refl, sym, ap, ◌∙◌, subst, Ordering, Less, Equal, Greater, Some, is_eq, is_le, Result, Ok, Err, OnOk, OnErr, is_ok, if◌then◌else◌}
 use Rattle.std.specs.Ordering.{match_ordering}
 use Rattle.std.specs.List.{list_any}
 use Rattle.std.specs.List.Sorted.{IsStrictlySortedBy}
@@ -86,6 +86,18 @@ on_both (Err e) f h g = h
 pub on_err : {T E : Type 0} {A B : Type 0} (r : Result T E) → (A → B) → OnErr r A → OnErr r B
 on_err (Ok x) f h = h
 on_err (Err e) f h = f h
+
+pub was_ok : {T E A : Type 0} (r : Result T E) (x : T) → r ≡ Ok x → OnOk r A → A
+was_ok {A = A} r x e h = subst (λ s. OnOk s A) e h
+
+-- the count after an edit, which is kept where that succeeded
+pub counted_ok : {T E : Type 0} (r : Result T E) (kept : Bool) (now was before wanted : ℕ) → kept ≡ is_ok r → now ≡ (if kept then was else before) → OnOk r (was ≡ wanted) → OnOk r (now ≡ wanted)
+counted_ok (Ok x) kept now was before wanted e k h = k ∙ ap (λ b. if b then was else before) e ∙ h
+counted_ok (Err x) kept now was before wanted e k h = h
+
+pub counted_err : {T E : Type 0} (r : Result T E) (kept : Bool) (now was before old : ℕ) → kept ≡ is_ok r → now ≡ (if kept then was else before) → before ≡ old → OnErr r (now ≡ old)
+counted_err (Ok x) kept now was before old e k h = tt
+counted_err (Err x) kept now was before old e k h = k ∙ ap (λ b. if b then was else before) e ∙ h
 
 -- what entries of a map are
 abbrev pub AreKept : Keyed → Type 0

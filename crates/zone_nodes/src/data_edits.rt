@@ -38,6 +38,7 @@ impl VersionTree {
         ensures cause { TellsPut (data_fields item) alone (set_at self.old (N.labels owner.now) (rtype_of item)) result }
         ensures err { OnErr result (self.new ≡ self.old) }
         ensures steps { OnOk result (steps.new ≡ counted steps.old (built self.old self.new (N.labels owner.now) (rtype_of item))) }
+        ensures uncounted { OnErr result (steps.new ≡ steps.old) }
     {
         let rtype = item.rtype();
         match self.get(owner, rtype) {
@@ -72,6 +73,7 @@ impl VersionTree {
         ensures ok { OnOk result (self.new ≡ edits.put_set self.old (N.labels owner.now) (rtype_of item) (opening_set ttl (data_fields item) (set_at self.old (N.labels owner.now) (rtype_of item)))) }
         ensures err { OnErr result (self.new ≡ self.old) }
         ensures steps { OnOk result (steps.new ≡ counted steps.old (built self.old self.new (N.labels owner.now) (rtype_of item))) }
+        ensures uncounted { OnErr result (steps.new ≡ steps.old) }
     {
         let rtype = item.rtype();
         match self.get(owner, rtype) {
@@ -95,6 +97,7 @@ impl VersionTree {
             (record { ttl = ttl; items = filter (λ d. not (same_data (data_fields item.now) d)) (data_at self.old (N.labels owner.now) (rtype_of item.now)) })) }
         ensures err { OnErr result (self.new ≡ self.old) }
         ensures steps { OnOk result (steps.new ≡ counted steps.old (built self.old self.new (N.labels owner.now) (rtype_of item.now))) }
+        ensures uncounted { OnErr result (steps.new ≡ steps.old) }
     {
         // For the proof: the count fits 64 bits.
         let _ = steps.get();
@@ -122,6 +125,7 @@ impl VersionTree {
         ensures ok { OnOk result (self.new ≡ edits.put_set self.old (N.labels owner.now) (rtype_of item) (last_set ttl (data_fields item) (set_at self.old (N.labels owner.now) (rtype_of item)))) }
         ensures err { OnErr result (self.new ≡ self.old) }
         ensures steps { OnOk result (steps.new ≡ counted steps.old (built self.old self.new (N.labels owner.now) (rtype_of item))) }
+        ensures uncounted { OnErr result (steps.new ≡ steps.old) }
     {
         let rtype = item.rtype();
         self.edit_in_place(owner, rtype, Appending { alloc, ttl, item }, steps)
@@ -141,6 +145,7 @@ impl VersionTree {
         ensures ok { OnOk result (self.new ≡ edits.put_set self.old (N.labels owner.now) (rtype_of item) (opening_set ttl (data_fields item) (set_at self.old (N.labels owner.now) (rtype_of item)))) }
         ensures err { OnErr result (self.new ≡ self.old) }
         ensures steps { OnOk result (steps.new ≡ counted steps.old (built self.old self.new (N.labels owner.now) (rtype_of item))) }
+        ensures uncounted { OnErr result (steps.new ≡ steps.old) }
     {
         let rtype = item.rtype();
         self.edit_in_place(owner, rtype, Opening { alloc, ttl, item }, steps)
@@ -159,6 +164,7 @@ impl VersionTree {
         ensures ok { OnOk result (self.new ≡ edits.put_set self.old (N.labels owner.now) (rtype_of item.now) (thinned_set ttl (data_fields item.now) (set_at self.old (N.labels owner.now) (rtype_of item.now)))) }
         ensures err { OnErr result (self.new ≡ self.old) }
         ensures steps { OnOk result (steps.new ≡ counted steps.old (built self.old self.new (N.labels owner.now) (rtype_of item.now))) }
+        ensures uncounted { OnErr result (steps.new ≡ steps.old) }
     {
         let rtype = item.rtype();
         self.edit_in_place(owner, rtype, Thinning { ttl, item }, steps)
@@ -177,6 +183,7 @@ impl VersionTree {
         ensures ok { OnOk result (self.new ≡ edits.put_set self.old (N.labels owner.now) (rtype_of item) (record { ttl = ttl; items = data_fields item ∷ [] })) }
         ensures err { OnErr result (self.new ≡ self.old) }
         ensures steps { OnOk result (steps.new ≡ counted steps.old (built self.old self.new (N.labels owner.now) (rtype_of item))) }
+        ensures uncounted { OnErr result (steps.new ≡ steps.old) }
     {
         let rtype = item.rtype();
         let set = first_of(alloc, ttl, item)?;

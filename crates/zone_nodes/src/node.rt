@@ -1,5 +1,5 @@
 // Nodes, and how many were built.
-ghost use Rattle.std.specs.Prelude.{◌≡◌, ◌≤◌, ◌==◌, [], ◌∷◌, length, IfOk, IsSome, IsTrue, OnOk, OnErr, option_copied, map};
+ghost use Rattle.std.specs.Prelude.{◌≡◌, ◌≤◌, ◌==◌, [], ◌∷◌, length, if◌then◌else◌, IfOk, IsSome, IsTrue, OnOk, OnErr, option_copied, map};
 ghost use Rattle.std.specs.Ordering.{nat_cmp};
 ghost use Rattle.std.specs.BTreeMap.{insert_entry, is_at};
 ghost use Rattle.std.specs.Map.{lookup, remove_entry};
@@ -15,7 +15,7 @@ use std::collections::btree_map::Values;
 use std::marker::Model;
 use zone_values::{Rrset, SharedRrset};
 
-/// How many nodes were built. It stays at the greatest number of 64 bits once it is there.
+/// How many nodes were built by edits that succeeded. It stays at the greatest number of 64 bits once it is there.
 #[derive(Debug, Drop)]
 pub struct NodeCount {
     nodes: u64,
@@ -49,6 +49,15 @@ impl NodeCount {
         ensures { self.new ≡ counted self.old 1 }
     {
         self.nodes = self.nodes.saturating_add(1);
+    }
+
+    /// The number before an edit again, unless the edit is kept.
+    pub(crate) fn keep_if(&mut self, kept: bool, before: u64)
+        ensures { self.new ≡ (if kept then self.old else before) }
+    {
+        if !kept {
+            self.nodes = before;
+        }
     }
 }
 

@@ -55,12 +55,16 @@ impl VersionTree {
     ) -> Result<VersionTree, AllocError>
         ensures is { IfOk result (λ t. t ≡ record { apex = apex.now; class = class; sets = [] }) }
         ensures steps { OnOk result (steps.new ≡ counted steps.old 1) }
+        ensures uncounted { OnErr result (steps.new ≡ steps.old) }
     {
         let apex = apex.clone()?;
         let mut nodes = NodeMap::new(alloc);
         let key = NameKey::of_name(&apex);
+        let before = steps.get();
         let node = ZoneNode::empty(alloc, steps);
-        nodes.insert(alloc, &key.borrowed(), node)?;
+        let done = nodes.insert(alloc, &key.borrowed(), node);
+        steps.keep_if(done.is_ok(), before);
+        done?;
         Ok(VersionTree { apex, class, nodes })
     }
 
@@ -207,6 +211,7 @@ impl VersionTree {
         ensures ok { OnOk result (self.new ≡ trees.with_set self.old (N.labels owner.now) rtype (option_map (λ s. s.contents) set)) }
         ensures err { OnErr result (self.new ≡ self.old) }
         ensures steps { OnOk result (steps.new ≡ counted steps.old (built self.old self.new (N.labels owner.now) rtype)) }
+        ensures uncounted { OnErr result (steps.new ≡ steps.old) }
     {
         let key = NameKey::of(owner);
         let name = key.borrowed();
@@ -230,6 +235,7 @@ impl VersionTree {
         ensures ok { OnOk result (self.new ≡ trees.with_set self.old owner.now rtype (Some set.contents)) }
         ensures err { OnErr result (self.new ≡ self.old) }
         ensures steps { OnOk result (steps.new ≡ counted steps.old (built self.old self.new owner.now rtype)) }
+        ensures uncounted { OnErr result (steps.new ≡ steps.old) }
     {
         if set.is_empty() {
             drop(set);
@@ -253,10 +259,14 @@ impl VersionTree {
         ensures ok { OnOk result (self.new ≡ trees.with_set self.old owner.now rtype (Some set.contents)) }
         ensures err { OnErr result (self.new ≡ self.old) }
         ensures steps { OnOk result (steps.new ≡ counted steps.old (built self.old self.new owner.now rtype)) }
+        ensures uncounted { OnErr result (steps.new ≡ steps.old) }
     {
         // For the proof: a key's name is in lower case.
         let _ = owner.as_slice();
-        put_set(&mut self.nodes, alloc, owner, rtype, set, steps)
+        let before = steps.get();
+        let done = put_set(&mut self.nodes, alloc, owner, rtype, set, steps);
+        steps.keep_if(done.is_ok(), before);
+        done
     }
 
     /// Edits the RRset of an owner and type, which stands there and keeps data, in place: what another version shares with it on the way is copied first,
@@ -295,6 +305,7 @@ impl VersionTree {
         ensures ok { OnOk result (self.new ≡ edits.put_set self.old (N.labels owner.now) rtype (E.edited edit (set_at self.old (N.labels owner.now) rtype))) }
         ensures err { OnErr result (self.new ≡ self.old) }
         ensures steps { OnOk result (steps.new ≡ counted steps.old (built self.old self.new (N.labels owner.now) rtype)) }
+        ensures uncounted { OnErr result (steps.new ≡ steps.old) }
     {
         let key = NameKey::of(owner);
         self.edit_set(&key.borrowed(), rtype, edit)?;
@@ -314,17 +325,21 @@ impl VersionTree {
         ensures ok { OnOk result (self.new ≡ edits.remove_set self.old owner.now rtype) }
         ensures err { OnErr result (self.new ≡ self.old) }
         ensures steps { OnOk result (steps.new ≡ counted steps.old (built self.old self.new owner.now rtype)) }
+        ensures uncounted { OnErr result (steps.new ≡ steps.old) }
     {
         let _ = owner.as_slice();
         let apex = NameKey::of_name(&self.apex);
-        remove_set(
+        let before = steps.get();
+        let done = remove_set(
             &mut self.nodes,
             alloc,
             &apex.borrowed(),
             owner,
             rtype,
             steps,
-        )
+        );
+        steps.keep_if(done.is_ok(), before);
+        done
     }
 
     /// Takes all RRsets at and below a name out. The nodes of names that no longer exist go; the apex's stays, and is built anew where it is among those
@@ -338,6 +353,7 @@ impl VersionTree {
         ensures ok { OnOk result (self.new ≡ edits.clear self.old (N.labels name.now)) }
         ensures err { OnErr result (self.new ≡ self.old) }
         ensures steps { OnOk result (steps.new ≡ counted steps.old (built_by_clear self.old (N.labels name.now))) }
+        ensures uncounted { OnErr result (steps.new ≡ steps.old) }
     {
         self.clear_key(alloc, &NameKey::of(name).borrowed(), steps)
     }
@@ -352,6 +368,7 @@ impl VersionTree {
         ensures ok { OnOk result (self.new ≡ edits.clear self.old name.now) }
         ensures err { OnErr result (self.new ≡ self.old) }
         ensures steps { OnOk result (steps.new ≡ counted steps.old (built_by_clear self.old name.now)) }
+        ensures uncounted { OnErr result (steps.new ≡ steps.old) }
     {
         // For the proof: the count fits 64 bits, and the nodes are the version's tree.
         let _ = steps.get();
@@ -374,6 +391,7 @@ impl VersionTree {
         ensures ok { OnOk result (self.new ≡ edits.with_sets self.old []) }
         ensures err { OnErr result (self.new ≡ self.old) }
         ensures steps { OnOk result (steps.new ≡ counted steps.old (if length self.old.sets == 0 then 0 else 1)) }
+        ensures uncounted { OnErr result (steps.new ≡ steps.old) }
     {
         let _ = steps.get();
         if self.sets().next().is_none() {

@@ -18,4 +18,4 @@ pub use write::WriteZone;
 pub use zone_errors::{
     CommitError, InsertCnameError, InsertCutError, InsertError, NodeError, UpdateError,
 };
-pub use zone_versions::{EditError, RrsetIter, WalkItem};
+pub use zone_versions::{EditError, NodeCount, RrsetIter, WalkItem};

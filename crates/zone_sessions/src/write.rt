@@ -4,6 +4,8 @@ ghost use Rattle.zone_model.specs.Edits.{add, delete, with_sets};
 ghost use Rattle.zone_model.specs.Edits as edits;
 ghost use Rattle.zone_model.specs.Version.{IsValid};
 ghost use Rattle.zone_model.specs.Session.{opened_session, with_pending, closed, committed, rolled_back, told_difference};
+ghost use Rattle.zone_nodes.specs.Held.{counted};
+ghost use Rattle.zone_nodes.specs.Trees.{built};
 ghost use Rattle.zone_versions.specs.Causes.{refusal_of};
 ghost use Rattle.zone_versions.specs.Puts.{StandsAt, without, with_soa};
 ghost use Rattle.dns_rdata.specs.DataFields.{soa_fields};
@@ -22,7 +24,7 @@ use zone_changes::Draft;
 use zone_diffs::InMemoryZoneDiff;
 use zone_errors::CommitError;
 use zone_sets::SetKey;
-use zone_versions::{EditError, ZoneVersion};
+use zone_versions::{EditError, NodeCount, ZoneVersion};
 
 /// The one session of a zone: it edits what is pending, and publishes it by `commit`. What is pending when it is dropped is gone.
 #[derive(Drop)]
@@ -128,9 +130,27 @@ impl<'z> WriteZone<'z> {
         ensures else_same { self.new ≡ with_pending self.old self.new.pending }
         ensures err { OnErr result (self.new ≡ self.old) }
     {
+        let mut steps = NodeCount::new();
+        self.add_record_counted(added, &mut steps)
+    }
+
+    /// Adds a record as `add_record` does, and counts the nodes which that builds. An edit that fails counts nothing.
+    pub fn add_record_counted(
+        &mut self,
+        added: StoredRecord,
+        steps: &mut NodeCount,
+    ) -> Result<(), EditError>
+        ensures ok { OnOk result (add self.old.pending added ≡ Ok self.new.pending) }
+        ensures refused { IfErr result (λ e. IfSome (refusal_of e) (λ why. add self.old.pending added ≡ Err why)) }
+        ensures memory { (result ≡ Err EditError.Memory) → IsOk (add self.old.pending added) }
+        ensures else_same { self.new ≡ with_pending self.old self.new.pending }
+        ensures err { OnErr result (self.new ≡ self.old) }
+        ensures steps { OnOk result (steps.new ≡ counted steps.old (built self.old.pending self.new.pending added.owner added.rtype)) }
+        ensures uncounted { OnErr result (steps.new ≡ steps.old) }
+    {
         let key = SetKey::new(added.owner(), added.rtype());
         let ttl = added.ttl();
-        self.add_at(key, ttl, added.into_data())
+        self.add_at(key, ttl, added.into_data(), steps)
     }
 
     /// Adds a record that lies in a message, as `add_record` does. Its data are put in memory of their own first: want of memory for that may come
@@ -142,21 +162,31 @@ impl<'z> WriteZone<'z> {
         ensures err { OnErr result (self.new ≡ self.old) }
     {
         let item = added.data().flatten(self.alloc)?;
-        self.add_at(SetKey::new(added.owner(), added.rtype()), added.ttl(), item)
+        let key = SetKey::new(added.owner(), added.rtype());
+        let mut steps = NodeCount::new();
+        self.add_at(key, added.ttl(), item, &mut steps)
     }
 
     /// Adds the data of a record, which are of the key's type, at its owner and type. Where nothing was edited, a record that is refused copies nothing.
-    fn add_at(&mut self, key: SetKey, ttl: Ttl, item: StoredRecordData) -> Result<(), EditError>
+    fn add_at(
+        &mut self,
+        key: SetKey,
+        ttl: Ttl,
+        item: StoredRecordData,
+        steps: &mut NodeCount,
+    ) -> Result<(), EditError>
         requires { rtype_of item ≡ key.1 }
         ensures ok { (r : Record) → StandsAt key ttl (data_fields item) r → OnOk result (add self.old.pending r ≡ Ok self.new.pending) }
         ensures refused { (r : Record) → StandsAt key ttl (data_fields item) r → IfErr result (λ e. IfSome (refusal_of e) (λ why. add self.old.pending r ≡ Err why)) }
         ensures memory { (r : Record) → StandsAt key ttl (data_fields item) r → result ≡ Err EditError.Memory → IsOk (add self.old.pending r) }
         ensures else_same { self.new ≡ with_pending self.old self.new.pending }
         ensures err { OnErr result (self.new ≡ self.old) }
+        ensures steps { OnOk result (steps.new ≡ counted steps.old (built self.old.pending self.new.pending key.0 key.1)) }
+        ensures uncounted { OnErr result (steps.new ≡ steps.old) }
     {
         match self.take_edited() {
-            Some(pending) => self.add_to(pending, key, ttl, item),
-            None => self.add_first(key, ttl, item),
+            Some(pending) => self.add_to(pending, key, ttl, item, steps),
+            None => self.add_first(key, ttl, item, steps),
         }
     }
 
@@ -167,6 +197,7 @@ impl<'z> WriteZone<'z> {
         key: SetKey,
         ttl: Ttl,
         item: StoredRecordData,
+        steps: &mut NodeCount,
     ) -> Result<(), EditError>
         requires base { edited.base ≡ self.old.current.version }
         requires rtype { rtype_of item ≡ key.1 }
@@ -175,28 +206,38 @@ impl<'z> WriteZone<'z> {
         ensures memory { (r : Record) → StandsAt key ttl (data_fields item) r → result ≡ Err EditError.Memory → IsOk (add edited.version r) }
         ensures else_same { self.new ≡ with_pending self.old self.new.pending }
         ensures err { OnErr result (self.new ≡ with_pending self.old edited.version) }
+        ensures steps { OnOk result (steps.new ≡ counted steps.old (built edited.version self.new.pending key.0 key.1)) }
+        ensures uncounted { OnErr result (steps.new ≡ steps.old) }
     {
         let mut edited = edited;
-        let added = edited.add(self.alloc, key, ttl, item);
+        let added = edited.add(self.alloc, key, ttl, item, steps);
         self.keep(edited);
         added
     }
 
     /// Adds the data of a record to the published version, which is copied only where they aren't refused.
-    fn add_first(&mut self, key: SetKey, ttl: Ttl, item: StoredRecordData) -> Result<(), EditError>
+    fn add_first(
+        &mut self,
+        key: SetKey,
+        ttl: Ttl,
+        item: StoredRecordData,
+        steps: &mut NodeCount,
+    ) -> Result<(), EditError>
         requires { rtype_of item ≡ key.1 }
         ensures ok { (r : Record) → StandsAt key ttl (data_fields item) r → OnOk result (add self.old.pending r ≡ Ok self.new.pending) }
         ensures refused { (r : Record) → StandsAt key ttl (data_fields item) r → IfErr result (λ e. IfSome (refusal_of e) (λ why. add self.old.pending r ≡ Err why)) }
         ensures memory { (r : Record) → StandsAt key ttl (data_fields item) r → result ≡ Err EditError.Memory → IsOk (add self.old.pending r) }
         ensures else_same { self.new ≡ with_pending self.old self.new.pending }
         ensures err { OnErr result (self.new ≡ self.old) }
+        ensures steps { OnOk result (steps.new ≡ counted steps.old (built self.old.pending self.new.pending key.0 key.1)) }
+        ensures uncounted { OnErr result (steps.new ≡ steps.old) }
     {
         if let Some(error) = self.shown().refusal_at(&key, &item) {
             drop(item);
             return Err(error);
         }
         match self.take_pending() {
-            Ok(pending) => self.add_to(pending, key, ttl, item),
+            Ok(pending) => self.add_to(pending, key, ttl, item, steps),
             Err(_) => {
                 drop(item);
                 Err(EditError::Memory)
@@ -213,11 +254,29 @@ impl<'z> WriteZone<'z> {
         ensures else_same { self.new ≡ with_pending self.old self.new.pending }
         ensures err { OnErr result (self.new ≡ self.old) }
     {
+        let mut steps = NodeCount::new();
+        self.delete_record_counted(deleted, &mut steps)
+    }
+
+    /// Deletes a record as `delete_record` does, and counts the nodes which that builds. An edit that fails counts nothing.
+    pub fn delete_record_counted(
+        &mut self,
+        deleted: &StoredRecord,
+        steps: &mut NodeCount,
+    ) -> Result<(), EditError>
+        ensures ok { OnOk result (delete self.old.pending deleted.now ≡ Ok self.new.pending) }
+        ensures refused { IfErr result (λ e. IfSome (refusal_of e) (λ why. delete self.old.pending deleted.now ≡ Err why)) }
+        ensures memory { (result ≡ Err EditError.Memory) → IsOk (delete self.old.pending deleted.now) }
+        ensures else_same { self.new ≡ with_pending self.old self.new.pending }
+        ensures err { OnErr result (self.new ≡ self.old) }
+        ensures steps { OnOk result (steps.new ≡ counted steps.old (built self.old.pending self.new.pending deleted.now.owner deleted.now.rtype)) }
+        ensures uncounted { OnErr result (steps.new ≡ steps.old) }
+    {
         if let Some(error) = self.shown().deletion_refusal(deleted) {
             return Err(error);
         }
         let mut pending = self.take_pending()?;
-        let removed = pending.remove(deleted);
+        let removed = pending.remove(deleted, steps);
         self.keep(pending);
         Ok(removed?)
     }

@@ -15,4 +15,5 @@ pub use errors::EditError;
 pub use nodes::is_bad_alias;
 pub use version::ZoneVersion;
 pub use walk::{RrsetIter, VersionKeys, WalkItem};
+pub use zone_nodes::NodeCount;
 pub use zone_sets::SetKey;

@@ -6,7 +6,8 @@ ghost use Rattle.zone_model.specs.Version.{IsValid, key_cmp, set_in, set_at, bel
 ghost use Rattle.zone_model.specs.Classify.{opened_with};
 ghost use Rattle.zone_model.specs.Answer.{highest_cut};
 ghost use Rattle.zone_model.specs.Walk.{next_stop};
-ghost use Rattle.zone_nodes.specs.Held.{told};
+ghost use Rattle.zone_nodes.specs.Held.{told, counted};
+ghost use Rattle.zone_nodes.specs.Trees.{built};
 ghost use Rattle.zone_versions.specs.Stops.{stop_of, first_stop, first_from, entry_told};
 ghost use Rattle.zone_model.specs.Edits.{delete, with_sets};
 ghost use Rattle.zone_model.specs.Edits as edits;
@@ -364,6 +365,7 @@ impl ZoneVersion {
         key: SetKey,
         ttl: Ttl,
         item: StoredRecordData,
+        steps: &mut NodeCount,
     ) -> Result<(), EditError>
         requires { rtype_of item ≡ key.1 }
         ensures ok { (r : Record) → StandsAt key ttl (data_fields item) r → OnOk result (edits.add self.old r ≡ Ok self.new) }
@@ -372,6 +374,8 @@ impl ZoneVersion {
         ensures memory { (r : Record) → StandsAt key ttl (data_fields item) r → result ≡ Err EditError.Memory → IsOk (edits.add self.old r) }
         ensures err { OnErr result (self.new ≡ self.old) }
         ensures folded { OnOk result (fold key.0 ≡ key.0) }
+        ensures steps { OnOk result (steps.new ≡ counted steps.old (built self.old self.new key.0 key.1)) }
+        ensures uncounted { OnErr result (steps.new ≡ steps.old) }
     {
         if !self.is_in_zone(&key) {
             drop(item);
@@ -379,7 +383,7 @@ impl ZoneVersion {
             return Err(EditError::OutOfZone);
         }
         let alone = self.stands_alone(&key);
-        match put_last(&mut self.tree, alloc, &key, ttl, item, alone) {
+        match put_last(&mut self.tree, alloc, &key, ttl, item, alone, steps) {
             Ok(()) => Ok(()),
             Err(PutError::Equal) => Err(EditError::Incompatible),
             Err(PutError::Second) => Err(EditError::InvalidData),
@@ -388,15 +392,20 @@ impl ZoneVersion {
     }
 
     /// Takes the data of a record that isn't refused out of its RRset, whose TTL is then the record's; an emptied RRset goes.
-    pub fn remove(&mut self, alloc: Global, deleted: &StoredRecord) -> Result<(), AllocError>
+    pub fn remove(
+        &mut self,
+        alloc: Global,
+        deleted: &StoredRecord,
+        steps: &mut NodeCount,
+    ) -> Result<(), AllocError>
         requires { delete self.old deleted.now ≡ Ok (without self.old deleted.now) }
         ensures ok { OnOk result (self.new ≡ without self.old deleted.now) }
         ensures err { OnErr result (self.new ≡ self.old) }
+        ensures steps { OnOk result (steps.new ≡ counted steps.old (built self.old self.new deleted.now.owner deleted.now.rtype)) }
+        ensures uncounted { OnErr result (steps.new ≡ steps.old) }
     {
-        let mut steps = NodeCount::new();
         let (ttl, item) = (deleted.ttl(), deleted.data());
-        self.tree
-            .take_out(alloc, deleted.owner(), ttl, item, &mut steps)
+        self.tree.take_out(alloc, deleted.owner(), ttl, item, steps)
     }
 
     /// Puts a record that the zone opens with: data that the RRset has already are not put again, and the lower TTL stays.
@@ -497,6 +506,7 @@ fn put_last(
     ttl: Ttl,
     item: StoredRecordData,
     alone: bool,
+    steps: &mut NodeCount,
 ) -> Result<(), PutError>
     requires zone { under key.now.0 tree.old.apex ≡ true }
     requires item { rtype_of item ≡ key.now.1 }
@@ -504,10 +514,11 @@ fn put_last(
     ensures cause { TellsPut (data_fields item) alone (set_in tree.old.sets key.now) result }
     ensures err { OnErr result (tree.new ≡ tree.old) }
     ensures folded { fold key.now.0 ≡ key.now.0 }
+    ensures steps { OnOk result (steps.new ≡ counted steps.old (built tree.old tree.new key.now.0 key.now.1)) }
+    ensures uncounted { OnErr result (steps.new ≡ steps.old) }
 {
     key.tell_folded();
-    let mut steps = NodeCount::new();
-    tree.append(alloc, key.owner(), ttl, item, alone, &mut steps)
+    tree.append(alloc, key.owner(), ttl, item, alone, steps)
 }
 
 /// Puts a record's data in their RRset in a tree, unless equal data are there; the RRset's TTL is the lower one.

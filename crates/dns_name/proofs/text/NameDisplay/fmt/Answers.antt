@@ -1,7 +1,7 @@
 use Rattle.std.proofs.Common.{◌∙◌, ◌++◌, ◌∷◌, sym, rules}
 use Rattle.std.specs.Prelude.{flat_map}
 use Rattle.std.proofs.Output.{has_written_append}
-use Rattle.dns_label.specs.LabelText.{octet_text}
+use Rattle.dns_name.specs.LabelText.{octet_text}
 use Rattle.dns_name.specs.Names.{name_text}
 use Rattle.dns_name.proofs.NameText.{first_text, next_text}
 use Rattle.dns_name.proofs.text.NameDisplay.fmt.Goals as goal

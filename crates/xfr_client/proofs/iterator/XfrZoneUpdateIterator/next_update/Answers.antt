@@ -1,5 +1,5 @@
 use Rattle.std.proofs.Common.{◌≡◌, ◌∷◌, true, false, Option, Some, None, Result, Err, subst, sym, ap, ◌∙◌}
-use Rattle.dns_label.specs.declared.octets.ParseError.{ParseError}
+use Rattle.dns_name.specs.declared.octets.ParseError.{ParseError}
 use Rattle.dns_rdata.specs.Records.{Record}
 use Rattle.xfr_model.specs.Read.{Good}
 use Rattle.zone_model.specs.TransferText.{Axfr}

@@ -1,11 +1,12 @@
 use Rattle.std.proofs.Common.{sym, ◌∙◌, subst}
 use Rattle.zone_nodes.specs.Trees.{IsTree}
 use Rattle.zone_nodes.specs.Ways.{put_node, version_of}
+use Rattle.zone_nodes.proofs.Named.{was_ok}
 use Rattle.zone_nodes.proofs.Told.{apex_tree}
 use Rattle.zone_nodes.proofs.tree.VersionTree.new.Goals as goal
 
 pub invariant_of-result : goal.invariant_of-result
 invariant_of-result c =
     subst (λ ns. IsTree (version_of c.in_ok-apex.apex c.args.class ns) ns)
-    (sym (c.in_ok-insert.ensures.ok ∙ (λ i. put_node (c.new-nodes.ensures i) ((c.borrowed.ensures.value ∙ c.of_name-key.ensures) i) (c.empty-node.ensures.is i))))
+    (sym (was_ok c.insert-done.result c.in_ok-done.field-0 c.in_ok-done.was c.insert-done.ensures.ok ∙ (λ i. put_node (c.new-nodes.ensures i) ((c.borrowed.ensures.value ∙ c.of_name-key.ensures) i) (c.empty-node.ensures.is i))))
     (apex_tree c.in_ok-apex.apex c.args.class)

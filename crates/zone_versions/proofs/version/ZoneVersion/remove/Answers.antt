@@ -3,6 +3,8 @@ use Rattle.dns_name.specs.Names.{under}
 use Rattle.dns_rdata.specs.Records.{same_data}
 use Rattle.zone_model.specs.Version.{Version, data_at}
 use Rattle.zone_model.specs.Edits.{delete, put_set}
+use Rattle.zone_nodes.specs.Held.{counted}
+use Rattle.zone_nodes.specs.Trees.{built}
 use Rattle.zone_versions.specs.Puts.{without}
 use Rattle.zone_versions.proofs.Outcomes.{on_ok, sound_after}
 use Rattle.zone_versions.proofs.Sound.{delete_sound, delete_in_zone}
@@ -36,3 +38,9 @@ returns-clause-ok c =
     (λ e. e ∙ (λ i. put_set before (c.owner.ensures i) (data_is.rtype i) (record { ttl = c.ttl-ttl.ensures i; items = filter (λ d. not (same_data (data_is.fields i) d)) (data_at before (c.owner.ensures i) (data_is.rtype i)) }))
     ∙ ap (λ (v : Version). without v c.args.deleted.now) c.self.view_is)
     c.take_out.ensures.ok
+
+pub returns-clause-steps : goal.returns-clause-steps
+returns-clause-steps c =
+    on_ok c.take_out.result
+    (λ e. e ∙ (λ i. counted c.args.steps.now (built (c.self.view_is i) c.take_out.new.self (c.owner.ensures i) (c.data-item.ensures.rtype i))))
+    c.take_out.ensures.steps

@@ -1,6 +1,6 @@
 // Labels as text (RFC 1035, 5.1).
 ghost use Rattle.std.specs.Prelude.{Some, flat_map};
-ghost use Rattle.dns_label.specs.LabelText.{octet_text};
+ghost use Rattle.dns_name.specs.LabelText.{octet_text};
 
 use crate::label::Label;
 use crate::owned::OwnedLabel;

@@ -1,6 +1,6 @@
 // Numbers and octets at a place of a message (RFC 1035, 2.3.2).
 ghost use Rattle.std.specs.Prelude.{◌≡◌, ◌≤◌, ◌+◌, length, IfOk, OnErr, Some, None};
-ghost use Rattle.dns_label.specs.Octets.{octets_at, u16_at, u32_at, u48_at};
+ghost use Rattle.dns_name.specs.Octets.{octets_at, u16_at, u32_at, u48_at};
 
 use thiserror::Error;
 

@@ -1,8 +1,8 @@
 use Rattle.std.proofs.Common.{take}
 use Rattle.std.specs.Prelude.{flat_map}
 use Rattle.std.specs.Fmt.{HasWritten, IsPlainFormatter}
-use Rattle.dns_label.specs.LabelText.{octet_text}
-use Rattle.dns_label.proofs.text.LabelDisplay.fmt.Given as goal
+use Rattle.dns_name.specs.LabelText.{octet_text}
+use Rattle.dns_name.proofs.label_text.LabelDisplay.fmt.Given as goal
 
 abbrev pub invariant-loop-value : goal.invariant-loop-value
 invariant-loop-value g l =

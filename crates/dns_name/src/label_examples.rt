@@ -1,9 +1,9 @@
 // Worked examples, proved by computation.
 ghost use Rattle.std.specs.Prelude.{◌≡◌, ◌∷◌, ◌++◌, [], codes, flat_map, true, false};
 ghost use Rattle.std.specs.declared.cmp.Ordering.TheVariants.{Less, Greater};
-ghost use Rattle.dns_label.specs.Octets.{u48_octets};
-ghost use Rattle.dns_label.specs.LabelOrder.{same_label, label_cmp};
-ghost use Rattle.dns_label.specs.LabelText.{octet_text};
+ghost use Rattle.dns_name.specs.Octets.{u48_octets};
+ghost use Rattle.dns_name.specs.LabelOrder.{same_label, label_cmp};
+ghost use Rattle.dns_name.specs.LabelText.{octet_text};
 
 /// Labels compared without case, as strings of octets, and as text.
 pub fn labels()

@@ -1,7 +1,7 @@
 // Labels whose octets are lent.
 ghost use Rattle.std.specs.Prelude.{◌≡◌, ◌≤◌, ◌==◌, ◌∷◌, [], length, IfOk, OnErr, Some, refl};
 ghost use Rattle.std.specs.Str.{bytes_eq, str_to_ascii_lowercase};
-ghost use Rattle.dns_label.specs.LabelOrder.{same_label, same_label_equiv, same_label_per, label_cmp, label_total, label_ties, label_po, label_hash, same_label_hash};
+ghost use Rattle.dns_name.specs.LabelOrder.{same_label, same_label_equiv, same_label_per, label_cmp, label_total, label_ties, label_po, label_hash, same_label_hash};
 
 use crate::error::NameError;
 use crate::owned::OwnedLabel;

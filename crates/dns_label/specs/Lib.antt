@@ -1,3 +1,0 @@
-pub mod Octets
-pub mod LabelOrder
-pub mod LabelText
