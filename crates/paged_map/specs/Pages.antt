@@ -20,7 +20,7 @@ values_in ps = map arc_value ps
 
 -- how many entries a page has at most
 abbrev pub most : ℕ
-most = 64
+most = 256
 
 -- a page of a map: it has entries, and no more than fit
 abbrev pub IsFit : {X : Type 0} → List X → Type 0

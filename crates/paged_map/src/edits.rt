@@ -11,7 +11,7 @@ use std::alloc::{AllocError, Global};
 use std::sync::Arc;
 
 /// How many entries a page has at most.
-const MOST: usize = 64;
+const MOST: usize = 256;
 
 /// Puts an entry at a place of a page, which is copied first if others have it.
 fn put_in<V: Drop>(

@@ -3,7 +3,11 @@ use Rattle.std.proofs.Common.{◌≡◌, ℕ, zero, suc, ◌+◌, ◌-◌, ◌�
 use Rattle.std.specs.List.{slice_get}
 use Rattle.std.specs.Iterator.{YieldsFirst}
 use Rattle.std.proofs.lemmas.List.{reverse-append}
-use Rattle.zone_values.proofs.Writes.{missing}
+
+missing : {X : Type 0} (xs : List X) (n : ℕ) → slice_get xs n ≡ None → length xs ≤ n
+missing [] n h = omega arith
+missing (x ∷ xs) zero h = cc
+missing (x ∷ xs) (suc n) h = let rest = missing xs n h in omega arith
 
 one_more : {X : Type 0} (xs : List X) (n : ℕ) (x : X) → slice_get xs n ≡ Some x → take (suc n) xs ≡ take n xs ++ x ∷ []
 one_more [] n x h = cc

@@ -1,6 +1,5 @@
 pub mod TypedSets
 pub mod SameSets
-pub mod Histories
 pub mod Relative
 pub mod TypeRows
 pub mod DataIndex

@@ -1,6 +1,6 @@
 use Rattle.std.proofs.Common.{sym, ◌∙◌}
-use Rattle.zone_values.proofs.Writes.{rewritten}
-use Rattle.zone_values.proofs.versioned.write.Goals as goal
+use Rattle.zone_histories.proofs.Writes.{rewritten}
+use Rattle.zone_histories.proofs.versioned.write.Goals as goal
 
 -- The newest write is written anew.
 pub returns-then-is_newest-clause-ok : goal.returns-then-is_newest-clause-ok

@@ -1,7 +1,7 @@
 use Rattle.std.proofs.Common.{sym, ap, ◌∙◌, ◌≡◌, true, Some}
-use Rattle.zone_values.specs.Histories.{ascends, written}
-use Rattle.zone_values.proofs.Writes.{either, written_ascends}
-use Rattle.zone_values.proofs.versioned.Versioned.update.Goals as goal
+use Rattle.zone_histories.specs.Histories.{ascends, written}
+use Rattle.zone_histories.proofs.Writes.{either, written_ascends}
+use Rattle.zone_histories.proofs.versioned.Versioned.update.Goals as goal
 
 pub invariant_of-self : goal.invariant_of-self
 invariant_of-self g c =

@@ -1,6 +1,6 @@
 // Values by version.
 ghost use Rattle.std.specs.Prelude.{◌≡◌, ◌≤◌, ◌-◌, ◌==◌, not, is_some, [], true, false, nat_le, length, take, find, reverse, IsTrue, OnOk, OnErr, option_copied};
-ghost use Rattle.zone_values.specs.Histories.{next_version, ascends, is_upto, value_at, before, written, removed};
+ghost use Rattle.zone_histories.specs.Histories.{next_version, ascends, is_upto, value_at, before, written, removed};
 
 use std::alloc::{AllocError, Global};
 use std::marker::Model;
@@ -71,7 +71,7 @@ pub struct Versioned<T: Drop> {
 
 impl<T: Drop> Model for Versioned<T> {
     ghost use Rattle.std.specs.Prelude.{IsTrue};
-    ghost use Rattle.zone_values.specs.Histories.{History, ascends};
+    ghost use Rattle.zone_histories.specs.Histories.{History, ascends};
 
     ghost Value = { History T };
 

@@ -1,5 +1,5 @@
-use Rattle.zone_values.proofs.Values.{written_value, removed_value, kept_before, undone}
-use Rattle.zone_values.proofs.laws.writes_hold.Goals as goal
+use Rattle.zone_histories.proofs.Values.{written_value, removed_value, kept_before, undone}
+use Rattle.zone_histories.proofs.laws.writes_hold.Goals as goal
 
 pub returns-clause-written : goal.returns-clause-written
 returns-clause-written g c = written_value

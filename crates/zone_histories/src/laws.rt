@@ -1,6 +1,6 @@
 // Laws of the definitions, each the contract of a function with an empty body.
 ghost use Rattle.std.specs.Prelude.{◌≡◌, ℕ, IsTrue, nat_lt, Option, None, if◌then◌else◌};
-ghost use Rattle.zone_values.specs.Histories.{History, is_upto, value_at, before, written, removed};
+ghost use Rattle.zone_histories.specs.Histories.{History, is_upto, value_at, before, written, removed};
 
 /// A write holds from its version on, and changes no earlier one; a value that is taken away is none from there on; and without the writes from a
 /// version on, earlier versions stay, and the last write is undone.

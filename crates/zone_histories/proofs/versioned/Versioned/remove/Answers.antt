@@ -1,7 +1,7 @@
 use Rattle.std.proofs.Common.{sym, ap, ◌∙◌, ◌≡◌, ◌==◌, length, not, true, None}
-use Rattle.zone_values.specs.Histories.{ascends, before, written, removed}
-use Rattle.zone_values.proofs.Writes.{either, on_ok, taken_away, written_ascends}
-use Rattle.zone_values.proofs.versioned.Versioned.remove.Goals as goal
+use Rattle.zone_histories.specs.Histories.{ascends, before, written, removed}
+use Rattle.zone_histories.proofs.Writes.{either, on_ok, taken_away, written_ascends}
+use Rattle.zone_histories.proofs.versioned.Versioned.remove.Goals as goal
 
 pub invariant_of-self : goal.invariant_of-self
 invariant_of-self g c = ap ascends c.clear.ensures.items

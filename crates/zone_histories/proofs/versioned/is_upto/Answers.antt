@@ -1,7 +1,7 @@
 use Rattle.std.proofs.Common.{sym, ap, ◌∙◌}
-use Rattle.zone_values.specs.Histories.{is_upto}
-use Rattle.zone_values.proofs.Writes.{le_cmp, tells_upto, nothing_last}
-use Rattle.zone_values.proofs.versioned.is_upto.Goals as goal
+use Rattle.zone_histories.specs.Histories.{is_upto}
+use Rattle.zone_histories.proofs.Writes.{le_cmp, tells_upto, nothing_last}
+use Rattle.zone_histories.proofs.versioned.is_upto.Goals as goal
 
 pub returns-in-Some : goal.returns-in-Some
 returns-in-Some g c =

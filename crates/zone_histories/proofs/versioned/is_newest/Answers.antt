@@ -1,7 +1,7 @@
 use Rattle.std.proofs.Common.{sym, ap, ◌∙◌}
-use Rattle.zone_values.specs.Histories.{before}
-use Rattle.zone_values.proofs.Writes.{but_last, all_before, nothing_last, some_last}
-use Rattle.zone_values.proofs.versioned.is_newest.Goals as goal
+use Rattle.zone_histories.specs.Histories.{before}
+use Rattle.zone_histories.proofs.Writes.{but_last, all_before, nothing_last, some_last}
+use Rattle.zone_histories.proofs.versioned.is_newest.Goals as goal
 
 pub returns-in-Some-clause-found : goal.returns-in-Some-clause-found
 returns-in-Some-clause-found g c h = (

@@ -7,8 +7,8 @@ use Rattle.std.proofs.lemmas.Bool.Decides.{nat_tests}
 use Rattle.std.proofs.lemmas.List.{append-nil, reverse-append}
 use Rattle.std.proofs.lemmas.List.Elements.{filter-append}
 use Rattle.std.proofs.lemmas.List.Folds.{list_all-append}
-use Rattle.zone_values.specs.Histories.{History, is_upto, value_at, before, written, removed}
-use Rattle.zone_values.proofs.Writes.{both, all_weaker, filter_all, filtered_pass, empty_list}
+use Rattle.zone_histories.specs.Histories.{History, is_upto, value_at, before, written, removed}
+use Rattle.zone_histories.proofs.Writes.{both, all_weaker, filter_all, filtered_pass, empty_list}
 
 -- ---- lists turned
 
