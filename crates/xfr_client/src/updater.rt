@@ -19,7 +19,8 @@ use dns_rdata::{ReadRecord, RecordData, Soa, ZoneRecordData};
 use std::alloc::{AllocError, Global};
 use std::marker::Model;
 use zone_diffs::InMemoryZoneDiff;
-use zone_sessions::{CommitError, EditError, ReadZone, WriteZone};
+use zone_reads::ReadZone;
+use zone_sessions::{CommitError, EditError, WriteZone};
 
 /// Applies the updates of one transfer to a writing session (RFC 5936, 3; RFC 1995, 4).
 ///

@@ -4,12 +4,12 @@ ghost use Rattle.xfr_services.specs.Items.{Sending, Gives, NextOf};
 ghost use Rattle.xfr_replies.specs.PulledStreams.{Continues, PulledLeft, Pulls, PullsFewer, SendsText, messages_left, pulled_left};
 ghost use Rattle.xfr_replies.specs.declared.transfer_replies.Stage.TheVariants.{Records};
 
+use crate::text::TransferText;
 use dns_name::Rcode;
 use dns_wire::{AnswerBuilder, MessageBuf, PushError};
 use std::alloc::Global;
 use xfr_batch::{CallbackBatcher, PushResult, ReadyMessages, XfrRrBatcher};
 use xfr_services::{CallResult, ReplyStream, ServiceError, ServiceFeedback, replies};
-use xfr_text::TransferText;
 
 /// What a stream gives next.
 #[derive(Clone, Copy, Debug, PartialEq, Eq)]

@@ -17,7 +17,7 @@ use Rattle.xfr_server.specs.declared.transfer.Short.{Short}
 use Rattle.xfr_server.specs.declared.transfer.Short.TheVariants.{Error, SoaAlone}
 use Rattle.xfr_services.specs.declared.services.CallResult.{CallResult}
 use Rattle.xfr_services.specs.declared.services.ServiceError.{ServiceError}
-use Rattle.xfr_server.specs.declared.providers.XfrDataProviderError.{XfrDataProviderError}
+use Rattle.xfr_providers.specs.declared.providers.XfrDataProviderError.{XfrDataProviderError}
 use Rattle.xfr_services.specs.declared.modes.XfrMode.{XfrMode}
 
 here : (told : Option ℕ → Result Offer XfrDataProviderError) (mode : XfrMode) (udp : Bool) (message : List ℕ) (offer : Offer)

@@ -1,6 +1,3 @@
-pub mod Outdated
-pub mod Histories
-pub mod Granted
 pub mod Headers
 pub mod Answers
 pub mod Adding

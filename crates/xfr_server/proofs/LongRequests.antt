@@ -26,7 +26,7 @@ use Rattle.xfr_server.specs.Requests.{with_metadata}
 use Rattle.xfr_server.specs.Transfers.{Choice, transfer_mode, soa_reply, udp_reply, sent_once, chosen, reply_limit, is_udp, SendsChoice}
 use Rattle.xfr_server.specs.Transfers.Choice.{Refuse, SoaAlone, Text}
 use Rattle.xfr_server.specs.Serving.{SendsIn, SendsTransfer}
-use Rattle.xfr_server.specs.declared.providers.XfrDataProviderError.{XfrDataProviderError}
+use Rattle.xfr_providers.specs.declared.providers.XfrDataProviderError.{XfrDataProviderError}
 use Rattle.xfr_services.specs.declared.modes.XfrMode.{XfrMode}
 
 -- ---- one reply

@@ -29,7 +29,7 @@ use Rattle.xfr_server.specs.SignedServing.{signer_for}
 use Rattle.xfr_server.specs.GrantedTransfers.{begins_with_soa}
 use Rattle.xfr_server.specs.SignedAnswers.{SendsNothing}
 use Rattle.xfr_services.specs.Failing.{bare_len}
-use Rattle.xfr_server.specs.declared.providers.XfrDataProviderError.{XfrDataProviderError}
+use Rattle.xfr_providers.specs.declared.providers.XfrDataProviderError.{XfrDataProviderError}
 use Rattle.xfr_services.specs.declared.requests.Request.{Request}
 use Rattle.xfr_services.specs.declared.services.ServiceFeedback.TheVariants.{BeginTransaction, EndTransaction}
 use Rattle.xfr_services.specs.declared.signing.Signing.TheVariants.{First, All}

@@ -27,7 +27,7 @@ use Rattle.xfr_server.specs.SignedServing.{SendsBy, SendsSigned, accepted_reques
 use Rattle.xfr_server.specs.GrantedTransfers.{IsSentInTurn}
 use Rattle.xfr_server.specs.SignedAnswers.{soa_answer, udp_answer, Tell, IsAccepted, TransferIsAnswered, OtherIsHandedOn}
 use Rattle.xfr_services.specs.Failing.{bare_len}
-use Rattle.xfr_server.specs.declared.providers.XfrDataProviderError.{XfrDataProviderError}
+use Rattle.xfr_providers.specs.declared.providers.XfrDataProviderError.{XfrDataProviderError}
 use Rattle.xfr_services.specs.declared.requests.Request.{Request}
 use Rattle.xfr_services.specs.declared.services.ServiceFeedback.TheVariants.{BeginTransaction, EndTransaction}
 use Rattle.xfr_services.specs.declared.signing.Signing.TheVariants.{First, All}

@@ -3,7 +3,6 @@ pub use Rattle.xfr_services.specs.Items
 pub use Rattle.xfr_services.specs.Replying
 pub use Rattle.xfr_services.specs.Signing
 pub use Rattle.xfr_services.specs.SignedServing
-pub mod Offers
 pub mod TransferMessage
 pub mod Transfers
 pub mod Choosing

@@ -5,7 +5,7 @@ use Rattle.xfr_server.specs.Items.{Sending}
 use Rattle.xfr_server.specs.Requests.{with_metadata}
 use Rattle.xfr_server.specs.Transfers.{transfer_mode, SendsAnswer}
 use Rattle.xfr_services.specs.declared.requests.Request.{Request}
-use Rattle.xfr_server.specs.declared.providers.XfrDataProviderError.{XfrDataProviderError}
+use Rattle.xfr_providers.specs.declared.providers.XfrDataProviderError.{XfrDataProviderError}
 use Rattle.xfr_services.specs.declared.modes.XfrMode.{XfrMode}
 
 -- what the next service sends to the request with default metadata

@@ -22,7 +22,7 @@ use Rattle.xfr_server.specs.Transfers.{Choice, chosen, transfer_mode, most_octet
 use Rattle.xfr_server.specs.Transfers.Choice.{Refuse, SoaAlone, Text}
 use Rattle.xfr_server.specs.GrantedTransfers.{IsSentInTurn}
 use Rattle.xfr_services.specs.Failing.{bare_len}
-use Rattle.xfr_server.specs.declared.providers.XfrDataProviderError.{XfrDataProviderError}
+use Rattle.xfr_providers.specs.declared.providers.XfrDataProviderError.{XfrDataProviderError}
 use Rattle.xfr_services.specs.declared.requests.Request.{Request}
 use Rattle.xfr_services.specs.declared.signing.Signing.TheVariants.{First}
 use Rattle.xfr_services.specs.declared.modes.XfrMode.{XfrMode}

@@ -20,8 +20,8 @@ use Rattle.xfr_replies.specs.TransferPages.{page_answer, page_message}
 use Rattle.xfr_replies.specs.PulledStreams.{SendsText}
 use Rattle.xfr_services.specs.declared.requests.TransportSpecificContext.{TransportSpecificContext}
 use Rattle.xfr_services.specs.declared.requests.TransportSpecificContext.TheVariants.{Udp, NonUdp}
-use Rattle.xfr_server.specs.declared.providers.XfrDataProviderError.{XfrDataProviderError}
-use Rattle.xfr_server.specs.declared.providers.XfrDataProviderError.TheVariants.{ParseError, UnknownZone, Refused, TemporarilyUnavailable, Memory}
+use Rattle.xfr_providers.specs.declared.providers.XfrDataProviderError.{XfrDataProviderError}
+use Rattle.xfr_providers.specs.declared.providers.XfrDataProviderError.TheVariants.{ParseError, UnknownZone, Refused, TemporarilyUnavailable, Memory}
 use Rattle.xfr_services.specs.declared.modes.XfrMode.{XfrMode}
 pub use Rattle.xfr_services.specs.Modes.{mode_of_type, is_ixfr}
 

@@ -8,14 +8,14 @@ ghost use Rattle.zone_model.specs.ZoneRows as rows;
 ghost use Rattle.xfr_model.specs.ReplyRows as replies;
 ghost use Rattle.xfr_replies.specs.TransferPages.{page_answer};
 ghost use Rattle.xfr_server.specs.AnswerRows.{request_of};
-ghost use Rattle.xfr_server.specs.Offers.{offer_alone};
+ghost use Rattle.xfr_providers.specs.Offers.{offer_alone};
 ghost use Rattle.xfr_server.specs.SentTexts.{sent_records};
 ghost use Rattle.xfr_server.specs.SignedAnswers.{udp_answer};
 ghost use Rattle.xfr_server.specs.Transfers as transfers;
 ghost use Rattle.xfr_server.specs.Transfers.Choice.{Refuse, SoaAlone, Text};
 ghost use Rattle.xfr_services.specs.declared.modes.XfrMode.TheVariants.{Axfr, Ixfr};
 ghost use Rattle.xfr_services.specs.declared.requests.TransportSpecificContext.TheVariants.{Udp, NonUdp};
-ghost use Rattle.xfr_server.specs.declared.providers.XfrDataProviderError.TheVariants.{ParseError, UnknownZone, Refused, TemporarilyUnavailable};
+ghost use Rattle.xfr_providers.specs.declared.providers.XfrDataProviderError.TheVariants.{ParseError, UnknownZone, Refused, TemporarilyUnavailable};
 
 /// The parts of a choice: types that ask for a transfer, rcodes of refusals, octets that a reply may have, and versions that are no news.
 pub fn part_row()

@@ -3,7 +3,6 @@ ghost use Rattle.std.specs.Prelude.{◌≡◌, ℕ, true, List, Option};
 ghost use Rattle.tsig_port.specs.Tsig.{TsigKey};
 ghost use Rattle.zone_model.specs.Offer.{Offer};
 ghost use Rattle.xfr_server.specs.Items.{Sending};
-ghost use Rattle.xfr_server.specs.Offers.{CommitsMayBePushed, HistoryGrants, HistoryIsOffered};
 ghost use Rattle.xfr_server.specs.SentTexts.{TextIsChosen};
 ghost use Rattle.xfr_server.specs.GrantedTransfers.{SendsWhole, TextsBegin, WholeIsTaken, TransferIsMessage};
 ghost use Rattle.xfr_server.specs.SignedAnswers.{OtherIsHandedOn, TransferIsAnswered};
@@ -74,19 +73,4 @@ pub fn primaries_fail_where_long<
 >()
     ensures { (next : N) (provider : X) (keys : KS) → FailsWhereLong (N.Sends next) → (r : RequestOf (Unit {0})) (sent : Option (List Sending))
         → ⟦<PrimaryStack<N, X, KS> as Service<()>>⟧.Sends ((next, provider), keys) r sent → fails sent ≡ true → IsTooLong r (verdict (KS.key_of keys) r.at r.message) }
-{}
-
-/// A provider with a history offers what it keeps to one who signed with a key that it grants.
-pub fn granted_keys_are_offered()
-    ensures { HistoryGrants }
-{}
-
-/// What a provider with a history offers has a history too, which ends in the version offered: no difference is of another version.
-pub fn histories_are_offered()
-    ensures { HistoryIsOffered }
-{}
-
-/// What a commit tells may be pushed, with the version that it publishes, to a provider that keeps the version before it.
-pub fn commits_may_be_pushed()
-    ensures { CommitsMayBePushed }
 {}

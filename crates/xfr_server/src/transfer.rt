@@ -12,7 +12,6 @@ ghost use Rattle.xfr_server.specs.Choosing.{Chooses, choice_shown, short_sent, i
 ghost use Rattle.xfr_server.specs.Streams.{items_left, TransferLeft};
 ghost use Rattle.xfr_services.specs.declared.services.CallResult.{CallResult as Item};
 
-use crate::providers::{XfrData, XfrDataProvider, XfrDataProviderError};
 use crate::transfer_message;
 use dns_name::{Opcode, Rcode, Rtype, Serial, ToName};
 use dns_rdata::{ParsedRecord, ZoneRecordData};
@@ -20,13 +19,13 @@ use dns_wire::{Message, MessageBuf, PushError, RecordSection};
 use std::alloc::Global;
 use std::cmp::Ordering;
 use std::marker::Model;
-use xfr_replies::TransferReplies;
+use xfr_providers::{XfrData, XfrDataProvider, XfrDataProviderError};
+use xfr_replies::{TransferReplies, TransferText, are_sendable};
 use xfr_services::{
     CallResult, Replies, ReplyStream, Request, Service, ServiceError, TransportSpecificContext,
     XfrMode, replies,
 };
-use xfr_text::{TransferText, are_sendable};
-use zone_sessions::ReadZone;
+use zone_reads::ReadZone;
 
 /// The most octets of a message by UDP, where the requestor says nothing else (RFC 1035, 2.3.4).
 const MAX_UDP_LEN: u16 = 512;

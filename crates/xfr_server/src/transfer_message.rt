@@ -15,8 +15,8 @@ use dns_name::{Labelled, Rtype, Serial, ToName};
 use dns_rdata::{Record, StoredRecordData, ZoneRecordData};
 use dns_wire::{AdditionalBuilder, AnswerBuilder, MessageBuf, PushError};
 use std::alloc::Global;
-use xfr_text::TransferText;
-use zone_sessions::ReadZone;
+use xfr_replies::TransferText;
+use zone_reads::ReadZone;
 
 /// The serial of a zone; None where it doesn't have exactly one apex SOA record.
 pub fn zone_serial(zone: &ReadZone) -> Option<Serial>

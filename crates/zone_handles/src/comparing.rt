@@ -8,7 +8,7 @@ ghost use Rattle.zone_handles.specs.Stops.{same_stop};
 
 use dns_name::ToName;
 use dns_rdata::StoredRecordData;
-use zone_sessions::{ReadZone, WalkItem};
+use zone_reads::{ReadZone, WalkItem};
 
 /// Whether two versions have sets of the same owners, types and TTLs with the same data, but for the order of a set's data and the case of
 /// letters in names (RFC 2181, 5; RFC 4343). Apex and class aren't looked at. Within a set each datum is compared with each of the other's.

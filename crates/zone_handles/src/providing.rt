@@ -6,9 +6,10 @@ use crate::zones::{Zone, ZoneStore};
 use dns_name::{ParsedName, Serial, ToName};
 use dns_wire::Question;
 use std::alloc::{AllocError, Global};
-use xfr_server::{StoredZone, XfrData, XfrDataProvider, XfrDataProviderError, current_data};
+use xfr_providers::{StoredZone, XfrData, XfrDataProvider, XfrDataProviderError, current_data};
 use xfr_services::Request;
-use zone_sessions::{ReadZone, ZoneApex};
+use zone_reads::ReadZone;
+use zone_sessions::ZoneApex;
 
 impl StoredZone for Zone<ZoneApex> {
     ghost current = { λ z. z.version };
@@ -31,7 +32,7 @@ impl Zone<ZoneApex> {
 /// A zone gives its current version, without differences, to whoever asks for its apex and class.
 impl<M> XfrDataProvider<M> for Zone<ZoneApex> {
     ghost use Rattle.dns_wire.specs.Parse.{sole_question_in};
-    ghost use Rattle.xfr_server.specs.Offers.{zone_answer};
+    ghost use Rattle.xfr_providers.specs.Offers.{zone_answer};
 
     ghost told = { λ z message metadata asked. zone_answer z.version (sole_question_in message) };
 

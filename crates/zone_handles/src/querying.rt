@@ -6,7 +6,7 @@ use dns_name::{Rtype, ToName};
 use std::alloc::Global;
 use zone_answer::Answer;
 use zone_lookup::look_up;
-use zone_sessions::ReadZone;
+use zone_reads::ReadZone;
 
 /// What the handle's version has for a name and a type, with records of the answer's own (RFC 1034, 4.3.2; RFC 4592). `OutOfZone` exactly where the
 /// name is neither the apex nor below it, `Memory` only where memory runs out.

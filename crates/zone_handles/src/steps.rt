@@ -11,7 +11,8 @@ use crate::zone_edits::{ZoneEdit, make_edit};
 use dns_name::{Rtype, ToName};
 use std::alloc::{AllocError, Global};
 use zone_lookup::{AnswerRef, look_up};
-use zone_sessions::{CommitError, ReadZone, WriteZone};
+use zone_reads::ReadZone;
+use zone_sessions::{CommitError, WriteZone};
 
 /// One step of a zone's history.
 #[derive(Drop)]

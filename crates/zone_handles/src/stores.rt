@@ -14,7 +14,7 @@ use dns_name::{Labelled, Rtype, ToName};
 use std::alloc::Global;
 use zone_answer::Answer;
 use zone_lookup::{AnswerRef, OutOfZone, look_up};
-use zone_sessions::{ReadZone, WalkItem};
+use zone_reads::{ReadZone, WalkItem};
 
 /// A read handle: one version of a zone, whatever keeps it.
 pub trait ReadableZone {

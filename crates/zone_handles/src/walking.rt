@@ -3,7 +3,7 @@ ghost use Rattle.std.specs.Prelude.{◌≡◌};
 ghost use Rattle.std.specs.List.{FoldsTo};
 ghost use Rattle.zone_model.specs.Walk.{walk as walk_of};
 
-use zone_sessions::{ReadZone, WalkItem};
+use zone_reads::{ReadZone, WalkItem};
 
 /// Hands each set of the version to `visit`, once, with its owner and type and whether a zone cut stands at the owner or above it: owners
 /// in canonical order, types ascending (RFC 4034, 6.1).

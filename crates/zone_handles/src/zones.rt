@@ -5,7 +5,8 @@ use crate::stores::ReadableZone;
 use dns_name::{Class, StoredName};
 use std::alloc::{AllocError, Global};
 use std::marker::Model;
-use zone_sessions::{ReadZone, WriteZone, ZoneApex};
+use zone_reads::ReadZone;
+use zone_sessions::{WriteZone, ZoneApex};
 use zone_tree::AtApex;
 
 /// What keeps a zone: it knows its class and apex, and gives read handles.

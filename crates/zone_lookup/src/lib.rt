@@ -11,11 +11,13 @@ mod content;
 mod laws;
 mod look_up_steps;
 mod owning;
+mod queries;
 mod question;
 mod records;
 mod sections;
 
 pub use answer_ref::AnswerRef;
+pub use queries::{Queries, Query};
 pub use question::look_up;
 pub use records::AnswerRecord;
 pub use sections::AnswerRecords;

@@ -7,7 +7,7 @@ ghost use Rattle.zone_lookup.specs.Answers.{answered_by};
 use crate::answer_ref::AnswerRef;
 use crate::look_up_steps::answer;
 use dns_name::{Rtype, ToName};
-use zone_sessions::ReadZone;
+use zone_reads::ReadZone;
 use zone_values::OutOfZone;
 
 /// What the handle's version has for a name and a type, without a copy and in no memory: the highest zone cut at or above the name refers, but DS

@@ -7,9 +7,8 @@ use crate::numbers::append_number;
 use dns_name::{Rcode, StoredName};
 use dns_rdata::ComposeRecord;
 use std::alloc::{AllocError, Global};
-use zone_lookup::{AnswerRecord, AnswerRecords, AnswerRef, OutOfZone, look_up};
-use zone_script::queries::Query;
-use zone_sessions::ReadZone;
+use zone_lookup::{AnswerRecord, AnswerRecords, AnswerRef, OutOfZone, Query, look_up};
+use zone_reads::ReadZone;
 
 /// What a version answers to questions, in order: for each `answer RCODE AA`, AA 1 where the zone has authority, with a line `an HEX`,
 /// `au HEX` or `ad HEX` for each record of the three sections; or `answer out-of-zone`.

@@ -8,7 +8,7 @@ ghost use Rattle.zone_report.specs.Lines.{stop_lines, set_record, item_line};
 use dns_name::Class;
 use dns_rdata::{ComposeRecord, Record, StoredRecordData};
 use std::alloc::{AllocError, Global};
-use zone_sessions::{ReadZone, WalkItem};
+use zone_reads::{ReadZone, WalkItem};
 
 /// A line `rr F HEX` for each record of a version, owners in canonical order (RFC 4034, 6.1), types ascending; F is 1 at or below a
 /// zone cut.

@@ -4,7 +4,7 @@ ghost use Rattle.std.specs.Prelude.{◌≡◌, ◌++◌, ◌∷◌, [], OnOk, On
 use std::alloc::{AllocError, Global};
 use std::marker::Model;
 use zone_diffs::InMemoryZoneDiff;
-use zone_sessions::ReadZone;
+use zone_reads::ReadZone;
 
 /// The versions that were committed after the opening one, in order: each as a handle, with its difference from the one before, where there is one to
 /// tell (RFC 1995, 2).

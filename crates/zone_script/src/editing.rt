@@ -13,12 +13,12 @@ ghost use Rattle.zone_script.specs.Causes.{line_in, edit_cause};
 use crate::commits::Commits;
 use crate::fields::{Change, Line, read_line};
 use crate::lines::{is_skipped, next_line};
-use crate::queries::Queries;
 use crate::script::ScriptError;
 use dns_name::{Class, Rtype, StoredName};
 use dns_rdata::StoredRecord;
 use std::alloc::{AllocError, Global};
 use zone_diffs::InMemoryZoneDiff;
+use zone_lookup::Queries;
 use zone_sessions::{CommitError, EditError, WriteZone};
 
 /// What was read besides the edits that are pending in the primary's session.

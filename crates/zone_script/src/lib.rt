@@ -7,7 +7,6 @@ mod fields;
 mod lines;
 pub mod numbers;
 mod opening;
-pub mod queries;
 mod reading;
 pub mod script;
 pub mod words;

@@ -11,13 +11,14 @@ ghost use Rattle.zone_script.specs.Causes.{line_in};
 use crate::commits::Commits;
 use crate::editing::{Editing, read_rest};
 use crate::lines::next_line;
-use crate::queries::Queries;
 use crate::reading::{Opened, Reading};
 use std::alloc::{AllocError, Global};
 use thiserror::Error;
 use tsig_port::{Key, Time48};
+use zone_lookup::Queries;
+use zone_reads::ReadZone;
 use zone_records::zone_files_open;
-use zone_sessions::{ReadZone, ZoneApex};
+use zone_sessions::ZoneApex;
 
 /// What a script says.
 #[derive(Drop)]

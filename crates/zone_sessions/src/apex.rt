@@ -6,12 +6,12 @@ ghost use Rattle.zone_model.specs.Version.{set_at};
 ghost use Rattle.zone_values.specs.Relative.{labels_below};
 ghost use Rattle.zone_values.specs.TypedEntries.{typed};
 
-use crate::read::ReadZone;
 use crate::write::WriteZone;
 use dns_name::{Class, Rtype, StoredName, ToName};
 use std::alloc::{AllocError, Global};
 use std::marker::Model;
 use std::sync::Arc;
+use zone_reads::ReadZone;
 use zone_values::{OutOfZone, RelNameRevIter, Rrset, rel_name_rev_iter};
 use zone_versions::ZoneVersion;
 

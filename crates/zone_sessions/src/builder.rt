@@ -9,13 +9,13 @@ ghost use Rattle.zone_versions.specs.Puts.{adds_alias};
 
 use crate::apex::ZoneApex;
 use crate::opening::Opening;
-use crate::read::ReadZone;
 use dns_name::{Class, KeyName, Labelled, StoredName, ToName};
 use dns_rdata::StoredRecord;
 use std::alloc::{AllocError, Global};
 use std::marker::Model;
 use std::sync::Arc;
 use zone_errors::{ContextError, InsertCnameError, InsertCutError, InsertError};
+use zone_reads::ReadZone;
 use zone_records::{FileError, Zonefile};
 use zone_values::{Rrset, SharedRr, SharedRrset};
 use zone_versions::is_bad_alias;

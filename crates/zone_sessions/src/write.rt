@@ -15,7 +15,6 @@ ghost use Rattle.zone_changes.specs.Drafts.{draft};
 ghost use Rattle.zone_sessions.specs.Pending.{told_of};
 
 use crate::apex::ZoneApex;
-use crate::read::ReadZone;
 use dns_name::{StoredName, Ttl};
 use dns_rdata::{ReadRecord, Soa, StoredRecord, StoredRecordData};
 use std::alloc::{AllocError, Global};
@@ -23,6 +22,7 @@ use std::marker::Model;
 use zone_changes::Draft;
 use zone_diffs::InMemoryZoneDiff;
 use zone_errors::CommitError;
+use zone_reads::ReadZone;
 use zone_sets::SetKey;
 use zone_versions::{EditError, NodeCount, ZoneVersion};
 

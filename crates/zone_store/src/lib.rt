@@ -42,7 +42,8 @@ pub use zone_handles::{
     begin_again, is_same, make_step, make_steps, walk,
 };
 pub use zone_lookup::look_up;
+pub use zone_reads::{ReadZone, RrsetIter, WalkItem};
 pub use zone_sessions::{
-    CommitError, EditError, InsertError, NodeError, ReadZone, RrsetIter, UpdateError, WalkItem,
-    WriteNode, WriteZone, ZoneApex, ZoneBuilder,
+    CommitError, EditError, InsertError, NodeError, UpdateError, WriteNode, WriteZone, ZoneApex,
+    ZoneBuilder,
 };

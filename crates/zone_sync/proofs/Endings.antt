@@ -10,7 +10,7 @@ use Rattle.zone_model.specs.Offer.{Provider, is_granted}
 use Rattle.zone_model.specs.TransferText.{Mode}
 use Rattle.zone_model.proofs.Folded.{same_name-Decides}
 use Rattle.xfr_server.specs.Items.{Sending}
-use Rattle.xfr_server.specs.Offers.{key_id}
+use Rattle.xfr_providers.specs.Offers.{key_id}
 use Rattle.zone_sync.specs.SoFar.{Asking, asked_octets}
 use Rattle.zone_sync.specs.Fitting.{Fits}
 use Rattle.zone_sync.specs.Grants.{history_offer}

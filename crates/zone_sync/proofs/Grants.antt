@@ -28,10 +28,10 @@ use Rattle.xfr_model.specs.Messages.{HaveData}
 use Rattle.xfr_replies.specs.TransferPages.{page_room}
 use Rattle.xfr_server.specs.GrantedTransfers.{IsGrantedTransfer}
 use Rattle.xfr_server.specs.SentTexts as served
-use Rattle.xfr_server.specs.Offers.{answer_to, key_id}
+use Rattle.xfr_providers.specs.Offers.{answer_to, key_id}
 use Rattle.xfr_server.specs.Transfers.{transfer_mode, asked_serial, asks_for_apex}
-use Rattle.xfr_server.specs.declared.providers.XfrDataProviderError.{XfrDataProviderError}
-use Rattle.xfr_server.proofs.Granted.{history_grants}
+use Rattle.xfr_providers.specs.declared.providers.XfrDataProviderError.{XfrDataProviderError}
+use Rattle.xfr_providers.proofs.Granted.{history_grants}
 use Rattle.xfr_course.specs.Granting.{in_singles}
 use Rattle.zone_sync.specs.Modes.{mode_of}
 use Rattle.zone_sync.specs.SoFar.{Asking, request_message, asked_question, asked_authority, asked_octets}

@@ -16,7 +16,7 @@ use Rattle.zone_devices.specs.Calls.{Rose}
 use Rattle.zone_devices.specs.Links.{LinkLists}
 use Rattle.zone_devices.specs.Streams.{with_more}
 use Rattle.xfr_server.specs.Items.{Sending}
-use Rattle.xfr_server.specs.Offers.{key_id}
+use Rattle.xfr_providers.specs.Offers.{key_id}
 use Rattle.zone_script.specs.Words.{Form, Transfer}
 use Rattle.zone_script.specs.Script.{Script, script_of, committed_by, secondary_version}
 use Rattle.zone_script.specs.declared.script.Script as read_scripts

@@ -34,7 +34,8 @@ use xfr_client::{
 };
 use xfr_services::XfrMode;
 use zone_diffs::serial_of;
-use zone_sessions::{ReadZone, WriteZone};
+use zone_reads::ReadZone;
+use zone_sessions::WriteZone;
 
 /// A request that was made, and how far its replies have led.
 #[derive(Drop)]

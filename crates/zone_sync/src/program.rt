@@ -31,10 +31,10 @@ use zone_devices::links::Link;
 use zone_devices::read_to_end::{MOST_OCTETS, ReadError, read_whole};
 use zone_devices::sinks::{Sink, write_all};
 use zone_devices::sources::Source;
+use zone_reads::ReadZone;
 use zone_script::commits::Commits;
 use zone_script::script::{Script, ScriptError, parse};
 use zone_script::words::transfer_of;
-use zone_sessions::ReadZone;
 
 /// The usage line.
 const USAGE: &[u8] = b"usage: zonesync axfr [K] / ixfr [K] / gen N SEED\n";

@@ -6,9 +6,9 @@ ghost use Rattle.zone_sync.specs.Report.{report};
 use crate::outcome::{SyncError, SyncOk};
 use crate::outcome_line::append_outcome;
 use std::alloc::{AllocError, Global};
+use zone_lookup::Query;
+use zone_reads::ReadZone;
 use zone_report::{append_answers, append_walk};
-use zone_script::queries::Query;
-use zone_sessions::ReadZone;
 
 /// The report of a transfer: the answer's line, with the number of versions made where it ended well, and a line `rr F HEX` for
 /// each record of a version, owners in canonical order, types ascending; F is 1 at or below a zone cut. Then what the version answers to the

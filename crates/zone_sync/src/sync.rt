@@ -19,7 +19,8 @@ use tsig_port::{Key, Time48};
 use xfr_server::{ReplyStream, Request, Service, TransportSpecificContext};
 use xfr_services::XfrMode;
 use zone_devices::links::Link;
-use zone_sessions::{ReadZone, WriteZone};
+use zone_reads::ReadZone;
+use zone_sessions::WriteZone;
 
 /// How many replies a secondary takes in one transfer.
 pub const MOST_REPLIES: u32 = 65_536;

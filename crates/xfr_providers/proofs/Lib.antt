@@ -1,0 +1,3 @@
+pub mod Granted
+mod Histories
+mod Outdated

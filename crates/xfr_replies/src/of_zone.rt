@@ -1,0 +1,87 @@
+// Places in the zone: its SOA record, and its sets in order.
+ghost use Rattle.std.specs.Prelude.{◌≡◌, ◌++◌};
+ghost use Rattle.dns_name.specs.Names.{fold};
+ghost use Rattle.zone_model.specs.Version.{Sets};
+ghost use Rattle.zone_model.specs.Answer.{apex_soa_record};
+ghost use Rattle.xfr_replies.specs.Places.{Begins};
+ghost use Rattle.xfr_replies.specs.Sides.{behind, middle_of};
+ghost use Rattle.xfr_replies.specs.Steps.{HeadsAt, SkipsApexSoa, is_soa_stop, soa_place};
+
+use crate::place::{Part, Place};
+use dns_name::{KeyName, Labelled, Rtype, ToName};
+use zone_reads::{ReadZone, WalkItem};
+
+/// The place of the apex SOA record in a part of the text, if there is one.
+pub(crate) fn soa_place(zone: &ReadZone, part: Part) -> Option<Place>
+    ensures { result ≡ soa_place zone.now.version part }
+{
+    let found = zone.rrset_at(zone.apex_name(), Rtype::SOA)?;
+    if found.data().is_empty() {
+        return None;
+    }
+    let apex = zone.apex_name().to_key_name();
+    Some(Place::first_of(part, apex, Rtype::SOA))
+}
+
+/// The SOA record that ends the text.
+pub(crate) fn last_place(zone: &ReadZone) -> Option<Place>
+    ensures { (ds : _) → Begins zone.now.version ds (apex_soa_record zone.now.version) result }
+{
+    soa_place(zone, Part::Last)
+}
+
+/// The first set of the zone.
+#[tactic(auto, using(crate::proofs::Stops::heads_at_first))]
+pub(crate) fn first_stop(zone: &ReadZone) -> Option<WalkItem<'_>>
+    ensures { HeadsAt zone.now.version zone.now.version.sets result }
+{
+    // For the proof: the version is valid.
+    zone.validity();
+    zone.first_rrset()
+}
+
+/// The first set of the zone behind an owner and type.
+#[tactic(auto, using(crate::proofs::Stops::heads_at_next))]
+pub(crate) fn stop_behind<'z>(
+    zone: &'z ReadZone,
+    owner: &KeyName,
+    rtype: Rtype,
+) -> Option<WalkItem<'z>>
+    ensures { HeadsAt zone.now.version (behind (fold owner.now, rtype) zone.now.version.sets) result }
+{
+    // For the proof: the version is valid.
+    zone.validity();
+    zone.next_rrset(owner, rtype)
+}
+
+/// Whether a set is the apex SOA's.
+fn is_soa_stop(zone: &ReadZone, stop: &WalkItem<'_>) -> bool
+    ensures { result ≡ is_soa_stop zone.now.version stop.now }
+{
+    stop.rtype() == Rtype::SOA && stop.owner().name_eq(zone.apex_name())
+}
+
+/// The first of a set and those behind it that isn't the apex SOA's.
+fn other_stop<'z>(zone: &'z ReadZone, first: Option<WalkItem<'z>>) -> Option<WalkItem<'z>>
+    ensures { (rest : Sets) → HeadsAt zone.now.version rest first.entry → SkipsApexSoa zone.now.version rest result }
+{
+    let mut next = first;
+    'stops: while let Some(stop) = next {
+        if !is_soa_stop(zone, &stop) {
+            return Some(stop);
+        }
+        next = stop_behind(zone, stop.owner(), stop.rtype());
+    }
+    None
+}
+
+/// The first record from a set of the zone on that isn't the apex SOA's, or the SOA record that ends the text.
+pub(crate) fn zone_place(zone: &ReadZone, first: Option<WalkItem<'_>>) -> Option<Place>
+    ensures { (rest : Sets) → HeadsAt zone.now.version rest first.entry
+        → (ds : _) → Begins zone.now.version ds (middle_of zone.now.version rest ++ apex_soa_record zone.now.version) result }
+{
+    match other_stop(zone, first) {
+        Some(stop) => Some(Place::first_of(Part::Zone, stop.owner().duplicate(), stop.rtype())),
+        None => last_place(zone),
+    }
+}

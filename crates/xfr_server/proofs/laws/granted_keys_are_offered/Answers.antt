@@ -1,5 +1,0 @@
-use Rattle.xfr_server.proofs.Granted.{history_grants}
-use Rattle.xfr_server.proofs.laws.granted_keys_are_offered.Goals as goal
-
-pub returns : goal.returns
-returns c = history_grants

@@ -1,6 +1,0 @@
-mod Behind
-mod Texts
-mod Stops
-mod Placing
-mod Reading
-mod Skipping

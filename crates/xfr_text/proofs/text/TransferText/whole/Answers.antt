@@ -1,4 +1,0 @@
-use Rattle.xfr_text.proofs.text.TransferText.whole.Goals as goal
-
-pub invariant_of-result : goal.invariant_of-result
-invariant_of-result c = (c.whole_place-place.ensures _).is_place
