@@ -6,9 +6,8 @@ use crate::xfr_server_tests::{axfr_question, example_zone};
 use dns_name::Class;
 use std::alloc::Global;
 use std::process::Abort;
-use xfr_replies::TransferReplies;
+use xfr_replies::{TransferReplies, TransferText};
 use xfr_server::{CallResult, ReplyStream, ServiceFeedback};
-use xfr_replies::TransferText;
 
 /// The length of an item's reply; 1 for the feedback that a transfer begins, 2 for that of its end.
 fn number_of<R: Abort>(rt: &R, item: &CallResult) -> usize {
