@@ -15,7 +15,7 @@ use Rattle.zone_versions.specs.Stops.{first_from}
 use Rattle.zone_model.specs.Answer.{Answer, first_set, sets_of}
 use Rattle.zone_model.specs.Answer.Answer.{Found, NoData}
 use Rattle.zone_model.proofs.Folded.{IsFolded, fold-fold}
-use Rattle.zone_lookup.proofs.Existence.{turned_labels, from_name, names_rise, not_so}
+use Rattle.zone_parts.proofs.Existence.{turned_labels, from_name, names_rise, not_so}
 
 -- what the first entry from a name on says of the name's own sets
 abbrev pub own_first : Name → Option (Key × RecordSet) → Answer

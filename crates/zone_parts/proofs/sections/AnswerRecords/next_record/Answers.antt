@@ -2,8 +2,8 @@ use Rattle.std.proofs.Common.{ap}
 use Rattle.std.specs.Prelude.{map}
 use Rattle.dns_rdata.specs.ZoneData.{data_fields}
 use Rattle.zone_model.specs.Answer.{addresses_of}
-use Rattle.zone_lookup.proofs.JoinedRecords.{loaded}
-use Rattle.zone_lookup.proofs.sections.AnswerRecords.next_record.Goals as goal
+use Rattle.zone_parts.proofs.JoinedRecords.{loaded}
+use Rattle.zone_parts.proofs.sections.AnswerRecords.next_record.Goals as goal
 
 -- Both sets are spent: those of the next server take their places.
 pub records-preserved : goal.records-preserved

@@ -4,7 +4,7 @@ ghost use Rattle.std.specs.Iterator.{YieldsFirst};
 ghost use Rattle.dns_rdata.specs.ZoneData.{data_fields};
 ghost use Rattle.zone_model.specs.Answer.{addresses_of, apex_soa_record, kept_owner, records_of_option};
 ghost use Rattle.zone_model.specs.Version.{set_at};
-ghost use Rattle.zone_lookup.specs.Glue.{addresses_at, sole_name};
+ghost use Rattle.zone_parts.specs.Glue.{addresses_at, sole_name};
 
 use crate::records::{AnswerRecord, SetRecords};
 use dns_name::{KeyName, Labelled, Rtype, StoredName, ToName};
@@ -35,7 +35,7 @@ impl<'v> Model for AnswerRecords<'v> {
 impl<'v> AnswerRecords<'v> {
     /// The records of two sets.
     #[tactic(auto, using(crate::proofs::JoinedRecords::append_none))]
-    pub(crate) fn of_sets(
+    pub fn of_sets(
         version: &'v ZoneVersion,
         first: SetRecords<'v>,
         second: SetRecords<'v>,
@@ -52,14 +52,14 @@ impl<'v> AnswerRecords<'v> {
 
     /// The records of one set.
     #[tactic(auto, using(crate::proofs::JoinedRecords::append_none))]
-    pub(crate) fn of_set(version: &'v ZoneVersion, only: SetRecords<'v>) -> AnswerRecords<'v>
+    pub fn of_set(version: &'v ZoneVersion, only: SetRecords<'v>) -> AnswerRecords<'v>
         ensures { result ≡ only.entry }
     {
         AnswerRecords::of_sets(version, only, no_records(version))
     }
 
     /// The A then AAAA records of name servers, where their names are in the zone.
-    pub(crate) fn of_servers(
+    pub fn of_servers(
         version: &'v ZoneVersion,
         servers: &'v [StoredRecordData],
     ) -> AnswerRecords<'v>
@@ -74,7 +74,7 @@ impl<'v> AnswerRecords<'v> {
     }
 
     /// No record.
-    pub(crate) fn none(version: &'v ZoneVersion) -> AnswerRecords<'v>
+    pub fn none(version: &'v ZoneVersion) -> AnswerRecords<'v>
         ensures { result ≡ [] }
     {
         AnswerRecords::of_servers(version, &[])
@@ -128,7 +128,7 @@ fn no_records<'v>(version: &'v ZoneVersion) -> SetRecords<'v>
 
 /// The first SOA record of the apex (RFC 2308, 3).
 #[tactic(auto, using(crate::proofs::LentTypes::lent_set, crate::proofs::LentTypes::lent_type))]
-pub(crate) fn apex_soa<'v>(version: &'v ZoneVersion) -> SetRecords<'v>
+pub fn apex_soa<'v>(version: &'v ZoneVersion) -> SetRecords<'v>
     ensures { result ≡ apex_soa_record version.now }
 {
     let owner = version.apex().to_key_name();

@@ -1,7 +1,7 @@
 use Rattle.std.proofs.Common.{◌≡◌, All, subst}
 use Rattle.std.proofs.lemmas.List.Elements.{All-tail}
 use Rattle.dns_rdata.specs.ZoneData.{rtype_of}
-use Rattle.zone_lookup.proofs.records.SetRecords.next_record.Goals as goal
+use Rattle.zone_parts.proofs.records.SetRecords.next_record.Goals as goal
 
 -- What is left is of the set's type.
 pub invariant_of-self : goal.invariant_of-self

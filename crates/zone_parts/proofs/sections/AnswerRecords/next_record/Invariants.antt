@@ -1,7 +1,7 @@
 use Rattle.std.proofs.Common.{◌≡◌, ◌++◌, length, map, flat_map}
 use Rattle.dns_rdata.specs.ZoneData.{data_fields}
 use Rattle.zone_model.specs.Answer.{addresses_of}
-use Rattle.zone_lookup.proofs.sections.AnswerRecords.next_record.Given as goal
+use Rattle.zone_parts.proofs.sections.AnswerRecords.next_record.Given as goal
 
 -- what is left
 abbrev pub invariant-records : goal.invariant-records

@@ -14,7 +14,7 @@ pub type AnswerRecord<'v> = Record<KeyName, &'v StoredRecordData>;
 
 /// The records that are left of one set, in order.
 #[derive(Drop)]
-pub(crate) struct SetRecords<'v> {
+pub struct SetRecords<'v> {
     owner: KeyName,
     rtype: Rtype,
     class: Class,
@@ -37,7 +37,7 @@ impl<'v> Model for SetRecords<'v> {
 
 impl<'v> SetRecords<'v> {
     /// The records of a set of this type, and none where there is no set.
-    pub(crate) fn of(
+    pub fn of(
         owner: KeyName,
         rtype: Rtype,
         class: Class,
@@ -65,7 +65,7 @@ impl<'v> SetRecords<'v> {
     }
 
     /// The first record of a set of this type, and none where there is no set.
-    pub(crate) fn first_of(
+    pub fn first_of(
         owner: KeyName,
         rtype: Rtype,
         class: Class,
@@ -82,7 +82,7 @@ impl<'v> SetRecords<'v> {
     }
 
     /// The next record.
-    pub(crate) fn next_record(&mut self) -> Option<AnswerRecord<'v>>
+    pub fn next_record(&mut self) -> Option<AnswerRecord<'v>>
         ensures { YieldsFirst (λ s. s) self.old result self.new }
     {
         let items = self.items;

@@ -6,7 +6,7 @@ use Rattle.dns_name.specs.Codes.{type_a, type_aaaa}
 use Rattle.dns_rdata.specs.Records.{Field, Octets, DomainName, Record}
 use Rattle.zone_model.specs.Version.{Version}
 use Rattle.zone_model.specs.Answer.{addresses_of}
-use Rattle.zone_lookup.specs.Glue.{addresses_at, sole_name}
+use Rattle.zone_parts.specs.Glue.{addresses_at, sole_name}
 
 pub append_none : {A : Type 0} (xs : List A) → xs ++ [] ≡ xs
 append_none {A} [] = refl

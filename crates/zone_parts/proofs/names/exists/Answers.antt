@@ -3,8 +3,8 @@ use Rattle.dns_name.specs.Names.{fold}
 use Rattle.zone_model.proofs.Folded.{fold-fold, under_alike}
 use Rattle.zone_versions.specs.Stops.{entry_told}
 use Rattle.zone_versions.proofs.Stops.{found_told}
-use Rattle.zone_lookup.proofs.Existence.{exists_by}
-use Rattle.zone_lookup.proofs.look_up_steps.exists.Goals as goal
+use Rattle.zone_parts.proofs.Existence.{exists_by}
+use Rattle.zone_parts.proofs.names.exists.Goals as goal
 
 -- The first owner from the name on is at or below it.
 pub returns-in-Some : goal.returns-in-Some

@@ -1,5 +1,5 @@
 use Rattle.std.proofs.Common.{◌≡◌, ◌++◌, length}
-use Rattle.zone_lookup.proofs.owning.own_records.Given as goal
+use Rattle.zone_parts.proofs.owning.own_records.Given as goal
 
 -- what is kept, with what is left
 abbrev pub invariant-records : goal.invariant-records

@@ -1,0 +1,3 @@
+pub mod Existence
+mod JoinedRecords
+pub mod LentTypes
