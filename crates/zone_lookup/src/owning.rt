@@ -11,7 +11,7 @@ use crate::content::Content;
 use dns_name::{KeyName, Labelled, Rcode, Rtype};
 use std::alloc::{AllocError, Global};
 use zone_answer::{Answer, AnswerAdditional, AnswerAuthority, AnswerContent};
-use zone_parts::{AnswerRecords, own_records};
+use zone_parts::{AnswerRecords, own_option, own_records, own_set};
 use zone_values::{Rrset, SharedRr, SharedRrset};
 use zone_versions::ZoneVersion;
 
@@ -194,23 +194,6 @@ fn own_additional(
         }
         _ => Ok(None),
     }
-}
-
-/// The set with records of its own, where there is a set.
-fn own_option(alloc: Global, set: Option<&Rrset>) -> Result<Option<SharedRrset>, AllocError>
-    ensures { IfOk result (λ s. s ≡ option_copied set.entry) }
-{
-    match set {
-        Some(set) => Ok(Some(own_set(alloc, set)?)),
-        None => Ok(None),
-    }
-}
-
-/// The set with records of its own.
-fn own_set(alloc: Global, set: &Rrset) -> Result<SharedRrset, AllocError>
-    ensures { IfOk result (λ s. s ≡ set.now) }
-{
-    set.clone()?.into_shared(alloc)
 }
 
 /// The first record of a set, if it has one.

@@ -1,5 +1,5 @@
 -- Lent sets with their type and without it.
-use Rattle.std.proofs.Common.{◌≡◌, ℕ, refl, ap, ◌∙◌, true≢false, Option, Some, None, option_map, is_some, IfSome}
+use Rattle.std.proofs.Common.{◌≡◌, ℕ, ap, ◌∙◌, true≢false, Option, Some, None, option_map, is_some, IfSome}
 use denote.Ref.{Bor}
 use Rattle.std.specs.Option.{option_copied}
 use Rattle.zone_model.specs.Version.{RecordSet}

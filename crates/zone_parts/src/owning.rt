@@ -1,11 +1,12 @@
 // Records of a section with memory of their own.
-ghost use Rattle.std.specs.Prelude.{◌≡◌, IfOk};
+ghost use Rattle.std.specs.Prelude.{◌≡◌, IfOk, option_copied};
 
 use crate::records::AnswerRecord;
 use crate::sections::AnswerRecords;
 use dns_name::Labelled;
 use dns_rdata::{Record, StoredRecord};
 use std::alloc::{AllocError, Global};
+use zone_values::{Rrset, SharedRrset};
 
 /// The records that are left of a section.
 pub fn own_records(
@@ -33,4 +34,21 @@ pub fn own_record(alloc: Global, lent: &AnswerRecord<'_>) -> Result<StoredRecord
             Err(error)
         }
     }
+}
+
+/// The set with records of its own, where there is a set.
+pub fn own_option(alloc: Global, set: Option<&Rrset>) -> Result<Option<SharedRrset>, AllocError>
+    ensures { IfOk result (λ s. s ≡ option_copied set.entry) }
+{
+    match set {
+        Some(set) => Ok(Some(own_set(alloc, set)?)),
+        None => Ok(None),
+    }
+}
+
+/// The set with records of its own.
+pub fn own_set(alloc: Global, set: &Rrset) -> Result<SharedRrset, AllocError>
+    ensures { IfOk result (λ s. s ≡ set.now) }
+{
+    set.clone()?.into_shared(alloc)
 }

@@ -3,7 +3,6 @@
 
 mod apex;
 mod builder;
-mod child;
 mod edits;
 mod node;
 mod opening;

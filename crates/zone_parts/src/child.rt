@@ -5,7 +5,7 @@ ghost use Rattle.dns_name.specs.Names.{name_wire};
 use dns_name::{KeyName, Label, NameError, NameOctets};
 
 /// The name of a label, which isn't the root's, below another name, unless that has more than 255 octets (RFC 1035, 2.3.4).
-pub(crate) fn child_name(label: &Label<'_>, name: &KeyName) -> Result<KeyName, NameError>
+pub fn child_name(label: &Label<'_>, name: &KeyName) -> Result<KeyName, NameError>
     requires { (length label.now == 0) ≡ false }
     ensures is { IfOk result (λ n. n ≡ label.now ∷ name.now) }
     ensures short { OnOk result (length (name_wire (label.now ∷ name.now)) ≤ 255) }

@@ -1,7 +1,7 @@
 use Rattle.std.proofs.Common.{◌∙◌, arith}
 use Rattle.dns_name.proofs.Elements.{octets_fit}
-use Rattle.zone_sessions.proofs.ChildNames.{joined, joined_labels, joined_named, joined_spelled}
-use Rattle.zone_sessions.proofs.child.joined.Goals as goal
+use Rattle.zone_parts.proofs.ChildNames.{joined, joined_labels, joined_named, joined_spelled}
+use Rattle.zone_parts.proofs.child.joined.Goals as goal
 
 -- The octets are the label's wire form and the name's.
 pub from_wire-requires-clause-name : goal.from_wire-requires-clause-name
