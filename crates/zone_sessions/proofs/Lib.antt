@@ -1,3 +1,4 @@
 pub use Rattle.zone_versions.proofs.Conditions
 pub mod KeptApex
+pub mod Reopened
 pub mod Unopened

@@ -3,6 +3,7 @@
 
 mod apex;
 mod builder;
+mod copying;
 mod edits;
 mod node;
 mod opening;
