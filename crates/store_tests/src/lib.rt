@@ -20,6 +20,8 @@ mod node_tests;
 #[cfg(test)]
 mod opening_tests;
 #[cfg(test)]
+mod parts_tests;
+#[cfg(test)]
 mod session_tests;
 #[cfg(test)]
 mod value_tests;

@@ -1,9 +1,6 @@
-mod Existence
 mod Highest
 mod Enclosers
 mod FirstSets
 mod Wildcards
 mod Referrals
-mod JoinedRecords
-mod LentTypes
 mod OwnedRecords

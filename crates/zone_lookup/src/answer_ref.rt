@@ -4,10 +4,9 @@ ghost use Rattle.zone_model.specs.Answer.{answer_section, authority_section, glu
 ghost use Rattle.zone_lookup.specs.Answers.{answer_of, answered_by, cut_of, HasItsTypes, servers_of, set_found, signer_of, type_found};
 
 use crate::content::{Content, LentAnswer};
-use crate::records::SetRecords;
-use crate::sections::{AnswerRecords, apex_soa};
 use dns_name::{KeyName, Labelled, Rcode, Rtype};
 use std::marker::Model;
+use zone_parts::{AnswerRecords, SetRecords, apex_soa};
 use zone_values::Rrset;
 use zone_versions::ZoneVersion;
 

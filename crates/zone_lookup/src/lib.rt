@@ -13,12 +13,8 @@ mod look_up_steps;
 mod owning;
 mod queries;
 mod question;
-mod records;
-mod sections;
 
 pub use answer_ref::AnswerRef;
 pub use queries::{Queries, Query};
 pub use question::look_up;
-pub use records::AnswerRecord;
-pub use sections::AnswerRecords;
 pub use zone_values::OutOfZone;

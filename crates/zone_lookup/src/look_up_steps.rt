@@ -6,22 +6,8 @@ ghost use Rattle.zone_model.specs.Answer.{answer, answer_at, alias_at, at_cut, c
 
 use crate::content::LentAnswer;
 use dns_name::{KeyName, NameOctets, NameRef, Rtype, ToName};
-use name_keys::NameKey;
+use zone_parts::exists;
 use zone_versions::ZoneVersion;
-
-/// Whether a name is the apex, or an owner is at or below it (RFC 4592, 2.2.2).
-fn exists(version: &ZoneVersion, name: &NameRef<'_>) -> bool
-    requires { IsValid version.now }
-    ensures { result ≡ exists version.now name.now }
-{
-    if name.name_eq(version.apex()) {
-        return true;
-    }
-    match version.first_from(name) {
-        Some(found) => found.owner().is_under(&NameKey::of(name)),
-        None => false,
-    }
-}
 
 /// The highest zone cut at a name or above it (RFC 1034, 4.2.1).
 fn highest_cut(version: &ZoneVersion, name: &NameRef<'_>) -> Option<KeyName>
@@ -59,7 +45,7 @@ fn first_set<'v>(version: &'v ZoneVersion, name: &NameRef<'_>) -> LentAnswer<'v>
 }
 
 /// What a name below no cut has: below the apex its CNAME, else the set of the type (RFC 1034, 4.3.2, step 3a).
-#[tactic(auto, using(crate::proofs::LentTypes::lent_set, crate::proofs::LentTypes::lent_type))]
+#[tactic(auto, using(zone_parts::proofs::LentTypes::lent_set, zone_parts::proofs::LentTypes::lent_type))]
 fn own_sets<'v>(version: &'v ZoneVersion, name: &NameRef<'_>, rtype: Rtype) -> LentAnswer<'v>
     requires { IsValid version.now }
     ensures { result ≡ own_sets version.now name.now rtype (alias_at version.now name.now) }
@@ -77,7 +63,7 @@ fn own_sets<'v>(version: &'v ZoneVersion, name: &NameRef<'_>, rtype: Rtype) -> L
 
 /// What a zone cut at a name or above it answers: a referral, but DS at the cut itself is the parent's own (RFC 1034, 4.3.2, step 3b; RFC 4035,
 /// 3.1.4.1).
-#[tactic(auto, using(crate::proofs::LentTypes::lent_set, crate::proofs::LentTypes::lent_type))]
+#[tactic(auto, using(zone_parts::proofs::LentTypes::lent_set, zone_parts::proofs::LentTypes::lent_type))]
 fn at_cut<'v>(
     version: &'v ZoneVersion,
     name: &NameRef<'_>,

@@ -8,12 +8,10 @@ ghost use Rattle.zone_lookup.specs.Owned.{additional_for, alias_content, authori
 
 use crate::answer_ref::AnswerRef;
 use crate::content::Content;
-use crate::records::AnswerRecord;
-use crate::sections::AnswerRecords;
 use dns_name::{KeyName, Labelled, Rcode, Rtype};
-use dns_rdata::{Record, StoredRecord, StoredRecordData};
 use std::alloc::{AllocError, Global};
 use zone_answer::{Answer, AnswerAdditional, AnswerAuthority, AnswerContent};
+use zone_parts::{AnswerRecords, own_option, own_records, own_set};
 use zone_values::{Rrset, SharedRr, SharedRrset};
 use zone_versions::ZoneVersion;
 
@@ -196,51 +194,6 @@ fn own_additional(
         }
         _ => Ok(None),
     }
-}
-
-/// The records that are left of a section.
-fn own_records(
-    alloc: Global,
-    records: &mut AnswerRecords<'_>,
-) -> Result<Vec<StoredRecord>, AllocError>
-    ensures { IfOk result (λ kept. kept.items ≡ records.old) }
-{
-    let mut kept = Vec::new(alloc);
-    'records: while let Some(record) = records.next_record() {
-        kept.push(own_record(alloc, &record)?)?;
-    }
-    Ok(kept)
-}
-
-/// The record with an owner and data of its own.
-fn own_record(alloc: Global, lent: &AnswerRecord<'_>) -> Result<StoredRecord, AllocError>
-    ensures { IfOk result (λ r. r ≡ lent.now) }
-{
-    let owner = lent.owner().to_stored(alloc)?;
-    match (*lent.data()).clone() {
-        Ok(rdata) => Ok(Record::new(owner, lent.class(), lent.ttl(), rdata)),
-        Err(error) => {
-            drop(owner);
-            Err(error)
-        }
-    }
-}
-
-/// The set with records of its own, where there is a set.
-fn own_option(alloc: Global, set: Option<&Rrset>) -> Result<Option<SharedRrset>, AllocError>
-    ensures { IfOk result (λ s. s ≡ option_copied set.entry) }
-{
-    match set {
-        Some(set) => Ok(Some(own_set(alloc, set)?)),
-        None => Ok(None),
-    }
-}
-
-/// The set with records of its own.
-fn own_set(alloc: Global, set: &Rrset) -> Result<SharedRrset, AllocError>
-    ensures { IfOk result (λ s. s ≡ set.now) }
-{
-    set.clone()?.into_shared(alloc)
 }
 
 /// The first record of a set, if it has one.

@@ -7,7 +7,8 @@ use crate::numbers::append_number;
 use dns_name::{Rcode, StoredName};
 use dns_rdata::ComposeRecord;
 use std::alloc::{AllocError, Global};
-use zone_lookup::{AnswerRecord, AnswerRecords, AnswerRef, OutOfZone, Query, look_up};
+use zone_lookup::{AnswerRef, OutOfZone, Query, look_up};
+use zone_parts::{AnswerRecord, AnswerRecords};
 use zone_reads::ReadZone;
 
 /// What a version answers to questions, in order: for each `answer RCODE AA`, AA 1 where the zone has authority, with a line `an HEX`,

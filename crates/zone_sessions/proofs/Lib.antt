@@ -1,5 +1,4 @@
 pub use Rattle.zone_versions.proofs.Conditions
-pub mod ChildNames
 pub mod KeptApex
-pub mod NodeNames
+pub mod Reopened
 pub mod Unopened

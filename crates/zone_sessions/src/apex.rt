@@ -1,16 +1,19 @@
 // A zone.
 ghost use Rattle.std.specs.Prelude.{◌≡◌, [], IfOk, OnErr, option_copied, option_map, true, false};
-ghost use Rattle.dns_name.specs.Names.{under};
+ghost use Rattle.dns_name.specs.Names.{same_name, under};
 ghost use Rattle.dns_name.specs.Codes.{type_soa};
 ghost use Rattle.zone_model.specs.Version.{set_at};
 ghost use Rattle.zone_values.specs.Relative.{labels_below};
 ghost use Rattle.zone_values.specs.TypedEntries.{typed};
+ghost use Rattle.zone_parts.specs.Parts.{part};
 
+use crate::copying::{copied_sets, opened};
 use crate::write::WriteZone;
-use dns_name::{Class, Rtype, StoredName, ToName};
+use dns_name::{Class, Labelled, Rtype, StoredName, ToName};
 use std::alloc::{AllocError, Global};
 use std::marker::Model;
 use std::sync::Arc;
+use zone_parts::{NodeChildren, NodeRrsets};
 use zone_reads::ReadZone;
 use zone_values::{OutOfZone, RelNameRevIter, Rrset, rel_name_rev_iter};
 use zone_versions::ZoneVersion;
@@ -40,6 +43,35 @@ impl ZoneApex {
         Ok(ZoneApex {
             current: ReadZone::of(0, version),
         })
+    }
+
+    /// A zone of the RRsets of a version that is read, which are copied: `rrsets` and `children` are the parts of its apex, as the calls of these
+    /// names lend them, and `apex_name` is that apex up to case. `version` is the number of the version that it opens with. Refused only where memory
+    /// runs out.
+    pub fn from_parts(
+        alloc: Global,
+        apex_name: StoredName,
+        class: Class,
+        rrsets: NodeRrsets<'_>,
+        children: NodeChildren<'_>,
+        version: u64,
+    ) -> Result<ZoneApex, AllocError>
+        requires parts { children ≡ rrsets }
+        requires apex { rrsets.name ≡ rrsets.version.apex }
+        requires name { same_name apex_name rrsets.version.apex ≡ true }
+        ensures { IfOk result (λ z. z ≡ record { number = version; version = record { apex = apex_name; class = class; sets = rrsets.entry.version.sets } }) }
+    {
+        drop(children);
+        match copied_sets(alloc, rrsets.version()) {
+            Ok(sets) => {
+                let current = opened(alloc, apex_name, class, sets, version)?;
+                Ok(ZoneApex::of(current))
+            }
+            Err(error) => {
+                drop(apex_name);
+                Err(error)
+            }
+        }
     }
 
     /// A zone with this current version.
@@ -80,6 +112,26 @@ impl ZoneApex {
         ensures { option_copied result ≡ option_map (typed type_soa) (set_at read.now.version read.now.version.apex type_soa) }
     {
         read.rrset_at(read.apex_name(), Rtype::SOA)
+    }
+
+    /// The RRsets of the apex of a version that is read.
+    #[tactic(auto, using(crate::proofs::Reopened::apex_inside))]
+    pub fn rrsets<'v>(&self, read: &'v ReadZone) -> NodeRrsets<'v>
+        ensures { result ≡ part read.now.version read.now.version.apex }
+    {
+        // For the proof: a published version is valid.
+        read.validity();
+        NodeRrsets::of(read.contents(), read.apex_name().to_key_name())
+    }
+
+    /// The names below the apex of a version that is read.
+    #[tactic(auto, using(crate::proofs::Reopened::apex_inside))]
+    pub fn children<'v>(&self, read: &'v ReadZone) -> NodeChildren<'v>
+        ensures { result ≡ part read.now.version read.now.version.apex }
+    {
+        // For the proof: a published version is valid.
+        read.validity();
+        NodeChildren::of(read.contents(), read.apex_name().to_key_name())
     }
 
     /// The number of the current version: 0 for the one that the zone opened with, and one more for each commit.

@@ -3,7 +3,7 @@
 
 mod apex;
 mod builder;
-mod child;
+mod copying;
 mod edits;
 mod node;
 mod opening;

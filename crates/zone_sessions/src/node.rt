@@ -10,12 +10,12 @@ ghost use Rattle.zone_values.specs.TypedEntries.{typed};
 ghost use Rattle.zone_versions.specs.Causes.{refusal_of};
 ghost use Rattle.zone_sessions.specs.Nodes.{with_edit, opened_node};
 
-use crate::child::child_name;
 use crate::write::WriteZone;
 use dns_name::{KeyName, Label, Labelled, Rtype};
 use std::alloc::AllocError;
 use std::marker::Model;
 use zone_errors::{NodeError, UpdateError};
+use zone_parts::child_name;
 use zone_values::{Rrset, SharedRr, SharedRrset, ZoneCut};
 use zone_versions::EditError;
 

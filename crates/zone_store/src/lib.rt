@@ -42,6 +42,7 @@ pub use zone_handles::{
     begin_again, is_same, make_step, make_steps, walk,
 };
 pub use zone_lookup::look_up;
+pub use zone_parts::{NodeChildren, NodeRrsets, Special, ZoneNode};
 pub use zone_reads::{ReadZone, RrsetIter, WalkItem};
 pub use zone_sessions::{
     CommitError, EditError, InsertError, NodeError, UpdateError, WriteNode, WriteZone, ZoneApex,
