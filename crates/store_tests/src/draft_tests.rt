@@ -54,8 +54,18 @@ fn zone<R: Abort>(rt: &R, alloc: Global) -> Arc<ZoneVersion>
     add(rt, alloc, &mut draft, address(rt, alloc, HOST, 3600, 1));
     add(rt, alloc, &mut draft, address(rt, alloc, HOST, 3600, 2));
     add(rt, alloc, &mut draft, address(rt, alloc, HOST, 3600, 3));
-    draft.close(alloc).expect(rt, "memory");
-    draft.into_version()
+    let closed = draft.into_closed(false).ok().expect(rt, "memory");
+    let version = closed.share().expect(rt, "memory");
+    drop(closed);
+    version
+}
+
+/// The difference that a commit of a draft tells.
+fn told_of<R: Abort>(rt: &R, alloc: Global, draft: Draft) -> Option<InMemoryZoneDiff> {
+    let closed = draft.into_closed(false).ok().expect(rt, "memory");
+    let told = closed.difference(alloc).expect(rt, "memory");
+    drop(closed);
+    told
 }
 
 /// The difference from the zone to the one of a serial in which the addresses have the TTL 60.
@@ -64,9 +74,7 @@ fn told<R: Abort>(rt: &R, alloc: Global, serial: u32) -> Option<InMemoryZoneDiff
     delete(rt, &mut draft, address(rt, alloc, HOST, 60, 3));
     add(rt, alloc, &mut draft, address(rt, alloc, HOST, 60, 3));
     set_serial(rt, alloc, &mut draft, serial);
-    let told = draft.difference(alloc).expect(rt, "memory");
-    drop(draft);
-    told
+    told_of(rt, alloc, draft)
 }
 
 #[test]
@@ -86,9 +94,7 @@ fn a_whole_zone_in_place_of_the_old_one(rt: HostRuntime) {
     add(&rt, alloc, &mut draft, address(&rt, alloc, HOST, 60, 1));
     add(&rt, alloc, &mut draft, address(&rt, alloc, HOST, 60, 2));
     add(&rt, alloc, &mut draft, address(&rt, alloc, HOST, 60, 3));
-    let told = draft.difference(alloc).expect(&rt, "memory");
-    drop(draft);
-    let diff = told.expect(&rt, "a difference");
+    let diff = told_of(&rt, alloc, draft).expect(&rt, "a difference");
     changes_the_ttl(&rt, alloc, &diff);
     drop(diff);
 }

@@ -5,3 +5,4 @@ mod Changing
 mod Lacking
 pub mod Drafting
 mod Straying
+mod Publishing

@@ -24,6 +24,11 @@ without_special v n = remove_set (remove_set (remove_set v n type_ns) n type_ds)
 abbrev pub version_of : Drafted → Version
 version_of d = d.version
 
+-- a draft, and what a commit of it is to publish
+pub record Closed : Type 0 where
+  pub before : Drafted
+  pub version : Version
+
 -- a version that was edited, from a published one of the same apex
 pub record BeganAs (base : Version) (v : Version) : Type 0 where
   pub valid : IsValid base

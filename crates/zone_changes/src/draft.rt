@@ -16,6 +16,7 @@ ghost use Rattle.zone_versions.specs.Puts.{StandsAt, without, with_soa};
 ghost use Rattle.zone_changes.specs.Touched.{is_touched, Covers};
 ghost use Rattle.zone_changes.specs.Drafts.{draft, with_version, without_special};
 
+use crate::closed::closed;
 use crate::tracked::TrackedKeys;
 use dns_name::{KeyName, Rtype, StoredName, Ttl};
 use dns_rdata::{Soa, StoredRecord, StoredRecordData};
@@ -204,36 +205,29 @@ impl Draft {
         Ok(())
     }
 
-    /// Counts the serial on from the one that it was, where the SOA is absent or as it was (RFC 1982, 3.1).
-    pub fn bump(&mut self, alloc: Global) -> Result<(), AllocError>
-        ensures ok { OnOk result (self.new ≡ with_version self.old (edits.bump self.old.base self.old.version)) }
-        ensures err { OnErr result (self.new ≡ self.old) }
+    /// What a commit is to publish, with the draft that it is made of: without DS RRsets below the apex that lack NS (RFC 4035, 2.4), and with `bumps`
+    /// under the serial after the published one's, where the SOA is absent or as it was (RFC 1982, 3.1). Without memory for that the draft comes back.
+    pub fn into_closed(self, bumps: bool) -> Result<ClosedDraft, Draft>
+        ensures before { IfOk result (λ c. c.before ≡ self) }
+        ensures version { IfOk result (λ c. c.version ≡ edits.close (if bumps then edits.bump self.base self.version else self.version)) }
+        ensures err { IfErr result (λ d. d ≡ self) }
     {
-        self.touched
-            .note(SetKey::new(self.version.apex(), Rtype::SOA))?;
-        bump(&mut self.version, alloc, &self.base)
-    }
-
-    /// Leaves out what a commit leaves out: DS RRsets below the apex that lack NS (RFC 4035, 2.4).
-    pub fn close(&mut self, alloc: Global) -> Result<(), AllocError>
-        ensures ok { OnOk result (self.new ≡ with_version self.old (edits.close self.old.version)) }
-        ensures valid { OnOk result (IsValid self.new.version) }
-        ensures err { OnErr result (self.new ≡ self.old) }
-    {
-        if !self.touched.has_stray(&self.base, &self.version) {
-            return Ok(());
+        let mut touched = self.touched;
+        match closed(&mut touched, self.alloc, &self.base, &self.version, bumps) {
+            Ok(version) => Ok(ClosedDraft {
+                alloc: self.alloc,
+                base: self.base,
+                before: self.version,
+                touched,
+                version,
+            }),
+            Err(_) => Err(Draft {
+                alloc: self.alloc,
+                base: self.base,
+                version: self.version,
+                touched,
+            }),
         }
-        let closed = Arc::new(alloc, self.version.closed(alloc)?)?;
-        self.touched.note_strays(&self.version)?;
-        self.version = closed;
-        Ok(())
-    }
-
-    /// What the edited version and the one that it began as differ in, where that may be told.
-    pub fn difference(&self, alloc: Global) -> Result<Option<InMemoryZoneDiff>, AllocError>
-        ensures { IfOk result (λ d. d ≡ (if diffable self.now.base self.now.version then Some (difference self.now.base self.now.version) else None)) }
-    {
-        self.touched.difference(alloc, &self.base, &self.version)
     }
 }
 
@@ -247,6 +241,58 @@ impl Clone for Draft {
             version: self.version.clone()?,
             touched: self.touched.clone()?,
         })
+    }
+}
+
+/// What a commit is to publish, and the draft that it was made of, which comes back where the commit isn't made. The tracked keys are those at which
+/// either may differ from the version that the draft began as.
+#[derive(Drop)]
+pub struct ClosedDraft {
+    alloc: Global,
+    base: Arc<ZoneVersion>,
+    before: Arc<ZoneVersion>,
+    touched: TrackedKeys,
+    version: Arc<ZoneVersion>,
+}
+
+impl Model for ClosedDraft {
+    ghost use Rattle.zone_model.specs.Version.{IsValid};
+    ghost use Rattle.zone_changes.specs.Touched.{CoversIn};
+    ghost use Rattle.zone_changes.specs.Drafts.{Closed, draft, BeganAs};
+
+    ghost Value = { Closed };
+
+    ghost view = { λ c. record { before = draft c.base.value c.before.value; version = c.version.value } };
+
+    ghost invariant = { λ c. CoversIn c.touched c.base.value.sets c.before.value.sets × CoversIn c.touched c.base.value.sets c.version.value.sets × BeganAs c.base.value c.before.value × IsValid c.version.value };
+}
+
+impl ClosedDraft {
+    /// The draft as it was.
+    pub fn into_draft(self) -> Draft
+        ensures { result ≡ self.before }
+    {
+        Draft {
+            alloc: self.alloc,
+            base: self.base,
+            version: self.before,
+            touched: self.touched,
+        }
+    }
+
+    /// What is to be published.
+    pub fn share(&self) -> Result<Arc<ZoneVersion>, AllocError>
+        ensures is { IfOk result (λ v. v.value ≡ self.now.version) }
+        ensures valid { IfOk result (λ v. IsValid v.value) }
+    {
+        self.version.clone()
+    }
+
+    /// What that and the version that the draft began as differ in, where that may be told.
+    pub fn difference(&self, alloc: Global) -> Result<Option<InMemoryZoneDiff>, AllocError>
+        ensures { IfOk result (λ d. d ≡ (if diffable self.now.before.base self.now.version then Some (difference self.now.before.base self.now.version) else None)) }
+    {
+        self.touched.difference(alloc, &self.base, &self.version)
     }
 }
 
@@ -399,17 +445,4 @@ fn add_glue(
             Err(error)
         }
     }
-}
-
-/// Counts the serial on from the published one.
-fn bump(
-    pending: &mut Arc<ZoneVersion>,
-    alloc: Global,
-    published: &ZoneVersion,
-) -> Result<(), AllocError>
-    ensures ok { OnOk result (arc_value pending.new ≡ edits.bump published.now (arc_value pending.old)) }
-    ensures err { OnErr result (arc_value pending.new ≡ arc_value pending.old) }
-{
-    let version = Arc::make_mut(pending)?;
-    version.bump(alloc, published)
 }

@@ -2,6 +2,7 @@
 #![tactic(auto)]
 
 mod changes;
+mod closed;
 mod draft;
 mod examples;
 mod laws;
@@ -9,5 +10,5 @@ mod touched;
 mod tracked;
 
 pub use changes::difference;
-pub use draft::Draft;
+pub use draft::{ClosedDraft, Draft};
 pub use touched::TouchedKeys;

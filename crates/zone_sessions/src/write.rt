@@ -2,7 +2,6 @@
 ghost use Rattle.std.specs.Prelude.{◌≡◌, ◌↔◌, ◌-◌, ◌^◌, [], Ok, Err, IfOk, IfErr, IfSome, IfNone, OnOk, OnErr, IsOk, IsTrue, false};
 ghost use Rattle.zone_model.specs.Edits.{add, delete, with_sets};
 ghost use Rattle.zone_model.specs.Edits as edits;
-ghost use Rattle.zone_model.specs.Version.{IsValid};
 ghost use Rattle.zone_model.specs.Session.{opened_session, with_pending, closed, committed, rolled_back, told_difference};
 ghost use Rattle.zone_nodes.specs.Held.{counted};
 ghost use Rattle.zone_nodes.specs.Trees.{built};
@@ -19,7 +18,7 @@ use dns_name::{StoredName, Ttl};
 use dns_rdata::{ReadRecord, Soa, StoredRecord, StoredRecordData};
 use std::alloc::{AllocError, Global};
 use std::marker::Model;
-use zone_changes::Draft;
+use zone_changes::{ClosedDraft, Draft};
 use zone_diffs::InMemoryZoneDiff;
 use zone_errors::CommitError;
 use zone_reads::ReadZone;
@@ -47,6 +46,14 @@ impl<'z> Model for WriteZone<'z> {
     ghost view = { λ s. record { current = s.zone.now; pending = pending_of s.zone.now.version (option_map version_of s.pending); compares = s.compares; has_handle = is_some s.spare } };
 
     ghost invariant = { λ s. IfSome s.spare (λ z. z ≡ s.zone.now) × IfSome s.pending (λ d. d.base ≡ s.zone.now.version) };
+}
+
+/// What a commit publishes, one more handle of that, and the difference that it tells.
+#[derive(Drop)]
+struct Publication {
+    next: ReadZone,
+    spare: ReadZone,
+    told: Option<InMemoryZoneDiff>,
 }
 
 impl<'z> WriteZone<'z> {
@@ -337,38 +344,62 @@ impl<'z> WriteZone<'z> {
         if number == u64::MAX {
             return Err(CommitError::VersionsExhausted);
         }
-        let next = self.closed(bump_soa_serial)?;
-        let told = self.told(&next)?;
-        let next = ReadZone::of(number + 1, next.into_version());
-        let spare = next.clone()?;
-        self.zone.publish(next);
-        self.pending = None;
-        self.compares = false;
-        self.spare = Some(spare);
-        Ok(told)
+        let closed = self.close_pending(bump_soa_serial)?;
+        match self.publication(number + 1, &closed) {
+            Ok(publication) => {
+                drop(closed);
+                self.zone.publish(publication.next);
+                self.pending = None;
+                self.compares = false;
+                self.spare = Some(publication.spare);
+                Ok(publication.told)
+            }
+            Err(error) => {
+                self.keep(closed.into_draft());
+                Err(CommitError::from(error))
+            }
+        }
     }
 
-    /// What a commit publishes.
-    fn closed(&self, bumps: bool) -> Result<Draft, AllocError>
-        ensures is { IfOk result (λ d. d ≡ draft self.now.current.version (closed self.now bumps)) }
-        ensures valid { IfOk result (λ d. IsValid d.version) }
+    /// Takes what is pending out as a commit is to publish it.
+    fn close_pending(&mut self, bumps: bool) -> Result<ClosedDraft, AllocError>
+        ensures before { IfOk result (λ c. c.before ≡ draft self.old.current.version self.old.pending) }
+        ensures version { IfOk result (λ c. c.version ≡ closed self.old bumps) }
+        ensures rest { OnOk result (self.new ≡ with_pending self.old self.old.current.version) }
+        ensures err { OnErr result (self.new ≡ self.old) }
     {
-        let mut next = self.copy()?;
-        if bumps {
-            next.bump(self.alloc)?;
+        match self.take_pending()?.into_closed(bumps) {
+            Ok(closed) => Ok(closed),
+            Err(pending) => {
+                self.keep(pending);
+                Err(AllocError)
+            }
         }
-        next.close(self.alloc)?;
-        Ok(next)
+    }
+
+    /// What a commit with this number publishes, hands out and tells.
+    fn publication(&self, number: u64, closed: &ClosedDraft) -> Result<Publication, AllocError>
+        ensures next { IfOk result (λ p. p.next ≡ record { number = number; version = closed.now.version }) }
+        ensures spare { IfOk result (λ p. p.spare ≡ record { number = number; version = closed.now.version }) }
+        ensures told { IfOk result (λ p. p.told ≡ told_of self.now.compares closed.now) }
+    {
+        let told = self.told(closed)?;
+        let next = ReadZone::of(number, closed.share()?);
+        Ok(Publication {
+            spare: next.clone()?,
+            next,
+            told,
+        })
     }
 
     /// What a commit of it tells.
-    fn told(&self, next: &Draft) -> Result<Option<InMemoryZoneDiff>, AllocError>
-        ensures { IfOk result (λ d. d ≡ told_of self.now.compares next.now) }
+    fn told(&self, closed: &ClosedDraft) -> Result<Option<InMemoryZoneDiff>, AllocError>
+        ensures { IfOk result (λ d. d ≡ told_of self.now.compares closed.now) }
     {
         if !self.compares {
             return Ok(None);
         }
-        next.difference(self.alloc)
+        closed.difference(self.alloc)
     }
 
     /// A copy of what is pending.
