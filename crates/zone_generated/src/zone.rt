@@ -1,0 +1,44 @@
+// The zone, record by record.
+ghost use Rattle.std.specs.Prelude.{◌≡◌, ◌==◌, ◌≤◌, IfOk, OnOk, true, false};
+ghost use Rattle.dns_name.specs.Names.{under};
+ghost use Rattle.dns_name.specs.Codes.{type_cname};
+ghost use Rattle.zone_model.specs.Classify.{opened_with};
+ghost use Rattle.zone_generated.specs.Generated as generated;
+
+use crate::draws::next_draw;
+use crate::records::{apex, host_record, ns, soa};
+use dns_name::Class;
+use dns_rdata::StoredRecord;
+use std::alloc::{AllocError, Global};
+use zone_sessions::{InsertError, ZoneApex, ZoneBuilder};
+
+/// Puts a record that the zone can't refuse: its owner is the apex or below it, and it is no alias.
+fn put(builder: &mut ZoneBuilder, added: StoredRecord) -> Result<(), AllocError>
+    requires inside { under added.owner builder.old.apex ≡ true }
+    requires plain { (added.rtype == type_cname) ≡ false }
+    ensures { OnOk result (builder.new ≡ opened_with builder.old added) }
+{
+    match builder.insert(added) {
+        Ok(()) => Ok(()),
+        Err(InsertError::Memory) => Err(AllocError),
+        Err(InsertError::OutOfZone) => unreachable!(),
+        Err(InsertError::InvalidData) => unreachable!(),
+    }
+}
+
+/// The zone `example.` of so many draws after the seed, its version numbered 0: an SOA and an NS record at the apex, and the A record of each draw's
+/// host. Equal records count once.
+pub fn generated(alloc: Global, count: u32, seed: u64) -> Result<ZoneApex, AllocError>
+    requires { 1 ≤ count }
+    ensures { IfOk result (λ z. z ≡ record { number = 0; version = generated.generated count seed }) }
+{
+    let mut builder = ZoneBuilder::new(alloc, apex(alloc)?, Class::IN);
+    put(&mut builder, soa(alloc)?)?;
+    put(&mut builder, ns(alloc)?)?;
+    let mut draw = seed;
+    for number in 0..count {
+        draw = next_draw(draw);
+        put(&mut builder, host_record(alloc, count, draw)?)?;
+    }
+    builder.build()
+}
