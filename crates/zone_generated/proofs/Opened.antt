@@ -1,52 +1,29 @@
 -- The zone takes its records one by one, and keeps them all as it opens.
-use Rattle.std.proofs.Common.{◌≡◌, ℕ, zero, suc, ◌==◌, Bool, true, false, ◌&&◌, not, cond, if◌then◌else◌, List, [], ◌∷◌, ◌++◌, length, map, filter, fold, refl, sym, ap, ◌∙◌, subst, is_some}
+use Rattle.std.proofs.Common.{◌≡◌, ℕ, suc, ◌==◌, Bool, true, false, ◌&&◌, not, cond, if◌then◌else◌, List, [], ◌∷◌, ◌++◌, length, map, filter, fold, refl, sym, ap, ◌∙◌, is_some}
 use Rattle.std.specs.List.{AllByRecursion}
 use Rattle.std.specs.BTreeMap.{insert_entry}
 use Rattle.std.specs.Map.{keys_of}
 use Rattle.dns_name.specs.Names.{Name}
 use Rattle.dns_name.specs.Names as names
-use Rattle.dns_name.specs.Codes.{type_cname, type_ns, type_ds}
+use Rattle.dns_name.specs.Codes.{type_ns, type_ds}
 use Rattle.dns_name.specs.Records.{Record}
 use Rattle.zone_model.specs.Version.{RecordSet, Key, Sets, Version, key_cmp, has_key, set_at, data_at, below_apex}
-use Rattle.zone_model.specs.Edits.{with_sets, put_set, remove_set, distinct, has_data, is_stray, close}
+use Rattle.zone_model.specs.Edits.{with_sets, put_set, remove_set, distinct, is_stray, close}
 use Rattle.zone_model.specs.Classify.{opened_with, lowest_ttl}
 use Rattle.zone_model.proofs.Folded.{key_total}
 use Rattle.zone_model.proofs.Ordered.{passes-insert_entry, passes-remove_entry}
-use Rattle.zone_versions.specs.Puts.{adds_alias}
-use Rattle.zone_sessions.proofs.KeptApex.{put_place}
 use Rattle.zone_generated.specs.Generated.{next_draw, draws, zone_name, soa_record, ns_record, host_record, generated}
 
--- ---- what refuses no record
-
--- a record of another type is no second CNAME
-pub no_alias : (v : Version) (r : Record) → (r.rtype == type_cname) ≡ false → adds_alias v r ≡ false
-no_alias v r h =
-    ap (λ b. (below_apex v r.owner && b && is_some (set_at v r.owner type_cname)) && not (has_data v r)) h
-    ∙ by (below_apex v r.owner)
-  where
-    by : (b : Bool) → ((b && false && is_some (set_at v r.owner type_cname)) && not (has_data v r)) ≡ false
-    by true = refl
-    by false = refl
-
--- the apex keeps its name
-pub opened_apex : (v : Version) (r : Record) → (opened_with v r).apex ≡ v.apex
-opened_apex v r = ap (λ (p : Name × ℕ). p.0) (put_place v r.owner r.rtype (record { ttl = lowest_ttl r (set_at v r.owner r.rtype); items = distinct (data_at v r.owner r.rtype ++ r.fields ∷ []) }))
-
-pub apex_kept : (v w : Version) (r : Record) → w ≡ opened_with v r → v.apex ≡ zone_name → w.apex ≡ zone_name
-apex_kept v w r e h = ap (λ (u : Version). u.apex) e ∙ opened_apex v r ∙ h
-
--- ---- the hosts
+-- ---- the hosts that are left
 
 -- a version with the hosts of some draws, each one of n
 abbrev pub with_hosts : ℕ → Version → List ℕ → Version
 with_hosts n v xs = fold opened_with v (map (host_record n) xs)
 
 -- the host of the next draw is put, and fewer are left
-pub host_put : (n left fewer x y : ℕ) (v w z : Version) (r : Record) → left ≡ suc fewer → y ≡ next_draw x → r ≡ host_record n y → w ≡ opened_with v r
-    → with_hosts n v (draws left x) ≡ z → with_hosts n w (draws fewer y) ≡ z
-host_put n left fewer x y v w z r el ey er ew e =
-    (λ i. with_hosts n ((ew ∙ ap (opened_with v) (er ∙ ap (host_record n) ey)) i) (draws fewer (ey i)))
-    ∙ sym (ap (λ m. with_hosts n v (draws m x)) el) ∙ e
+pub host_put : (n left fewer x y : ℕ) (v w z : Version) → left ≡ suc fewer → y ≡ next_draw x → w ≡ opened_with v (host_record n (next_draw x)) → with_hosts n v (draws left x) ≡ z
+    → with_hosts n w (draws fewer y) ≡ z
+host_put n left fewer x y v w z el ey ew e = (λ i. with_hosts n (ew i) (draws fewer (ey i))) ∙ sym (ap (λ m. with_hosts n v (draws m x)) el) ∙ e
 
 -- no host is left
 pub all_put : (n left x : ℕ) (v z : Version) → left ≡ 0 → with_hosts n v (draws left x) ≡ z → v ≡ z
