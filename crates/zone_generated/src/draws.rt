@@ -4,7 +4,7 @@ ghost use Rattle.zone_generated.specs.Generated as generated;
 
 use std::alloc::{AllocError, Global};
 
-/// The draw after another one, modulo 2^64: a linear congruential generator, whose upper bits are the better ones.
+/// The draw after another one, modulo 2^64: Knuth's linear congruential generator for MMIX, whose upper bits are the better ones.
 pub(crate) fn next_draw(draw: u64) -> u64
     ensures { result ≡ generated.next_draw draw }
 {

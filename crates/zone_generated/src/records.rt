@@ -66,7 +66,15 @@ pub(crate) fn soa(alloc: Global) -> Result<StoredRecord, AllocError>
 {
     let none = Ttl::from_int(0);
     let primary = server(alloc)?;
-    let soa = Soa::new(primary, StoredName::root(), Serial::from(1), none, none, none, none);
+    let soa = Soa::new(
+        primary,
+        StoredName::root(),
+        Serial::from(1),
+        none,
+        none,
+        none,
+        none,
+    );
     Ok(record_of(apex(alloc)?, ZoneRecordData::Soa(soa)))
 }
 

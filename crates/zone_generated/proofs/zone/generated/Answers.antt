@@ -9,7 +9,7 @@ use Rattle.zone_generated.proofs.zone.generated.Goals as goal
 pub loop-number-preserved : goal.loop-number-preserved
 loop-number-preserved c = (
   host_put c.args.count (c.args.count - c.loop-number.number) (c.args.count - (c.loop-number.number + 1)) c.loop-number.draw c.in_ok-draw.draw c.loop-number.builder c.put_next.new.builder _
-  (omega (arith, c.loop-number-test.true)) c.in_ok-draw.ensures.drawn c.in_ok-draw.ensures.put c.loop-number.invariant.0,
+      (omega (arith, c.loop-number-test.true)) c.in_ok-draw.ensures.drawn c.in_ok-draw.ensures.put c.loop-number.invariant.0,
   c.in_ok-draw.ensures.apex,
 )
 
