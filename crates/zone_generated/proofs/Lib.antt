@@ -1,0 +1,2 @@
+mod HostNames
+mod Opened

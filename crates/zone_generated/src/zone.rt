@@ -1,0 +1,65 @@
+// The zone, record by record.
+ghost use Rattle.std.specs.Prelude.{◌≡◌, ◌==◌, ◌<◌, ◌≤◌, IfOk, OnOk, true, false};
+ghost use Rattle.dns_name.specs.Names.{under};
+ghost use Rattle.dns_name.specs.Codes.{type_cname};
+ghost use Rattle.zone_model.specs.Classify.{opened_with};
+ghost use Rattle.zone_generated.specs.Generated as generated;
+ghost use Rattle.zone_generated.specs.Generated.{zone_name};
+
+use crate::draws::next_draw;
+use crate::records::{apex, host_record, ns, soa};
+use dns_name::Class;
+use dns_rdata::StoredRecord;
+use std::alloc::{AllocError, Global};
+use zone_sessions::{InsertError, ZoneApex, ZoneBuilder};
+
+/// Puts a record that the zone can't refuse: its owner is the apex or below it, and it is no alias.
+fn put(builder: &mut ZoneBuilder, added: StoredRecord) -> Result<(), AllocError>
+    requires apex { builder.old.apex ≡ zone_name }
+    requires inside { under added.owner zone_name ≡ true }
+    requires plain { (added.rtype == type_cname) ≡ false }
+    ensures put { OnOk result (builder.new ≡ opened_with builder.old added) }
+    ensures apex { OnOk result (builder.new.apex ≡ zone_name) }
+{
+    match builder.insert(added) {
+        Ok(()) => Ok(()),
+        Err(InsertError::Memory) => Err(AllocError),
+        Err(InsertError::OutOfZone) => unreachable!(),
+        Err(InsertError::InvalidData) => unreachable!(),
+    }
+}
+
+/// Puts the host of the next draw, one of `count`, and gives that draw.
+fn put_next(
+    builder: &mut ZoneBuilder,
+    alloc: Global,
+    count: u32,
+    draw: u64,
+) -> Result<u64, AllocError>
+    requires some { 0 < count }
+    requires apex { builder.old.apex ≡ zone_name }
+    ensures drawn { IfOk result (λ d. d ≡ generated.next_draw draw) }
+    ensures put { OnOk result
+        (builder.new ≡ opened_with builder.old (generated.host_record count (generated.next_draw draw))) }
+    ensures apex { OnOk result (builder.new.apex ≡ zone_name) }
+{
+    let drawn = next_draw(draw);
+    put(builder, host_record(alloc, count, drawn)?)?;
+    Ok(drawn)
+}
+
+/// The zone `example.` of so many draws after the seed, its version numbered 0: an SOA and an NS record at the apex, and the A record of each draw's
+/// host. Equal records count once.
+pub fn generated(alloc: Global, count: u32, seed: u64) -> Result<ZoneApex, AllocError>
+    requires { 1 ≤ count }
+    ensures { IfOk result (λ z. z ≡ record { number = 0; version = generated.generated count seed }) }
+{
+    let mut builder = ZoneBuilder::new(alloc, apex(alloc)?, Class::IN);
+    put(&mut builder, soa(alloc)?)?;
+    put(&mut builder, ns(alloc)?)?;
+    let mut draw = seed;
+    for number in 0..count {
+        draw = put_next(&mut builder, alloc, count, draw)?;
+    }
+    builder.build()
+}
