@@ -5,7 +5,7 @@ use Rattle.std.specs.List.{list_all}
 use Rattle.std.proofs.lemmas.Bool.{ne_eqb}
 use Rattle.std.proofs.lemmas.Fmt.{length-decimal-le}
 use Rattle.dns_name.specs.Names.{name_wire}
-use Rattle.zone_sessions.proofs.ChildNames.{Joined, joined}
+use Rattle.zone_parts.proofs.ChildNames.{Joined, joined}
 use Rattle.zone_generated.specs.Generated.{host_number, host_label, zone_name}
 
 -- `h` and ten digits at most

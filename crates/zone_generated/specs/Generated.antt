@@ -41,9 +41,9 @@ server_name = codes "ns" ∷ zone_name
 abbrev pub record_of : Name → ℕ → List Field → Record
 record_of owner rtype fields = record { owner = owner; rtype = rtype; class = class_in; ttl = 3600; fields = fields }
 
--- serial 1, and 0 for the other four numbers (RFC 1035, 3.3.13)
+-- the root for both names, serial 1, and 0 for the other four numbers (RFC 1035, 3.3.13)
 abbrev pub soa_record : Record
-soa_record = record_of zone_name type_soa (DomainName server_name ∷ DomainName [] ∷ Octets (0 ∷ 0 ∷ 0 ∷ 1 ∷ replicate 16 0) ∷ [])
+soa_record = record_of zone_name type_soa (DomainName [] ∷ DomainName [] ∷ Octets (0 ∷ 0 ∷ 0 ∷ 1 ∷ replicate 16 0) ∷ [])
 
 abbrev pub ns_record : Record
 ns_record = record_of zone_name type_ns (DomainName server_name ∷ [])

@@ -25,7 +25,7 @@ pub fn one_row()
       class = 1;
       sets =
           ((codes "example" ∷ [], 2), record { ttl = 3600; items = (DomainName (codes "ns" ∷ codes "example" ∷ []) ∷ []) ∷ [] })
-          ∷ ((codes "example" ∷ [], 6), record { ttl = 3600; items = (DomainName (codes "ns" ∷ codes "example" ∷ []) ∷ DomainName [] ∷ Octets (0 ∷ 0 ∷ 0 ∷ 1 ∷ replicate 16 0) ∷ []) ∷ [] })
+          ∷ ((codes "example" ∷ [], 6), record { ttl = 3600; items = (DomainName [] ∷ DomainName [] ∷ Octets (0 ∷ 0 ∷ 0 ∷ 1 ∷ replicate 16 0) ∷ []) ∷ [] })
           ∷ ((codes "h0" ∷ codes "example" ∷ [], 1), record { ttl = 3600; items = (Octets (20 ∷ 5 ∷ 123 ∷ 126 ∷ []) ∷ []) ∷ [] })
           ∷ [];
     } }

@@ -59,15 +59,14 @@ fn record_of(owner: StoredName, data: StoredRecordData) -> StoredRecord
     Record::new(owner, Class::IN, Ttl::from_int(SECONDS), data)
 }
 
-/// The SOA record of the apex: its primary is the name server, its mailbox the root, its serial 1, and each of its times 0.
+/// The SOA record of the apex: its two names are the root, its serial is 1, and each of its times 0.
 #[tactic(auto, unfolding(rdata_types::specs::DataFields::soa_times))]
 pub(crate) fn soa(alloc: Global) -> Result<StoredRecord, AllocError>
     ensures { IfOk result (λ r. r ≡ soa_record) }
 {
     let none = Ttl::from_int(0);
-    let primary = server(alloc)?;
     let soa = Soa::new(
-        primary,
+        StoredName::root(),
         StoredName::root(),
         Serial::from(1),
         none,

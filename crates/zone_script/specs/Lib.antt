@@ -2,7 +2,6 @@ pub mod Script
 pub mod ScriptReaders
 pub mod Digits
 pub mod Words
-pub mod Generated
 pub mod Lines
 pub mod Causes
 pub mod Keeping

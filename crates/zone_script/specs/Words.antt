@@ -1,5 +1,5 @@
 -- The program's words, and its statuses.
-use Rattle.std.specs.Prelude.{ℕ, ◌+◌, ◌*◌, ◌^◌, ◌%◌, ◌&&◌, nat_le, if◌then◌else◌, List, [], ◌∷◌, Option, Some, None, option_map, option_and_then, codes, bytes_eq}
+use Rattle.std.specs.Prelude.{ℕ, ◌^◌, ◌&&◌, nat_le, if◌then◌else◌, List, [], ◌∷◌, Option, Some, None, option_map, option_and_then, codes, bytes_eq}
 use Rattle.zone_model.specs.TransferText.{Mode, Axfr, Ixfr}
 use Rattle.xfr_services.specs.declared.modes.XfrMode.{XfrMode}
 use Rattle.xfr_services.specs.declared.modes.XfrMode.TheVariants as transfers
@@ -36,7 +36,3 @@ form_of (word ∷ more) =
     else if bytes_eq word (codes "ixfr") then with_readers Ixfr more
     else if bytes_eq word (codes "gen") then with_sizes more
     else None
-
--- the numbers after a generated zone: each is drawn from the one before
-abbrev pub drawn : ℕ → ℕ
-drawn x = (x * 6364136223846793005 + 1442695040888963407) % 2 ^ 64
