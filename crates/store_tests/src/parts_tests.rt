@@ -141,7 +141,8 @@ fn opens_with_the_parts(rt: HostRuntime) {
     let read = zone.read(&rt).expect(&rt, "memory");
     let apex = name(&rt, alloc, b"\x07eXAMPLE\x00");
     assert!(rt; apex.name_eq(read.apex_name()));
-    let (rrsets, children) = (zone.rrsets(&read), zone.children(&read));
+    let rrsets = zone.rrsets(&read);
+    let children = zone.children(&read);
     let again = ZoneApex::from_parts(alloc, apex, Class::from_int(3), rrsets, children, 7);
     let again = again.expect(&rt, "memory");
     drop(read);
