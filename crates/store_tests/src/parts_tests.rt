@@ -54,22 +54,43 @@ fn below<'v, R: Abort>(rt: &R, children: &NodeChildren<'v>, label: &[u8]) -> Opt
     children.get(&label)
 }
 
+/// What a name is.
+#[derive(Debug, PartialEq, Drop)]
+enum NameKind {
+    Absent,
+    Plain,
+    Alias,
+    Cut,
+    SignedCut,
+}
+
 /// What a name is by its RRsets.
-fn kind(special: Option<Special<'_>>) -> &'static str {
+fn kind(special: Option<Special<'_>>) -> NameKind {
     match special {
-        Some(Special::Cut { ns: _, ds }) => { if ds.is_some() { "signed cut" } else { "cut" } }
-        Some(Special::Cname(_)) => "alias",
-        None => "plain",
+        Some(Special::Cut { ns: _, ds }) => {
+            if ds.is_some() {
+                NameKind::SignedCut
+            } else {
+                NameKind::Cut
+            }
+        }
+        Some(Special::Cname(_)) => NameKind::Alias,
+        None => NameKind::Plain,
     }
 }
 
-/// What the name of a label is by its RRsets, or that it doesn't exist.
-fn kind_below<R: Abort>(rt: &R, children: &NodeChildren<'_>, label: &[u8]) -> &'static str {
-    let label = Label::from_slice(label).expect(rt, "a label");
-    children.with(&label, |node| match node {
+/// What a name is, where it exists.
+fn kind_of(node: Option<ZoneNode<'_>>) -> NameKind {
+    match node {
         Some(node) => node.with_special(|special| kind(special)),
-        None => "absent",
-    })
+        None => NameKind::Absent,
+    }
+}
+
+/// What the name of a label is.
+fn kind_below<R: Abort>(rt: &R, children: &NodeChildren<'_>, label: &[u8]) -> NameKind {
+    let label = Label::from_slice(label).expect(rt, "a label");
+    children.with(&label, |node| kind_of(node))
 }
 
 /// Asserts that these are the parts of the apex of `parted`.
@@ -85,11 +106,11 @@ fn are_parts<R: Abort>(
     has_types(rt, alloc, below(rt, children, b"sub"), &[2, 43]);
     has_types(rt, alloc, below(rt, children, b"WWW"), &[5]);
     has_types(rt, alloc, below(rt, children, b"b"), &[]);
-    is(rt, kind_below(rt, children, b"sub"), "signed cut");
-    is(rt, kind_below(rt, children, b"www"), "alias");
-    is(rt, kind_below(rt, children, b"b"), "plain");
-    is(rt, kind_below(rt, children, b"ns"), "absent");
-    is(rt, kind_below(rt, children, b""), "absent");
+    is(rt, kind_below(rt, children, b"sub"), NameKind::SignedCut);
+    is(rt, kind_below(rt, children, b"www"), NameKind::Alias);
+    is(rt, kind_below(rt, children, b"b"), NameKind::Plain);
+    is(rt, kind_below(rt, children, b"ns"), NameKind::Absent);
+    is(rt, kind_below(rt, children, b""), NameKind::Absent);
 }
 
 #[test]
@@ -105,7 +126,11 @@ fn lends_the_parts_of_a_version(rt: HostRuntime) {
     assert!(rt; rrsets.get(Rtype::A).is_none());
     let node = below(&rt, &children, b"b").expect(&rt, "a node");
     has_types(&rt, alloc, below(&rt, &node.children(), b"a"), &[1]);
-    is(&rt, kind_below(&rt, &node.children(), b"b"), "absent");
+    is(
+        &rt,
+        kind_below(&rt, &node.children(), b"b"),
+        NameKind::Absent,
+    );
     drop(read);
     drop(zone);
 }
@@ -141,7 +166,8 @@ fn opens_with_the_parts(rt: HostRuntime) {
     let read = zone.read(&rt).expect(&rt, "memory");
     let apex = name(&rt, alloc, b"\x07eXAMPLE\x00");
     assert!(rt; apex.name_eq(read.apex_name()));
-    let (rrsets, children) = (zone.rrsets(&read), zone.children(&read));
+    let rrsets = zone.rrsets(&read);
+    let children = zone.children(&read);
     let again = ZoneApex::from_parts(alloc, apex, Class::from_int(3), rrsets, children, 7);
     let again = again.expect(&rt, "memory");
     drop(read);
