@@ -90,7 +90,7 @@ fn kind_of(node: Option<ZoneNode<'_>>) -> NameKind {
 /// What the name of a label is.
 fn kind_below<R: Abort>(rt: &R, children: &NodeChildren<'_>, label: &[u8]) -> NameKind {
     let label = Label::from_slice(label).expect(rt, "a label");
-    children.with(&label, |node| kind_of(node))
+    children.with(&label, kind_of)
 }
 
 /// Asserts that these are the parts of the apex of `parted`.
