@@ -4,7 +4,6 @@ ghost use Rattle.dns_name.specs.Records.{Octets, DomainName};
 ghost use Rattle.zone_generated.specs.Generated as generated;
 
 /// Two hosts that are drawn from 0: 20.5.123.126 at `h1` and 26.8.238.17 at `h0`.
-#[tactic(auto, unfolding(core::specs::Fmt::digits))]
 pub fn two_row()
     ensures draws { generated.draws 2 0 ≡ 1442695040888963407 ∷ 1876011003808476466 ∷ [] }
     ensures first { generated.host_address 1442695040888963407 ≡ 20 ∷ 5 ∷ 123 ∷ 126 ∷ [] }
@@ -15,7 +14,6 @@ pub fn two_row()
 {}
 
 /// A single host, whose number is 0 whatever is drawn.
-#[tactic(auto, unfolding(core::specs::Fmt::digits))]
 pub fn one_row()
     ensures draws { generated.draws 1 0 ≡ 1442695040888963407 ∷ [] }
     ensures address { generated.host_address 1442695040888963407 ≡ 20 ∷ 5 ∷ 123 ∷ 126 ∷ [] }
