@@ -1,2 +1,3 @@
 mod HostNames
 mod Opened
+mod Digits
