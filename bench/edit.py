@@ -12,9 +12,9 @@ It prints, for each size of zone:
 - resident memory at its peak without edits and with them, and how much more the edits took;
 
 beside each how many times that of the smallest zone it is. What grows with the zone: the first edit behind a commit copies the list of a
-version's pages, a counted pointer for each 256 names or fewer, and the commit copies it once more; pages, nodes and records are shared. The
-difference, and DS sets to leave out, are looked for at the keys that edits touched. Time is the processor's, the least of the runs; so short a
-time wants many edits (`--edits 1000`). Only ratios say something on another machine.
+version's pages, a counted pointer for each 256 names or fewer, and a commit that counts the serial on copies it once more; pages, nodes and
+records are shared. The difference, and DS sets to leave out, are looked for at the keys that edits touched. Time is the processor's, the least of
+the runs; so short a time wants many edits (`--edits 8000`). Only ratios say something on another machine.
 """
 
 import argparse
