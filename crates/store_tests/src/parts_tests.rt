@@ -6,7 +6,7 @@ use crate::common::{
 use dns_name::{Class, Label, Rtype, ToName};
 use std::alloc::Global;
 use std::process::Abort;
-use zone_store::{NodeChildren, NodeRrsets, Special, ZoneApex, ZoneNode};
+use zone_store::{CommitError, NodeChildren, NodeRrsets, Special, ZoneApex, ZoneNode};
 
 const CUT: &[u8] = b"\x03sub\x07example\x00";
 
@@ -179,4 +179,26 @@ fn opens_with_the_parts(rt: HostRuntime) {
     are_parts(&rt, alloc, &again.rrsets(&read), &again.children(&read));
     drop(read);
     drop(again);
+}
+
+#[test]
+fn opens_at_the_last_number(rt: HostRuntime) {
+    let alloc = rt.alloc();
+    let zone = parted(&rt, alloc);
+    let read = zone.read(&rt).expect(&rt, "memory");
+    let apex = name(&rt, alloc, APEX);
+    assert!(rt; apex.name_eq(read.apex_name()));
+    let rrsets = zone.rrsets(&read);
+    let children = zone.children(&read);
+    let last = ZoneApex::from_parts(alloc, apex, Class::IN, rrsets, children, u64::MAX);
+    let mut last = last.expect(&rt, "memory");
+    drop(read);
+    drop(zone);
+    let mut session = last.write(alloc);
+    add(&rt, &mut session, address(&rt, alloc, HOST, 60, 1));
+    let refused = session.commit(&rt, false).err();
+    is(&rt, refused, Some(CommitError::VersionsExhausted));
+    drop(session);
+    is(&rt, last.versions(), u64::MAX);
+    drop(last);
 }

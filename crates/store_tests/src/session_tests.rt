@@ -6,8 +6,7 @@ use dns_name::{Class, NameRef, Rtype, Ttl};
 use dns_rdata::{StoredRecord, record_from_octets};
 use std::alloc::Global;
 use std::process::Abort;
-use zone_store::{EditError, InsertError, ReadZone, WriteZone, ZoneBuilder};
-use zone_versions::NodeCount;
+use zone_store::{EditError, InsertError, NodeCount, ReadZone, WriteZone, ZoneBuilder};
 
 const A: &[u8] = b"\x01a\x07example\x00";
 

@@ -2,8 +2,9 @@
 //!
 //! `ZoneBuilder` and `ZoneApex` make a zone, and `Zone` is a zone whatever keeps it (`ZoneStore`). `ReadZone` is a read handle: one version,
 //! whatever is committed later (`ReadableZone`: `query`, `walk`, `look_up`). `WriteZone` is the one session that edits and commits, by
-//! records or node by node (`WriteNode`). What zones are made of, answers and differences are in `zone_types`. This crate only passes on:
-//! each item is proved in the crate that it comes from. A handle keeps its version (a test in `store_tests`):
+//! records or node by node (`WriteNode`). `ZoneNode` and its kin are the parts of one version; `VersionTree` is a version as a tree of nodes, whose
+//! edits count the nodes that they build (`NodeCount`). What zones are made of, answers and differences are in `zone_types`. This crate only passes
+//! on: each item is proved in the crate that it comes from. A handle keeps its version (a test in `store_tests`):
 //!
 //! ```rust
 //! use dns_wire::{A, Class, NameRef, Rcode, Record, Rtype, Ttl, ZoneRecordData};
@@ -42,6 +43,7 @@ pub use zone_handles::{
     begin_again, is_same, make_step, make_steps, walk,
 };
 pub use zone_lookup::look_up;
+pub use zone_nodes::{NodeCount, VersionTree};
 pub use zone_parts::{NodeChildren, NodeRrsets, Special, ZoneNode};
 pub use zone_reads::{ReadZone, RrsetIter, WalkItem};
 pub use zone_sessions::{
