@@ -1,6 +1,8 @@
+pub mod Words
 pub mod MarkOrder
 pub mod Orders
 pub mod Places
+pub mod Ends
 pub mod Shared
 pub mod PageEdits
 pub mod Keys

@@ -15,3 +15,4 @@ mod writes;
 
 pub use iter::Entries;
 pub use map::PagedMap;
+pub use marks::compare;

@@ -1,4 +1,3 @@
-pub mod Walks
 pub mod Moves
 pub mod EditSteps
 pub mod Told

@@ -1,4 +1,3 @@
-pub mod Stops
 pub mod Queries
 pub mod ZoneEdits
 pub mod Steps

@@ -1,6 +1,6 @@
 // Laws of readers, of their walks and of one writer, each the contract of a function with an empty body.
 ghost use Rattle.zone_handles.specs.Steps.{OpensSo, DropAbandons, LeaveNoTrace, HandlesStay};
-ghost use Rattle.zone_handles.specs.Stops.{VisitsOnce};
+ghost use Rattle.zone_reads.specs.Stops.{VisitsOnce};
 
 /// A session and its handles stand for a zone from its opening on, and after a session that was dropped.
 pub fn sessions_stand()

@@ -3,7 +3,6 @@
 //! the zone's history, whatever their order: a handle answers from the version at its position, and nothing that is dropped is seen.
 #![tactic(auto)]
 
-mod comparing;
 mod errors;
 mod laws;
 mod opening;
@@ -15,7 +14,6 @@ mod walking;
 mod zone_edits;
 mod zones;
 
-pub use comparing::is_same;
 pub use errors::{AskError, QueryError};
 pub use steps::{Step, ask, begin_again, make_step, make_steps};
 pub use stores::ReadableZone;

@@ -2,7 +2,9 @@
 //! committed meanwhile (`zone_sessions`).
 #![tactic(auto)]
 
+mod comparing;
 mod read;
 
+pub use comparing::is_same;
 pub use read::ReadZone;
 pub use zone_versions::{RrsetIter, WalkItem};

@@ -14,3 +14,4 @@ pub mod Outcomes
 mod Places
 mod Dropping
 mod Moving
+mod ApexLengths

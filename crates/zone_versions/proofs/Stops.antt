@@ -1,6 +1,6 @@
 -- The stops of a version as a walk of its tree shows them.
 use Rattle.std.proofs.Common.{◌≡◌, ℕ, zero, suc, Bool, true, false, cond, if◌then◌else◌, List, [], ◌∷◌, map, refl, sym, ap, ◌∙◌, arith, Ordering, Less, Equal, Greater, is_gt, is_le, is_lt, Option, Some, None, option_map}
-use Rattle.std.specs.List.{find}
+use Rattle.std.specs.List.{find, list_any}
 use Rattle.std.specs.Map.{keys_of}
 use Rattle.std.specs.Ordering.{ordering_reverse}
 use Rattle.std.specs.Cmp.{nat_cmp_is}
@@ -10,6 +10,7 @@ use Rattle.zone_model.specs.Version.{RecordSet, Key, Sets, Version, key_cmp}
 use Rattle.zone_model.specs.Walk.{Stop, shown_owner, walk}
 use Rattle.zone_model.proofs.Folded.{fold-fold, key_total, same_name-Decides}
 use Rattle.zone_values.specs.TypedSets.{TypedSet}
+use Rattle.zone_values.proofs.Equality.{list_any_map}
 use Rattle.zone_nodes.specs.Held.{told}
 use Rattle.zone_versions.specs.Stops.{stop_of, first_of, first_stop, entry_told, key_told}
 
@@ -52,6 +53,10 @@ entries_told (e ∷ es) = ap (λ l. e ∷ l) (entries_told es)
 pub keys_told : (es : Sets) → map key_told (map told es) ≡ keys_of es
 keys_told [] = refl
 keys_told (e ∷ es) = ap (λ l. e.0 ∷ l) (keys_told es)
+
+-- whether a key of a walk of the tree passes a test
+pub any_told : (test : Key → Bool) (xs : List (Name × TypedSet)) (es : Sets) → xs ≡ map told es → list_any (λ (s : Name × TypedSet). test (key_told s)) xs ≡ list_any test (keys_of es)
+any_told test xs es e = sym (list_any_map test key_told xs) ∙ ap (λ (ys : List (Name × TypedSet)). list_any test (map key_told ys)) e ∙ ap (list_any test) (keys_told es)
 
 -- what a look finds, as an entry
 pub found_told : (r : Option (Name × TypedSet)) (o : Option (Key × RecordSet)) → r ≡ option_map told o → option_map entry_told r ≡ o

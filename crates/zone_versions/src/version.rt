@@ -1,14 +1,14 @@
 // One version of a zone: look-ups, the walk, and edits.
 ghost use Rattle.std.specs.Prelude.{◌≡◌, ◌==◌, ◌&&◌, true, false, not, IsOk, IsSome, ◌++◌, ◌∷◌, [], Some, None, Ok, Err, IfOk, IfErr, IfSome, OnOk, OnErr, if◌then◌else◌, IfNone, IsSomeAnd, is_some, option_copied, option_map, map, find, filter};
 ghost use Rattle.std.specs.List.{list_any};
-ghost use Rattle.dns_name.specs.Names.{fold, under};
+ghost use Rattle.dns_name.specs.Names.{fold, same_name, under};
 ghost use Rattle.zone_model.specs.Version.{IsValid, key_cmp, set_in, set_at, below_apex, is_cut};
 ghost use Rattle.zone_model.specs.Classify.{opened_with};
 ghost use Rattle.zone_model.specs.Answer.{highest_cut};
-ghost use Rattle.zone_model.specs.Walk.{next_stop};
+ghost use Rattle.zone_model.specs.Walk.{next_stop, shown_owner};
 ghost use Rattle.zone_nodes.specs.Held.{told, counted};
 ghost use Rattle.zone_nodes.specs.Trees.{built};
-ghost use Rattle.zone_versions.specs.Stops.{stop_of, first_stop, first_from, entry_told};
+ghost use Rattle.zone_versions.specs.Stops.{stop_of, first_stop, first_from, entry_told, key_told};
 ghost use Rattle.zone_model.specs.Edits.{delete, with_sets};
 ghost use Rattle.zone_model.specs.Edits as edits;
 ghost use Rattle.zone_versions.specs.Causes.{refusal_of};
@@ -27,7 +27,7 @@ ghost use Rattle.dns_rdata.specs.DataFields.{soa_fields};
 ghost use Rattle.dns_rdata.specs.ZoneData.{rtype_of, data_fields};
 
 use crate::errors::EditError;
-use crate::walk::{VersionKeys, WalkItem};
+use crate::walk::{VersionKeys, WalkItem, key_of};
 use dns_name::{Class, KeyName, Labelled, NameRef, Rtype, StoredName, ToName, Ttl};
 use dns_rdata::{RecordData, Soa, StoredRecord, StoredRecordData, ZoneRecordData};
 use std::alloc::{AllocError, Global};
@@ -168,7 +168,7 @@ impl ZoneVersion {
 
     /// Whether a zone cut stands at a name or above it.
     #[tactic(auto, using(crate::proofs::Cuts::any_cut, crate::proofs::Cuts::cut_above, crate::proofs::Cuts::no_cut, crate::proofs::Cuts::cut_here))]
-    fn is_below_cut(&self, name: &KeyName) -> bool
+    pub(crate) fn is_below_cut(&self, name: &KeyName) -> bool
         ensures { result ≡ is_some (highest_cut self.now name.now) }
     {
         let mut rest = name.borrowed();
@@ -207,18 +207,33 @@ impl ZoneVersion {
         let _class = self.tree.class();
     }
 
-    /// An RRset as a walk shows it.
-    pub(crate) fn stop<'v>(&'v self, found: &TreeSet<'v>) -> WalkItem<'v>
-        ensures { result ≡ stop_of self.now (entry_told found.now) }
+    /// Whether a name is the apex. Most others are told from it by their length.
+    fn is_apex(&self, name: &KeyName) -> bool
+        ensures { result ≡ same_name name.now self.now.apex }
+    {
+        if name.compose_len() != self.apex().compose_len() {
+            return false;
+        }
+        name.name_eq(self.apex())
+    }
+
+    /// An RRset's owner as a walk shows it: the apex as it was given, others in lower case.
+    fn shown_owner(&self, found: &TreeSet<'_>) -> KeyName
+        ensures { result ≡ shown_owner self.now found.now.0 }
     {
         let name = found.owner().to_name();
-        let below_cut = self.is_below_cut(&name);
-        let owner = if name.name_eq(self.apex()) {
-            self.apex().to_key_name()
-        } else {
-            name
-        };
-        WalkItem::of(owner, found.rtype(), found.set(), below_cut)
+        if self.is_apex(&name) {
+            return self.apex().to_key_name();
+        }
+        name
+    }
+
+    /// An RRset as a walk shows it.
+    pub(crate) fn stop<'v>(&'v self, found: TreeSet<'v>) -> WalkItem<'v>
+        ensures { result ≡ stop_of self.now (entry_told found.entry) }
+    {
+        let owner = self.shown_owner(&found);
+        WalkItem::of(self, owner, found)
     }
 
     /// The first stop of the walk.
@@ -226,7 +241,7 @@ impl ZoneVersion {
         ensures { result ≡ first_stop self.now }
     {
         match self.sets().next() {
-            Some(found) => Some(self.stop(&found)),
+            Some(found) => Some(self.stop(found)),
             None => None,
         }
     }
@@ -250,7 +265,7 @@ impl ZoneVersion {
         ensures { result ≡ next_stop self.now owner.now rtype }
     {
         match self.first_after(owner, rtype) {
-            Some(found) => Some(self.stop(&found)),
+            Some(found) => Some(self.stop(found)),
             None => None,
         }
     }
@@ -449,7 +464,7 @@ impl ZoneVersion {
         ensures is { result ≡ list_any (is_stray_at self.now) (keys_of self.now.sets) }
         ensures none { result ≡ false → IsValid self.now }
     {
-        any_stray(self, self.keys())
+        any_stray(self, self.sets())
     }
 
     /// What a commit publishes: the version without DS RRsets below the apex that lack NS.
@@ -489,12 +504,22 @@ impl ZoneVersion {
     }
 }
 
-/// Whether a commit of the version would leave an RRset at one of the keys out.
-fn any_stray(version: &ZoneVersion, keys: VersionKeys<'_>) -> bool
-    ensures { result ≡ list_any (is_stray_at version.now) keys.entry }
+/// Whether one of these RRsets of a version is a DS RRset that a commit leaves out.
+fn any_stray(version: &ZoneVersion, sets: TreeSets<'_>) -> bool
+    ensures { result ≡ list_any (λ s. is_stray_at version.now (key_told s)) sets.entry }
 {
-    let mut keys = keys;
-    keys.any(|key| version.is_stray(&key))
+    let mut sets = sets;
+    sets.any(|found| is_stray_set(version, &found))
+}
+
+/// Whether an RRset of a version is a DS RRset that a commit leaves out.
+fn is_stray_set(version: &ZoneVersion, found: &TreeSet<'_>) -> bool
+    ensures { result ≡ is_stray_at version.now (key_told found.now) }
+{
+    if found.rtype() != Rtype::DS {
+        return false;
+    }
+    version.is_stray(&key_of(found))
 }
 
 /// Puts data of the key's type last in the RRset at the key in a tree, and this TTL, in seconds, in place of the RRset's, unless equal data stand

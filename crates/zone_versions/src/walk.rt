@@ -2,7 +2,7 @@
 ghost use Rattle.std.specs.Prelude.{◌≡◌, map, All};
 ghost use Rattle.dns_rdata.specs.ZoneData.{rtype_of, data_fields};
 ghost use Rattle.zone_model.specs.Walk.{walk};
-ghost use Rattle.zone_versions.specs.Stops.{key_told};
+ghost use Rattle.zone_versions.specs.Stops.{stop_of, entry_told, key_told};
 
 use crate::version::ZoneVersion;
 use dns_name::{KeyName, Rtype, Ttl};
@@ -10,44 +10,37 @@ use dns_rdata::StoredRecordData;
 use std::marker::Model;
 use zone_nodes::{TreeSet, TreeSets};
 use zone_sets::SetKey;
-use zone_values::Rrset;
 
 /// One stop of a walk: an RRset with its owner and type.
 #[derive(Drop)]
 pub struct WalkItem<'v> {
+    version: &'v ZoneVersion,
     owner: KeyName,
-    rtype: Rtype,
-    contents: &'v Rrset,
-    below_cut: bool,
+    found: TreeSet<'v>,
 }
 
 impl<'v> Model for WalkItem<'v> {
     ghost use Rattle.std.specs.Prelude.{◌≡◌};
     ghost use Rattle.zone_model.specs.Walk.{Stop};
+    ghost use Rattle.zone_versions.specs.Stops.{stop_of, entry_told};
 
     ghost Value = { Stop };
 
-    ghost view = { λ w. record { owner = w.owner; rtype = w.rtype; contents = w.contents.now.contents; below_cut = w.below_cut } };
+    ghost view = { λ w. stop_of w.version.now (entry_told w.found) };
 
-    ghost invariant = { λ w. w.contents.now.rtype ≡ w.rtype };
+    ghost invariant = { λ w. w.owner ≡ (stop_of w.version.now (entry_told w.found)).owner };
 }
 
 impl<'v> WalkItem<'v> {
-    /// The stop of these parts, an RRset of this type.
-    pub(crate) fn of(
-        owner: KeyName,
-        rtype: Rtype,
-        contents: &'v Rrset,
-        below_cut: bool,
-    ) -> WalkItem<'v>
-        requires { contents.now.rtype ≡ rtype }
-        ensures { result ≡ record { owner = owner; rtype = rtype; contents = contents.now.contents; below_cut = below_cut } }
+    /// The stop of an RRset of a version, with its owner as it is shown.
+    pub(crate) fn of(version: &'v ZoneVersion, owner: KeyName, found: TreeSet<'v>) -> WalkItem<'v>
+        requires { owner ≡ (stop_of version.now (entry_told found)).owner }
+        ensures { result ≡ stop_of version.now (entry_told found.entry) }
     {
         WalkItem {
+            version,
             owner,
-            rtype,
-            contents,
-            below_cut,
+            found,
         }
     }
 
@@ -62,15 +55,14 @@ impl<'v> WalkItem<'v> {
     pub fn rtype(&self) -> Rtype
         ensures { result ≡ self.now.rtype }
     {
-        self.rtype
+        self.found.rtype()
     }
 
     /// The TTL, in seconds.
     pub fn ttl(&self) -> Ttl
         ensures { result ≡ self.now.contents.ttl }
     {
-        let contents = self.contents;
-        contents.ttl()
+        self.found.set().ttl()
     }
 
     /// The data of the records, in order.
@@ -78,15 +70,14 @@ impl<'v> WalkItem<'v> {
         ensures fields { map data_fields result.now ≡ self.now.contents.items }
         ensures types { All (λ d. rtype_of d ≡ self.now.rtype) result.now }
     {
-        let contents = self.contents;
-        contents.data()
+        self.found.set().data()
     }
 
-    /// Whether a zone cut stands at the owner or above it (RFC 1034, 4.2.1).
+    /// Whether a zone cut stands at the owner or above it (RFC 1034, 4.2.1). It is looked for here.
     pub fn below_cut(&self) -> bool
         ensures { result ≡ self.now.below_cut }
     {
-        self.below_cut
+        self.version.is_below_cut(&self.found.owner().to_name())
     }
 }
 
@@ -131,7 +122,7 @@ impl<'v> Iterator for RrsetIter<'v> {
     fn next(&mut self) -> Option<WalkItem<'v>> {
         let version = self.version;
         match self.sets.next() {
-            Some(found) => Some(version.stop(&found)),
+            Some(found) => Some(version.stop(found)),
             None => None,
         }
     }
@@ -180,7 +171,7 @@ impl<'v> Iterator for VersionKeys<'v> {
 }
 
 /// Where an RRset of a walk stands.
-fn key_of(found: &TreeSet<'_>) -> SetKey
+pub(crate) fn key_of(found: &TreeSet<'_>) -> SetKey
     ensures { result ≡ key_told found.now }
 {
     SetKey::new(&found.owner().to_name(), found.rtype())

@@ -1,4 +1,4 @@
-use Rattle.zone_handles.proofs.Walks.{visits_once}
+use Rattle.zone_reads.proofs.Walks.{visits_once}
 use Rattle.zone_handles.proofs.laws.visits_once.Goals as goal
 
 pub returns : goal.returns

@@ -14,7 +14,7 @@ use Rattle.zone_model.proofs.Folded.{IsFolded}
 use Rattle.zone_model.proofs.Valid.{valid_good}
 use Rattle.zone_model.proofs.Phases.{shown_folds}
 use Rattle.zone_values.proofs.Equality.{list_any_map}
-use Rattle.zone_handles.specs.Stops.{same_stop, key_of, entry_of, VisitsOnce}
+use Rattle.zone_reads.specs.Stops.{same_stop, key_of, entry_of, VisitsOnce}
 
 same_shown : (v w : Version) (m n : Name) → fold m ≡ m → fold n ≡ n → pointwise bytes_eq m n ≡ same_name (shown_owner v m) (shown_owner w n)
 same_shown v w m n f g = λ i. pointwise bytes_eq ((sym f ∙ sym (shown_folds v m)) i) ((sym g ∙ sym (shown_folds w n)) i)

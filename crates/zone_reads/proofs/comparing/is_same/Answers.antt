@@ -1,8 +1,8 @@
 use Rattle.std.proofs.Common.{◌&&◌, ◌∙◌, sym}
 use Rattle.std.specs.Cmp.Lexicographic.{pointwise}
-use Rattle.zone_handles.specs.Stops.{same_stop}
-use Rattle.zone_handles.proofs.Walks.{are_left}
-use Rattle.zone_handles.proofs.comparing.is_same.Goals as goal
+use Rattle.zone_reads.specs.Stops.{same_stop}
+use Rattle.zone_reads.proofs.Walks.{are_left}
+use Rattle.zone_reads.proofs.comparing.is_same.Goals as goal
 
 pub returns-in_default-next : goal.returns-in_default-next
 returns-in_default-next c =

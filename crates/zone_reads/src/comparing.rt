@@ -4,11 +4,12 @@ ghost use Rattle.std.specs.List.{list_all, list_any};
 ghost use Rattle.dns_rdata.specs.Records.{same_data};
 ghost use Rattle.dns_rdata.specs.ZoneData.{data_fields};
 ghost use Rattle.zone_model.specs.Version.{same_items, same_version};
-ghost use Rattle.zone_handles.specs.Stops.{same_stop};
+ghost use Rattle.zone_reads.specs.Stops.{same_stop};
 
+use crate::read::ReadZone;
 use dns_name::ToName;
 use dns_rdata::StoredRecordData;
-use zone_reads::{ReadZone, WalkItem};
+use zone_versions::WalkItem;
 
 /// Whether two versions have sets of the same owners, types and TTLs with the same data, but for the order of a set's data and the case of
 /// letters in names (RFC 2181, 5; RFC 4343). Apex and class aren't looked at. Within a set each datum is compared with each of the other's.

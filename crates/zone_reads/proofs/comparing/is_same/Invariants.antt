@@ -1,7 +1,7 @@
 use Rattle.std.proofs.Common.{length, ◌≡◌}
 use Rattle.std.specs.Cmp.Lexicographic.{pointwise}
-use Rattle.zone_handles.specs.Stops.{same_stop}
-use Rattle.zone_handles.proofs.comparing.is_same.Given as goal
+use Rattle.zone_reads.specs.Stops.{same_stop}
+use Rattle.zone_reads.proofs.comparing.is_same.Given as goal
 
 abbrev pub invariant-loop-stop : goal.invariant-loop-stop
 invariant-loop-stop l = pointwise same_stop l.initial.ones l.initial.others ≡ pointwise same_stop l.ones l.others

@@ -2,7 +2,7 @@ use Rattle.std.proofs.Common.{◌≡◌, ℕ, suc, ◌-◌, ◌<◌, ◌≤◌, 
 use Rattle.paged_map.specs.Octets.{reaches}
 use Rattle.paged_map.specs.Pages.{Ascend, Passed, Ahead, values_in, first_key, page_at}
 use Rattle.paged_map.proofs.Places.{ahead_at_start, unreached_at_start, unreached_after, passed_before, ahead_after, page_ascends, page_read_in}
-use Rattle.paged_map.proofs.spots.locate.Goals as goal
+use Rattle.paged_map.proofs.spots.search.Goals as goal
 
 pub returns-then-count-eq0-clause-ahead : goal.returns-then-count-eq0-clause-ahead
 returns-then-count-eq0-clause-ahead g c =

@@ -1,7 +1,7 @@
 use Rattle.std.proofs.Common.{◌&&◌, ◌∙◌}
 use Rattle.dns_rdata.specs.ZoneData.{data_fields}
-use Rattle.zone_handles.proofs.Walks.{same_read}
-use Rattle.zone_handles.proofs.comparing.are_same.Goals as goal
+use Rattle.zone_reads.proofs.Walks.{same_read}
+use Rattle.zone_reads.proofs.comparing.are_same.Goals as goal
 
 pub returns : goal.returns
 returns c = (λ i. c.are_among-there.ensures i && c.are_among-back.ensures i) ∙ same_read data_fields c.args.items.now c.args.others.now
