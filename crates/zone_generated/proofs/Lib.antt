@@ -1,3 +1,5 @@
 mod HostNames
 mod Opened
 mod Digits
+pub mod Content
+pub mod ShortTexts

@@ -4,6 +4,9 @@ use Rattle.dns_name.specs.Names.{Name}
 use Rattle.dns_name.specs.Octets.{u32_octets}
 use Rattle.dns_name.specs.Codes.{type_a, type_ns, type_soa, class_in}
 use Rattle.dns_name.specs.Records.{Field, Octets, DomainName, Record}
+use Rattle.tsig_keys.specs.Hmac.{block_key}
+use Rattle.tsig_keys.specs.TsigKeys.{TsigKey}
+use Rattle.tsig_keys.specs.declared.algorithms.Algorithm.TheVariants.{Sha256}
 use Rattle.zone_model.specs.Version.{Version}
 use Rattle.zone_model.specs.Classify.{opened_with}
 
@@ -53,6 +56,15 @@ host_record n x = record_of (host_label n x ∷ zone_name) type_a (Octets (host_
 
 -- ---- the zone
 
+-- the zone before it has records
+abbrev pub empty : Version
+empty = record { apex = zone_name; class = class_in; sets = [] }
+
 -- equal records count once, as in any zone that is opened
 abbrev pub generated : ℕ → ℕ → Version
-generated n seed = fold_list opened_with (record { apex = zone_name; class = class_in; sets = [] }) (soa_record ∷ ns_record ∷ map (host_record n) (draws n seed))
+generated n seed = fold_list opened_with empty (soa_record ∷ ns_record ∷ map (host_record n) (draws n seed))
+
+-- ---- the key of both sides: `key.`, HMAC-SHA256, the secret 0 1 2, whole MACs (RFC 8945, 4.3)
+
+abbrev pub key : TsigKey
+key = record { name = codes "key" ∷ []; algorithm = Sha256; secret = block_key Sha256 (0 ∷ 1 ∷ 2 ∷ []); min_mac_len = 32; signing_len = 32 }

@@ -4,7 +4,11 @@
 
 mod draws;
 mod examples;
+mod key;
+mod laws;
 mod records;
 mod zone;
 
-pub use zone::generated;
+pub use key::generated_key;
+pub use laws::{generated_texts_are_short, generated_zones_are_published};
+pub use zone::{empty, generated};

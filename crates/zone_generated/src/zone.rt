@@ -63,3 +63,10 @@ pub fn generated(alloc: Global, count: u32, seed: u64) -> Result<ZoneApex, Alloc
     }
     builder.build()
 }
+
+/// The zone before it has records, its version numbered 0.
+pub fn empty(alloc: Global) -> Result<ZoneApex, AllocError>
+    ensures { IfOk result (λ z. z ≡ record { number = 0; version = generated.empty }) }
+{
+    ZoneApex::new(alloc, apex(alloc)?, Class::IN)
+}

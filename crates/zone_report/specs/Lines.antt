@@ -1,11 +1,11 @@
 -- The lines in which a version is printed: its records, and what it answers.
-use Rattle.std.specs.Prelude.{ℕ, Bool, if◌then◌else◌, List, [], ◌∷◌, ◌++◌, flat_map, codes, decimal}
+use Rattle.std.specs.Prelude.{ℕ, Bool, if◌then◌else◌, List, [], ◌∷◌, ◌++◌, length, flat_map, codes, decimal}
 use Rattle.hex.specs.Hex.{encode_lower}
 use Rattle.dns_name.specs.Names.{Name, under}
 use Rattle.dns_rdata.specs.Records.{Record, Field, record_wire}
-use Rattle.zone_model.specs.Version.{Version}
+use Rattle.zone_model.specs.Version.{Version, same_version}
 use Rattle.zone_model.specs.Answer.{Answer, answer, answer_section, authority_section, glue_section, rcode_of, is_authoritative, records_of}
-use Rattle.zone_model.specs.Walk.{Stop}
+use Rattle.zone_model.specs.Walk.{Stop, walk, records_of_version}
 
 -- words of one line, with a space between each two
 abbrev pub joined_words : List (List ℕ) → List ℕ
@@ -45,3 +45,13 @@ set_record class s d = record { owner = s.owner; rtype = s.rtype; class = class;
 -- its line
 abbrev pub item_line : ℕ → Stop → List Field → List ℕ
 item_line class s d = record_line record_wire (codes "rr" ∷ flag_word record_wire s.below_cut ∷ []) (set_record class s d)
+
+-- ---- how much a version has
+
+-- its RRsets, each once, and their records
+abbrev pub count_lines : Version → List ℕ
+count_lines v = line (codes "sets" ∷ decimal (length (walk v)) ∷ []) ++ line (codes "records" ∷ decimal (length (records_of_version v)) ∷ [])
+
+-- whether it has the same records as another
+abbrev pub same_line : Version → Version → List ℕ
+same_line v w = line (codes "same" ∷ (if same_version v w then codes "yes" else codes "no") ∷ [])

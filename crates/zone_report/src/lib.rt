@@ -2,9 +2,11 @@
 #![tactic(auto)]
 
 mod answers;
+mod counting;
 mod numbers;
 mod walk_lines;
 
 pub use answers::append_answers;
+pub use counting::{append_counts, append_same};
 pub use numbers::append_number;
 pub use walk_lines::append_walk;

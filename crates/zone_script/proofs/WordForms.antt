@@ -1,9 +1,12 @@
 -- Which words ask for a transfer without reader threads.
 use Rattle.std.proofs.Common.{◌≡◌, ◌≢◌, ◌≤◌, ◌<◌, ℕ, ◌^◌, Bool, true, false, if◌then◌else◌, List, [], ◌∷◌, length, map, get_or, refl, sym, ap, subst, arith, ◌∙◌, Option, Some, None, IfSome, codes, bytes_eq}
 use Rattle.std.specs.Prelude.{option_map, option_and_then, IfNone}
+use Rattle.std.proofs.lemmas.Grind.{common_steps}
+use Rattle.std.proofs.lemmas.Slice.Eq.{bytes_eq-Decides}
 use Rattle.zone_model.specs.TransferText.{Mode, Axfr, Ixfr}
 use Rattle.xfr_services.specs.declared.modes.XfrMode.{XfrMode}
 use Rattle.zone_script.specs.Script.{number_of, number_below}
+use Rattle.zone_script.specs.Digits.{below}
 use Rattle.zone_script.specs.Words.{Form, Transfer, Generate, form_of, mode_of, with_readers, with_sizes, between}
 
 not_none : {A : Type 0} (x : A) → None ≢ Some x
@@ -86,3 +89,42 @@ other_count f [] one two m e = not_none (Transfer m 0) e
 other_count f (w ∷ []) one two m e = one refl
 other_count f (w ∷ k ∷ []) one two m e = two refl
 other_count f (w ∷ k ∷ l ∷ more) one two m e = too_many (f w) (f k) (f l) (map f more) m e
+
+-- ---- the zone that is made from numbers
+
+-- 1 to 100,000, of a number below 100,001: none where there is none, none for 0, else the number
+counted : (n : Option ℕ) → option_and_then (between 1 100000) n ≡ option_and_then (between 1 100000) (below 100001 n)
+counted None = refl
+counted (Some k) = grind (arith, common_steps)
+
+pub no_count : (digits : List ℕ) → number_below 100001 digits ≡ None → option_and_then (between 1 100000) (number_of digits) ≡ None
+no_count digits e = counted (number_of digits) ∙ ap (option_and_then (between 1 100000)) e
+
+pub some_count : (digits : List ℕ) (k : ℕ) → number_below 100001 digits ≡ Some k → k ≢ 0 → k < 100001 → option_and_then (between 1 100000) (number_of digits) ≡ Some k
+some_count digits k e some few = counted (number_of digits) ∙ ap (option_and_then (between 1 100000)) e ∙ grind (arith, common_steps)
+
+pub zero_count : (digits : List ℕ) (k : ℕ) → number_below 100001 digits ≡ Some k → k ≡ 0 → option_and_then (between 1 100000) (number_of digits) ≡ None
+zero_count digits k e none = counted (number_of digits) ∙ ap (option_and_then (between 1 100000)) e ∙ ap (between 1 100000) none
+
+-- the word `gen`, and another one
+pub is_gen : (w : List ℕ) → bytes_eq w (codes "gen") ≡ true → (more : List (List ℕ)) → form_of (w ∷ more) ≡ with_sizes more
+is_gen w h more = ap (λ v. form_of (v ∷ more)) ((bytes_eq-Decides w (codes "gen")).0 h)
+
+pub is_not_gen : (w : List ℕ) → bytes_eq w (codes "gen") ≡ false → (more : List (List ℕ)) (n s : ℕ) → form_of (w ∷ more) ≢ Some (Generate n s)
+is_not_gen w h more n s e =
+    by (bytes_eq w (codes "axfr")) (bytes_eq w (codes "ixfr"))
+    (sym (ap (λ b. if bytes_eq w (codes "axfr") then with_readers Axfr more else if bytes_eq w (codes "ixfr") then with_readers Ixfr more else if b then with_sizes more else None) h) ∙ e)
+  where
+    readers_other : (m : Mode) (ws : List (List ℕ)) → with_readers m ws ≢ Some (Generate n s)
+    readers_other m [] f = cc
+    readers_other m (k ∷ []) f = by_count (number_below 17 k) f
+      where
+        by_count : (c : Option ℕ) → option_map (Transfer m) c ≡ Some (Generate n s) → ⊥
+        by_count None g = cc
+        by_count (Some x) g = cc
+    readers_other m (k ∷ l ∷ rest) f = cc
+
+    by : (a b : Bool) → (if a then with_readers Axfr more else if b then with_readers Ixfr more else None) ≡ Some (Generate n s) → ⊥
+    by true b f = readers_other Axfr more f
+    by false true f = readers_other Ixfr more f
+    by false false f = cc

@@ -1,5 +1,5 @@
 //! Numbers and octets as a script and a command line write them.
-ghost use Rattle.std.specs.Prelude.{◌≡◌, ◌<◌, ◌+◌, ◌*◌, IfOk, IfSome, option_map};
+ghost use Rattle.std.specs.Prelude.{◌≡◌, ◌<◌, ◌+◌, ◌*◌, ◌^◌, Some, IfOk, IfSome, option_map};
 ghost use Rattle.zone_script.specs.Script as scripts;
 ghost use Rattle.zone_script.specs.Digits.{below, next_number};
 
@@ -65,6 +65,48 @@ pub fn number_below(bound: u64, digits: &[u8]) -> Option<u64>
         return None;
     };
     with_digits_below(bound, number, more)
+}
+
+/// A number with a further digit after it, where it is below 2^64.
+#[tactic(auto, using(crate::proofs::NumberSteps::below_bound, crate::proofs::NumberSteps::not_below))]
+fn with_digit_u64(number: u64, octet: u8) -> Option<u64>
+    ensures value { result ≡ below (2 ^ 64) (next_number number octet) }
+    ensures within { IfSome result (λ n. n < 2 ^ 64) }
+{
+    let digit = digit_of(octet)?;
+    number.checked_mul(10)?.checked_add(digit)
+}
+
+/// The number of the digits so far and of further ones, where it is below 2^64.
+#[tactic(auto, using(crate::proofs::NumberSteps::below_bound, crate::proofs::NumberSteps::stops, crate::proofs::NumberSteps::goes_on))]
+fn with_digits_u64(so_far: u64, more: &[u8]) -> Option<u64>
+    ensures { result ≡ below (2 ^ 64) (scripts.more_digits (Some so_far) more.now) }
+{
+    let mut number = so_far;
+    for octet in more {
+        let Some(next) = with_digit_u64(number, *octet) else {
+            return None;
+        };
+        number = next;
+    }
+    Some(number)
+}
+
+/// The number that decimal digits say, where it is below 2^64, by the same rules.
+#[tactic(auto, using(crate::proofs::NumberSteps::no_number))]
+pub fn number_u64(digits: &[u8]) -> Option<u64>
+    ensures { result ≡ scripts.number_below (2 ^ 64) digits.now }
+{
+    let Some((first, more)) = digits.split_first() else {
+        return None;
+    };
+    if *first == b'0' && !more.is_empty() {
+        return None;
+    }
+    let Some(number) = digit_of(*first) else {
+        return None;
+    };
+    with_digits_u64(number, more)
 }
 
 /// The octets that pairs of hexadecimal digits in either case say; None where the text is empty or isn't that.

@@ -15,11 +15,11 @@ use Rattle.zone_script.specs.Script as scripts
 use Rattle.zone_script.specs.Script.{script_of, committed_by}
 use Rattle.zone_script.specs.ScriptReaders.{wire_readers}
 use Rattle.zone_script.specs.Keeping.{Gives, told_commits}
-use Rattle.zone_script.specs.Words.{Form, Transfer}
+use Rattle.zone_script.specs.Words.{Form, Transfer, Generate}
 use Rattle.zone_script.specs.declared.script.Script.{Script}
 use Rattle.zone_sync.specs.SoFar.{Asking, asks_with}
-use Rattle.zone_sync.specs.Notices.{bad_line, is_reported}
-use Rattle.zone_sync.specs.Reported.{Crossed, crossed, Untouched, Transferred, TransfersOn, Reports, ReportsOn, Tried, Ran, NamesLine, IsDue, Took, TookFirst, Wrote, AreTold, versions_of, read_provider, provider_of, provider_in, asking_in}
+use Rattle.zone_sync.specs.Notices.{usage_line, bad_line, is_reported}
+use Rattle.zone_sync.specs.Reported.{Crossed, crossed, Untouched, Transferred, TransfersOn, Reports, ReportsOn, Tried, Ran, NamesLine, IsDue, IsDueOf, Took, TookFirst, Wrote, AreTold, versions_of, read_provider, provider_of, provider_in, asking_in}
 use Rattle.zone_sync.specs.declared.program.Status.{Status}
 use Rattle.zone_sync.specs.declared.program.Status.TheVariants as ends
 
@@ -247,3 +247,10 @@ wrote_line SendsOf form text link number old new s idle bad written part nothing
       part = λ failed. first_line SendsOf form text link number old new idle bad (part failed);
     }
     by (inr (inr e)) = subst (λ (t : Status). Wrote (IsDue SendsOf form (Some text) link) old new t) (sym e) (wrote_nothing (IsDue SendsOf form (Some text) link) old new (refl, inl idle) (nothing e))
+
+-- the usage line is due of words that don't ask for a zone of numbers
+pub usage_due : (SendsOf : Provider → TsigKey → ℕ → List ℕ → Option (List Sending) → Type 0) (form : Option Form) (left : Option (List ℕ)) (link : Crossed) → ((size seed : ℕ) → form ≢ Some (Generate size seed)) → Untouched link
+    → IsDueOf SendsOf form left link usage_line ends.Usage
+usage_due SendsOf None left link other idle = (refl, idle)
+usage_due SendsOf (Some (Transfer mode readers)) left link other idle = (refl, idle)
+usage_due SendsOf (Some (Generate size seed)) left link other idle = absurd (other size seed refl)

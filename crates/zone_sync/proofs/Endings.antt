@@ -35,7 +35,7 @@ granted_in : (t : scripts.Script TsigKey) (key : TsigKey) → is_granted (provid
 granted_in t key = ap (λ gs. is_granted gs (Some (key_id key))) (grants_kept _ (primary_commits t)).0 ∙ granted_to_one key.name (key_id key).1
 
 -- what is delivered has one of these statuses
-good_status : (v : Version) (s : Session) (answer : Result SyncOk SyncError) → Delivers v s answer → (status_by answer ≡ Done) ⊎ (status_by answer ≡ Memory)
+pub good_status : (v : Version) (s : Session) (answer : Result SyncOk SyncError) → Delivers v s answer → (status_by answer ≡ Done) ⊎ (status_by answer ≡ Memory)
 good_status v s (Ok x) d = inl refl
 good_status v s (Err why.Memory) d = inr refl
 good_status v s (Err why.NoSoa) d = absurd d

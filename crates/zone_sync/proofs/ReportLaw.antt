@@ -6,6 +6,8 @@ use Rattle.dns_rdata.specs.Records.{record_wire}
 use Rattle.tsig_port.specs.Tsig.{TsigKey}
 use Rattle.zone_model.specs.Commits.{Commit}
 use Rattle.zone_model.specs.Session.{Session}
+use Rattle.zone_model.specs.Version.{Version}
+use Rattle.zone_generated.specs.Generated as generated
 use Rattle.zone_model.specs.Offer.{Provider}
 use Rattle.zone_model.specs.TransferText.{Mode}
 use Rattle.zone_devices.specs.Calls.{Rose}
@@ -17,9 +19,9 @@ use Rattle.zone_sync.specs.Delivery.{Synchronizes}
 use Rattle.zone_sync.specs.declared.outcome.SyncOk.{SyncOk}
 use Rattle.zone_sync.specs.declared.outcome.SyncError.{SyncError}
 use Rattle.zone_sync.specs.declared.outcome.SyncError.TheVariants as why
-use Rattle.zone_sync.specs.Report.{report}
+use Rattle.zone_sync.specs.Report.{report, generated_report}
 use Rattle.zone_sync.specs.Notices.{is_reported}
-use Rattle.zone_sync.specs.Reported.{crossed, Crossed, Transferred, TransfersOn, Reports, ReportsOn, status_by}
+use Rattle.zone_sync.specs.Reported.{crossed, Crossed, Transferred, EndsAs, Reports, ReportsOn, ReportsNumbers, read_provider, generating_provider, generated_asking, status_by}
 use Rattle.zone_sync.specs.declared.program.Status.{Status}
 use Rattle.zone_sync.specs.declared.program.Status.TheVariants.{LinkFault, Memory}
 use Rattle.zone_sync.specs.contracts.program.StatusPartialEq.TheImpl as derived
@@ -95,11 +97,28 @@ reports_so asked queries handles s answer octets n last status counted current e
 }
 
 -- .. and that of a script's transfer
-pub reported_so : (SendsOf : Provider → TsigKey → ℕ → List ℕ → Option (List Sending) → Type 0) (mode : Mode) (script : Script) (link : Crossed) (t : TransfersOn SendsOf mode script link) (asked : List (Name × ℕ)) (octets : List ℕ) (n : ℕ) (last : Commit) (status : Status)
-    → n ≡ length t.handles → last ≡ t.session.current → status ≡ status_by t.answer → asked ≡ script.queries → t.answer ≢ Err why.Memory
-    → octets ≡ report record_wire t.answer n last.version asked [] → ReportsOn SendsOf mode script link octets status
-reported_so SendsOf mode script link t asked octets n last status counted current ends same known is = record {
-  transfer = t;
-  reports = reports_so asked script.queries t.handles t.session t.answer octets n last status counted current ends same is;
-  known = ends_reported t.answer status ends known;
-}
+pub reported_so : (SendsOf : Provider → TsigKey → ℕ → List ℕ → Option (List Sending) → Type 0) (mode : Mode) (script : Script) (link : Crossed) (answer : Result SyncOk SyncError) (n : ℕ) (last : Commit) (status : Status)
+    → EndsAs (SendsOf (read_provider script) script.key script.at_primary) (asks_with script.key mode script.at_secondary script.secondary) script.at_primary link answer n last status
+    → (asked : List (Name × ℕ)) (octets : List ℕ) → asked ≡ script.queries → octets ≡ report record_wire answer n last.version asked [] → ReportsOn SendsOf mode script link octets status
+reported_so SendsOf mode script link answer n last status e asked octets same is =
+    let t = e.transfer in
+    record {
+      transfer = t;
+      reports = reports_so asked script.queries t.handles t.session t.answer octets n last status e.counted e.current (e.ended ∙ ap status_by e.answered) same (is ∙ ap (λ a. report record_wire a n last.version asked []) e.answered);
+      known = e.known;
+    }
+
+-- .. and that of a zone of numbers
+pub numbers_so : (SendsOf : Provider → TsigKey → ℕ → List ℕ → Option (List Sending) → Type 0) (size seed : ℕ) (link : Crossed) (answer : Result SyncOk SyncError) (n : ℕ) (last : Commit) (status : Status)
+    → EndsAs (SendsOf (generating_provider size seed) generated.key 0) generated_asking 0 link answer n last status
+    → (sent : Version) (octets : List ℕ) → sent ≡ generated.generated size seed → octets ≡ generated_report answer n last.version sent → ReportsNumbers SendsOf size seed link octets status
+numbers_so SendsOf size seed link answer n last status e sent octets same is =
+    let t = e.transfer in
+    record {
+      transfer = t;
+      ended = e.ended ∙ ap status_by e.answered;
+      is =
+          is ∙ ap (λ a. generated_report a n last.version sent) e.answered ∙ ap (λ m. generated_report t.answer m last.version sent) e.counted
+          ∙ ap (λ (z : Commit). generated_report t.answer (length t.handles) z.version sent) e.current ∙ ap (generated_report t.answer (length t.handles) t.session.current.version) same;
+      known = e.known;
+    }

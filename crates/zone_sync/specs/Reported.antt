@@ -9,7 +9,7 @@ use Rattle.zone_model.specs.Version.{Version}
 use Rattle.zone_model.specs.Edits.{close}
 use Rattle.zone_model.specs.Classify.{opened}
 use Rattle.zone_model.specs.Difference.{Difference}
-use Rattle.zone_model.specs.TransferText.{Mode, OnIxfr}
+use Rattle.zone_model.specs.TransferText.{Mode, Axfr, OnIxfr}
 use Rattle.zone_model.specs.Spells.{spelling}
 use Rattle.zone_model.specs.Offer.{Offer, Provider, after_push, difference_if}
 use Rattle.zone_devices.specs.Calls.{Rose}
@@ -17,15 +17,16 @@ use Rattle.zone_devices.specs.Links.{LinkLists}
 use Rattle.zone_devices.specs.Streams.{with_more}
 use Rattle.xfr_server.specs.Items.{Sending}
 use Rattle.xfr_providers.specs.Offers.{key_id}
-use Rattle.zone_script.specs.Words.{Form, Transfer}
+use Rattle.zone_script.specs.Words.{Form, Transfer, Generate}
 use Rattle.zone_script.specs.Script.{Script, script_of, committed_by, secondary_version}
 use Rattle.zone_script.specs.declared.script.Script as read_scripts
 use Rattle.zone_script.specs.ScriptReaders.{wire_readers}
+use Rattle.zone_generated.specs.Generated as generated
 use Rattle.zone_sync.specs.SoFar.{Asking, asks_with, asked_octets}
 use Rattle.zone_sync.specs.Fitting.{AreClose, ArePublished, RecordsFit, BaseMatches, sent_text}
 use Rattle.zone_sync.specs.Grants.{history_offer}
 use Rattle.zone_sync.specs.Delivery.{Synchronizes}
-use Rattle.zone_sync.specs.Report.{report}
+use Rattle.zone_sync.specs.Report.{report, generated_report}
 use Rattle.zone_sync.specs.Notices.{usage_line, fault_line, long_line, bad_line, is_reported}
 use Rattle.zone_sync.specs.declared.outcome.SyncOk.{SyncOk}
 use Rattle.zone_sync.specs.declared.outcome.SyncError.{SyncError}
@@ -70,6 +71,15 @@ pub record Transferred (Sends : List ℕ → Option (List Sending) → Type 0) (
 pub record Reports (answer : Result SyncOk SyncError) (handles : List Commit) (s : Session) (queries : List (Name × ℕ)) (octets : List ℕ) (status : Status) : Type 0 where
   pub ended : status ≡ status_by answer
   pub is : octets ≡ report record_wire answer (length handles) s.current.version queries []
+
+-- how a transfer ended that is to be reported: its answer, how many versions it made, the last one, and its status
+pub record EndsAs (Sends : List ℕ → Option (List Sending) → Type 0) (a : Asking) (at : ℕ) (link : Crossed) (answer : Result SyncOk SyncError) (made : ℕ) (last : Commit) (status : Status) : Type 0 where
+  pub transfer : Transferred Sends a at link
+  pub answered : answer ≡ transfer.answer
+  pub counted : made ≡ length transfer.handles
+  pub current : last ≡ transfer.session.current
+  pub ended : status ≡ status_by answer
+  pub known : IsTrue (is_reported status)
 
 -- ---- the primary and the secondary of a script
 
@@ -173,6 +183,40 @@ IsDue SendsOf form left link octets ends.TooLong = (octets ≡ long_line) × Unt
 IsDue SendsOf form left link octets ends.Memory = (octets ≡ []) × (Untouched link ⊎ Tried SendsOf form left link)
 IsDue SendsOf form left link octets ends.SinkFault = ⊥
 IsDue SendsOf form left link octets status = Ran SendsOf form left link octets status
+
+-- ---- a run on a zone that is made from numbers
+
+-- its primary keeps that version alone, and grants it to the key of such zones
+abbrev pub generating_provider : ℕ → ℕ → Provider
+generating_provider size seed = provider_of (generated.generated size seed) [] generated.key
+
+-- the secondary has no records, and both moments are 0
+abbrev pub generated_asking : Asking
+generated_asking = asks_with generated.key Axfr 0 (record { number = 0; version = generated.empty })
+
+-- its transfer, from a primary of that provider and key that sends so
+abbrev pub TransfersNumbers : (Provider → TsigKey → ℕ → List ℕ → Option (List Sending) → Type 0) → ℕ → ℕ → Crossed → Type 0
+TransfersNumbers SendsOf size seed link = Transferred (SendsOf (generating_provider size seed) generated.key 0) generated_asking 0 link
+
+-- .. and octets are its report: the answer, the count of versions made, how many RRsets and records the secondary's last version has, and whether it is
+-- what was sent
+pub record ReportsNumbers (SendsOf : Provider → TsigKey → ℕ → List ℕ → Option (List Sending) → Type 0) (size seed : ℕ) (link : Crossed) (octets : List ℕ) (status : Status) : Type 0 where
+  pub transfer : TransfersNumbers SendsOf size seed link
+  pub ended : status ≡ status_by transfer.answer
+  pub is : octets ≡ generated_report transfer.answer (length transfer.handles) transfer.session.current.version (generated.generated size seed)
+  pub known : IsTrue (is_reported status)
+
+-- what there is to write with a status, and what passed over the link: that transfer with its report, and where memory ran out nothing or that transfer
+abbrev pub IsDueOfNumbers : (Provider → TsigKey → ℕ → List ℕ → Option (List Sending) → Type 0) → ℕ → ℕ → Crossed → List ℕ → Status → Type 0
+IsDueOfNumbers SendsOf size seed link octets ends.Memory = (octets ≡ []) × (Untouched link ⊎ TransfersNumbers SendsOf size seed link)
+IsDueOfNumbers SendsOf size seed link octets status = ReportsNumbers SendsOf size seed link octets status
+
+-- ---- any run
+
+-- what there is to write by the words
+abbrev pub IsDueOf : (Provider → TsigKey → ℕ → List ℕ → Option (List Sending) → Type 0) → Option Form → Option (List ℕ) → Crossed → List ℕ → Status → Type 0
+IsDueOf SendsOf (Some (Generate size seed)) left link = IsDueOfNumbers SendsOf size seed link
+IsDueOf SendsOf form left link = IsDue SendsOf form left link
 
 -- a sink took octets of which this holds
 pub record Took (Holds : List ℕ → Type 0) (old new : Option (List ℕ)) : Type 0 where

@@ -6,16 +6,21 @@ use Rattle.zone_devices.specs.Calls.{Rose}
 use Rattle.zone_script.specs.Script as scripts
 use Rattle.zone_script.specs.Script.{script_of}
 use Rattle.zone_script.specs.ScriptReaders.{wire_readers}
-use Rattle.zone_script.specs.Words.{Form, Transfer}
+use Rattle.zone_script.specs.Words.{Form, Transfer, Generate}
 use Rattle.zone_sync.specs.Delivery.{WasHonest}
 use Rattle.zone_sync.specs.Notices.{is_fault}
 use Rattle.zone_sync.specs.Reported.{Crossed, FitsLink}
 use Rattle.zone_sync.specs.declared.program.Status.{Status}
 use Rattle.zone_sync.specs.declared.program.Status.TheVariants as ends
 
--- words that don't ask for a transfer without reader threads
-abbrev pub IsOther : Option Form → Type 0
-IsOther form = (mode : Mode) → form ≢ Some (Transfer mode 0)
+-- words that don't ask for a script's transfer without reader threads
+abbrev pub AsksNoScript : Option Form → Type 0
+AsksNoScript form = (mode : Mode) → form ≢ Some (Transfer mode 0)
+
+-- .. nor for a zone that is made from numbers
+pub record IsOther (form : Option Form) : Type 0 where
+  pub no_script : AsksNoScript form
+  pub no_numbers : (size seed : ℕ) → form ≢ Some (Generate size seed)
 
 -- the form of the program's words, and the status
 pub record TellsWords (form : Option Form) (status : Status) : Type 0 where
@@ -59,3 +64,12 @@ pub record TellsScript (mode : Mode) (text : List ℕ) (source_old source_new si
   pub delivers : (script : scripts.Script TsigKey) (key : TsigKey) → length text ≤ 16777216 → script_of wire_readers text ≡ Ok script
       → FitsLink mode script key link.longest → WasHonest link.lists_old link.lists_new link.faults_old link.faults_new
       → ¬ Rose source_old source_new → ¬ Rose sink_old sink_new → (status ≡ ends.Done) ⊎ (status ≡ ends.Memory)
+
+-- words that ask for a zone that is made from numbers, and the status; how often the sink had failed, and the link, before and after
+pub record TellsNumbers (sink_old sink_new : ℕ) (link : Crossed) (status : Status) : Type 0 where
+  -- where no call failed, the transfer is answered, or memory ran out
+  pub completes : ¬ Rose sink_old sink_new → ¬ Rose link.faults_old link.faults_new
+      → (status ≡ ends.Done) ⊎ ((status ≡ ends.Refused) ⊎ (status ≡ ends.Memory))
+  -- where the link was honest, and takes the request of some hundred octets, the transfer ends well, or memory ran out
+  pub delivers : 512 ≤ link.longest → WasHonest link.lists_old link.lists_new link.faults_old link.faults_new
+      → ¬ Rose sink_old sink_new → (status ≡ ends.Done) ⊎ (status ≡ ends.Memory)

@@ -1,10 +1,10 @@
 //! The program over its streams and its link.
-ghost use Rattle.std.specs.Prelude.{◌≡◌, ◌≢◌, ◌⊎◌, ◌<◌, ℕ, List, Some, Ok, Err, map, length, take, string_bytes, IfOk, OnOk, IfSome, IsTrue};
+ghost use Rattle.std.specs.Prelude.{◌≡◌, ◌≢◌, ◌⊎◌, ◌<◌, ◌≤◌, ℕ, List, Some, Ok, Err, map, length, take, string_bytes, IfOk, OnOk, IfSome, IsTrue};
 ghost use Rattle.zone_model.specs.TransferText.{Mode};
 ghost use Rattle.zone_devices.specs.Calls.{Rose};
 ghost use Rattle.zone_devices.specs.Streams.{with_more, emptied};
-ghost use Rattle.zone_sync.specs.Reported.{ReportsOn, TransfersOn, Untouched, FitsLink, AreTold, versions_of, pushed_all, provider_of, IsDue, Took, TookFirst, Wrote, crossed, status_by};
-ghost use Rattle.zone_sync.specs.Statuses.{IsOther, TellsLink, TellsScript, TellsSink, TellsSource, TellsWords};
+ghost use Rattle.zone_sync.specs.Reported.{ReportsOn, TransfersOn, Transferred, Untouched, FitsLink, AreTold, versions_of, pushed_all, provider_of, IsDue, IsDueOf, IsDueOfNumbers, ReportsNumbers, TransfersNumbers, EndsAs, Took, TookFirst, Wrote, crossed, status_by};
+ghost use Rattle.zone_sync.specs.Statuses.{AsksNoScript, IsOther, TellsLink, TellsNumbers, TellsScript, TellsSink, TellsSource, TellsWords};
 ghost use Rattle.zone_sync.specs.Primaries.{refuser};
 ghost use Rattle.zone_sync.specs.Serving.{request_at};
 ghost use Rattle.zone_sync.specs.Delivery.{WasHonest};
@@ -13,16 +13,18 @@ ghost use Rattle.zone_script.specs.Script as scripts;
 ghost use Rattle.zone_script.specs.Script.{script_of};
 ghost use Rattle.tsig_port.specs.Tsig.{TsigKey};
 ghost use Rattle.zone_script.specs.ScriptReaders.{wire_readers};
-ghost use Rattle.zone_script.specs.Words.{form_of, Transfer};
+ghost use Rattle.zone_script.specs.Words.{form_of, Transfer, Generate};
+ghost use Rattle.zone_sync.specs.SoFar.{asks_with};
 ghost use Rattle.zone_sync.specs.Modes.{mode_of};
 
 use crate::laws::history_primaries_grant;
+use crate::number_laws::generated_zones_are_granted;
 use crate::outcome::{SyncError, SyncOk};
-use crate::report::report_octets;
+use crate::report::{counts_octets, report_octets};
 use crate::sync::{Moments, sync_zone};
 use dns_name::Labelled;
 use std::alloc::{AllocError, Global};
-use tsig_port::Key;
+use tsig_port::{Key, Time48};
 use xfr_server::{
     HistoryProvider, PrimaryStack, RefuseSvc, Service, TsigMiddlewareSvc, XfrMiddlewareSvc,
 };
@@ -31,10 +33,12 @@ use zone_devices::links::Link;
 use zone_devices::read_to_end::{MOST_OCTETS, ReadError, read_whole};
 use zone_devices::sinks::{Sink, write_all};
 use zone_devices::sources::Source;
+use zone_generated::{empty, generated, generated_key};
 use zone_reads::ReadZone;
 use zone_script::commits::Commits;
 use zone_script::script::{Script, ScriptError, parse};
-use zone_script::words::transfer_of;
+use zone_script::words::{generated_of, transfer_of};
+use zone_sessions::ZoneApex;
 
 /// The usage line.
 const USAGE: &[u8] = b"usage: zonesync axfr [K] / ixfr [K] / gen N SEED\n";
@@ -103,17 +107,17 @@ pub fn run<R, S: Source, K: Sink, L: Link>(
     out: &mut K,
     link: &mut L,
 ) -> Status
-    // What is written with each status, with status 5 a first part of it; and what went over the link: one transfer
-    // of the script, of the kind that the words ask for, with a report, nothing with any other line, and where memory ran
-    // out nothing or that transfer.
+    // What is written with each status, with status 5 a first part of it; and what went over the link: one transfer, that of the
+    // script, of the kind that the words ask for, or that of the zone that the words' numbers make, with a report; nothing with any
+    // other line; and where memory ran out nothing or that transfer.
     ensures wrote { Wrote
-        (IsDue (λ p key at m. ⟦<Primary as Service<()>>⟧.Sends ((refuser, p), key) (request_at m at))
+        (IsDueOf (λ p key at m. ⟦<Primary as Service<()>>⟧.Sends ((refuser, p), key) (request_at m at))
         (form_of (map string_bytes words.now)) (S.remaining src.old) (crossed (L.longest link.old) (L.lists link.old) (L.lists link.new)
         (L.faults link.old) (L.faults link.new)))
         (K.taken out.old) (K.taken out.new) result }
-    // Other words are answered by status 2 alone, or by 5, and nothing is read.
+    // Other words are answered by status 2 alone, or by 5, and only for a script is anything read.
     ensures by_words { TellsWords (form_of (map string_bytes words.now)) result }
-    ensures unread { IsOther (form_of (map string_bytes words.now)) → src.new ≡ src.old }
+    ensures unread { AsksNoScript (form_of (map string_bytes words.now)) → src.new ≡ src.old }
     // The statuses of faults come where a count of faults rose; only want of memory and a later fault hide one.
     ensures source_faults { TellsSource (S.faults src.old) (S.faults src.new) result }
     ensures sink_faults { TellsSink (K.faults out.old) (K.faults out.new) result }
@@ -125,12 +129,21 @@ pub fn run<R, S: Source, K: Sink, L: Link>(
         → TellsScript mode text (S.faults src.old) (S.faults src.new) (K.faults out.old) (K.faults out.new)
         (crossed (L.longest link.old) (L.lists link.old) (L.lists link.new)
         (L.faults link.old) (L.faults link.new)) result }
-    // With a report or the number of a line, the source was read to its end.
-    ensures none_left { IsTrue (is_read result) → S.remaining src.new ≡ emptied (S.remaining src.old) }
+    // A zone that numbers make is transferred well over any honest link that takes its request.
+    ensures by_numbers { (size seed : ℕ) → form_of (map string_bytes words.now) ≡ Some (Generate size seed)
+        → TellsNumbers (K.faults out.old) (K.faults out.new)
+        (crossed (L.longest link.old) (L.lists link.old) (L.lists link.new)
+        (L.faults link.old) (L.faults link.new)) result }
+    // With a script's report or the number of a line, the source was read to its end.
+    ensures none_left { (mode : Mode) → form_of (map string_bytes words.now) ≡ Some (Transfer mode 0)
+        → IsTrue (is_read result) → S.remaining src.new ≡ emptied (S.remaining src.old) }
 {
     match transfer_of(words) {
         Some(mode) => run_mode(rt, alloc, mode, src, out, link),
-        None => write_last(out, USAGE, Status::Usage),
+        None => match generated_of(words) {
+            Some((size, seed)) => run_generated(rt, alloc, size, seed, out, link),
+            None => write_last(out, USAGE, Status::Usage),
+        },
     }
 }
 
@@ -305,6 +318,65 @@ fn push_all(provider: &mut HistoryProvider, commits: Commits) -> Result<(), Allo
     Ok(())
 }
 
+/// How a transfer ended: its answer, how many versions it made, a handle of the last one, and the status of its report.
+#[derive(Drop)]
+struct Ended {
+    outcome: Result<SyncOk, SyncError>,
+    made: usize,
+    last: ReadZone,
+    status: Status,
+}
+
+/// Transfers a zone from a primary to a secondary.
+fn transfer_to<R, L: Link>(
+    rt: &R,
+    alloc: Global,
+    primary: &Primary,
+    secondary: ZoneApex,
+    key: &Key,
+    mode: XfrMode,
+    moments: Moments,
+    link: &mut L,
+) -> Result<Ended, AllocError>
+    ensures ended { IfOk result (λ e. EndsAs
+        (λ m. ⟦<Primary as Service<()>>⟧.Sends primary.now (request_at m moments.at_primary))
+        (asks_with key.now (mode_of mode) moments.at_secondary secondary) moments.at_primary
+        (crossed (L.longest link.old) (L.lists link.old) (L.lists link.new) (L.faults link.old) (L.faults link.new))
+        e.outcome e.made e.last e.status) }
+    ensures over_link { Transferred
+        (λ m. ⟦<Primary as Service<()>>⟧.Sends primary.now (request_at m moments.at_primary))
+        (asks_with key.now (mode_of mode) moments.at_secondary secondary) moments.at_primary
+        (crossed (L.longest link.old) (L.lists link.old) (L.lists link.new) (L.faults link.old) (L.faults link.new)) }
+    ensures link_fault { IfOk result (λ e. e.status ≡ Status.LinkFault → Rose (L.faults link.old) (L.faults link.new)) }
+    ensures link_fails { IfOk result (λ e. L.faults link.old < L.faults link.new → e.status ≡ Status.LinkFault) }
+{
+    let mut made = Vec::new(alloc);
+    let mut zone = secondary;
+    let mut session = zone.write(alloc);
+    let outcome = sync_zone(
+        rt,
+        alloc,
+        primary,
+        &mut session,
+        key,
+        mode,
+        link,
+        moments,
+        &mut made,
+    );
+    let last = session.handle()?;
+    let status = status_of(&outcome);
+    if status == Status::Memory {
+        return Err(AllocError);
+    }
+    Ok(Ended {
+        outcome,
+        made: made.len(),
+        last,
+        status,
+    })
+}
+
 /// Transfers the zone; what is to be written, and the status.
 fn transfer<R, L: Link>(
     rt: &R,
@@ -344,25 +416,94 @@ fn transfer<R, L: Link>(
         at_primary,
         at_secondary,
     };
-    let mut made = Vec::new(alloc);
-    let mut zone = secondary;
-    let mut session = zone.write(alloc);
-    let outcome = sync_zone(
+    let ended = transfer_to(rt, alloc, &primary, secondary, &key, mode, moments, link)?;
+    let report = report_octets(
+        alloc,
+        &ended.outcome,
+        ended.made,
+        &ended.last,
+        queries.as_slice(),
+    )?;
+    Ok((report, ended.status))
+}
+
+/// Makes the zone of so many hosts, transfers it to an empty one, and writes the report.
+fn run_generated<R, K: Sink, L: Link>(
+    rt: &R,
+    alloc: Global,
+    size: u32,
+    seed: u64,
+    out: &mut K,
+    link: &mut L,
+) -> Status
+    requires some { 1 ≤ size }
+    requires most { size ≤ 100000 }
+    ensures wrote { Wrote
+        (IsDueOfNumbers (λ p key at m. ⟦<Primary as Service<()>>⟧.Sends ((refuser, p), key) (request_at m at))
+        size seed (crossed (L.longest link.old) (L.lists link.old) (L.lists link.new)
+        (L.faults link.old) (L.faults link.new)))
+        (K.taken out.old) (K.taken out.new) result }
+    ensures sink_faults { TellsSink (K.faults out.old) (K.faults out.new) result }
+    ensures link_faults { TellsLink (L.faults link.old) (L.faults link.new) result }
+    ensures by_numbers { TellsNumbers (K.faults out.old) (K.faults out.new)
+        (crossed (L.longest link.old) (L.lists link.old) (L.lists link.new)
+        (L.faults link.old) (L.faults link.new)) result }
+    ensures others { (result ≢ Status.Usage) × (result ≢ Status.SourceFault) × (result ≢ Status.TooLong)
+        × (result ≢ Status.Script) }
+{
+    // For the proof: such a primary grants the zone.
+    generated_zones_are_granted();
+    match transfer_generated(rt, alloc, size, seed, link) {
+        Ok((report, status)) => write_last(out, report.as_slice(), status),
+        Err(_) => Status::Memory,
+    }
+}
+
+/// Makes the zone of so many hosts, and transfers it to an empty one; what is to be written, and the status.
+fn transfer_generated<R, L: Link>(
+    rt: &R,
+    alloc: Global,
+    size: u32,
+    seed: u64,
+    link: &mut L,
+) -> Result<(Vec<u8>, Status), AllocError>
+    requires some { 1 ≤ size }
+    ensures report { IfOk result (λ r. ReportsNumbers
+        (λ p key at m. ⟦<Primary as Service<()>>⟧.Sends ((refuser, p), key) (request_at m at))
+        size seed
+        (crossed (L.longest link.old) (L.lists link.old) (L.lists link.new)
+        (L.faults link.old) (L.faults link.new)) r.0.items r.1) }
+    ensures over_link { Untouched (crossed (L.longest link.old) (L.lists link.old) (L.lists link.new)
+        (L.faults link.old) (L.faults link.new))
+        ⊎ TransfersNumbers
+        (λ p key at m. ⟦<Primary as Service<()>>⟧.Sends ((refuser, p), key) (request_at m at))
+        size seed
+        (crossed (L.longest link.old) (L.lists link.old) (L.lists link.new)
+        (L.faults link.old) (L.faults link.new)) }
+    ensures link_fault { IfOk result (λ r. r.1 ≡ Status.LinkFault → Rose (L.faults link.old) (L.faults link.new)) }
+    ensures link_fails { IfOk result (λ r. L.faults link.old < L.faults link.new → r.1 ≡ Status.LinkFault) }
+    ensures others { IfOk result (λ r. IsTrue (is_reported r.1)) }
+{
+    let key = generated_key();
+    let zone = generated(alloc, size, seed)?;
+    let opening = zone.read(rt)?;
+    let sent = zone.read(rt)?;
+    let primary = primary_of(alloc, opening, Commits::new(alloc), &key)?;
+    let begin = Time48::from_u64(0);
+    let moments = Moments {
+        at_primary: begin,
+        at_secondary: begin,
+    };
+    let ended = transfer_to(
         rt,
         alloc,
         &primary,
-        &mut session,
+        empty(alloc)?,
         &key,
-        mode,
-        link,
+        XfrMode::Axfr,
         moments,
-        &mut made,
-    );
-    let last = session.handle()?;
-    let status = status_of(&outcome);
-    if status == Status::Memory {
-        return Err(AllocError);
-    }
-    let report = report_octets(alloc, &outcome, made.len(), &last, queries.as_slice())?;
-    Ok((report, status))
+        link,
+    )?;
+    let report = counts_octets(alloc, &ended.outcome, ended.made, &ended.last, &sent)?;
+    Ok((report, ended.status))
 }
