@@ -67,7 +67,7 @@ pub trait ToName: Labelled {
     fn name_eq<N: Labelled>(&self, other: &N) -> bool
         ensures { result ≡ same_name (Self.labels self.now) (N.labels other.now) }
     {
-        is_spelled_alike(&self.to_canonical(), &other.to_canonical())
+        are_same(self.iter_labels(), other.iter_labels())
     }
 
     /// Canonical order (RFC 4034, 6.1).
@@ -90,7 +90,15 @@ pub trait ToName: Labelled {
     fn ends_with<N: Labelled>(&self, base: &N) -> bool
         ensures { result ≡ under (Self.labels self.now) (N.labels base.now) }
     {
-        is_spelled_under(&self.to_canonical(), &base.to_canonical())
+        let (own, above) = (count_of(self.iter_labels()), count_of(base.iter_labels()));
+        if own < above {
+            return false;
+        }
+        let mut rest = self.iter_labels();
+        for _ in 0..own - above {
+            let _ = rest.next();
+        }
+        are_same(rest, base.iter_labels())
     }
 }
 
@@ -129,3 +137,27 @@ impl<N: Labelled> Labelled for &N {
 }
 
 impl<N: Labelled> ToName for &N {}
+
+/// How many labels there are.
+fn count_of(labels: Labels<'_>) -> usize {
+    let mut labels = labels;
+    let mut count = 0usize;
+    while let Some(_) = labels.next() {
+        count += 1;
+    }
+    count
+}
+
+/// Whether labels are the same, one by one, ASCII case aside.
+fn are_same(ones: Labels<'_>, others: Labels<'_>) -> bool {
+    let (mut ones, mut others) = (ones, others);
+    while let Some(one) = ones.next() {
+        let Some(other) = others.next() else {
+            return false;
+        };
+        if !one.as_slice().eq_ignore_ascii_case(other.as_slice()) {
+            return false;
+        }
+    }
+    others.next().is_none()
+}

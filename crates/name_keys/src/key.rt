@@ -42,7 +42,9 @@ impl Key<KeyOctets> {
     pub fn of<N: Labelled>(name: &N) -> NameKey
         ensures { result ≡ fold (N.labels name.now) }
     {
-        NameKey::of_name(&name.to_key_name())
+        let mut octets = KeyOctets::new();
+        octets.fill_labels(name.iter_labels());
+        Key { octets }
     }
 
     /// The key of a name in wire form, which isn't copied.

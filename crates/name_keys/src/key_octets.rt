@@ -5,7 +5,7 @@ ghost use Rattle.std.specs.Str.{str_to_ascii_lowercase};
 ghost use Rattle.dns_name.specs.Names.{is_name};
 ghost use Rattle.name_keys.specs.NameKeys.{octet_key, label_key, name_key};
 
-use dns_name::Name;
+use dns_name::{Labels, Name};
 use std::convert::AsSlice;
 use std::marker::Model;
 
@@ -55,6 +55,17 @@ impl KeyOctets {
         while let Some((label, tail)) = rest.split_first() {
             self.put_label(label.as_slice());
             rest = tail;
+        }
+    }
+
+    /// Puts the key of the name of these labels in place of what was here.
+    pub fn fill_labels(&mut self, labels: Labels<'_>)
+        ensures { self.new ≡ name_key labels.entry }
+    {
+        self.clear();
+        let mut labels = labels;
+        while let Some(label) = labels.next() {
+            self.put_label(label.as_slice());
         }
     }
 

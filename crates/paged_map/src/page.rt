@@ -67,6 +67,27 @@ impl<V> Entry<V> {
 #[derive(Drop)]
 pub(crate) struct Page<V> {
     entries: Vec<Arc<Entry<V>>>,
+    leads: Vec<u64>,
+}
+
+/// Eight octets of a key behind those that all keys have.
+pub(crate) fn lead_of(key: &[u8]) -> u64 {
+    let Some(rest) = key.get(8..) else {
+        return 0;
+    };
+    if let Some((word, _)) = rest.split_first_chunk::<8>() {
+        return u64::from_be_bytes(*word);
+    }
+    let mut lead = 0u64;
+    let mut i = 0usize;
+    while i < 8 {
+        lead = lead << 8;
+        if let Some(octet) = rest.get(i) {
+            lead = lead | u64::from(*octet);
+        }
+        i += 1;
+    }
+    lead
 }
 
 impl<V> Model for Page<V> {
@@ -83,6 +104,15 @@ impl<V> Page<V> {
     pub(crate) fn reaches(&self, mark: Mark<'_>) -> bool
         ensures { result ≡ reaches mark.entry (first_key self.now) }
     {
+        if let Mark::Before(key) = mark && let Some(first) = self.leads.first() {
+            let lead = lead_of(key);
+            if lead > *first {
+                return true;
+            }
+            if lead < *first {
+                return false;
+            }
+        }
         match self.entries.first() {
             Some(entry) => mark.reaches(entry.key()),
             None => mark.reaches(b"".as_slice()),
@@ -96,11 +126,20 @@ impl<V> Page<V> {
         ensures passed { Passed mark.entry (take result self.now) }
         ensures ahead { Ahead mark.entry (drop result self.now) }
     {
-        self.entries.partition_point(
-            |entry: &Arc<Entry<V>>| -> bool
-                ensures { result ≡ passes mark.entry (arc_value entry.now).0 }
-            { mark.passes(entry.key()) },
-        )
+        if let Mark::Before(key) = mark {
+            let lead = lead_of(key);
+            let from = self.leads.partition_point(|it: &u64| -> bool { *it < lead });
+            let mut at = from;
+            while let Some(it) = self.leads.get(at) {
+                if *it != lead || !mark.passes(self.entries[at].key()) {
+                    return at;
+                }
+                at += 1;
+            }
+            return at;
+        }
+        self.entries
+            .partition_point(|entry: &Arc<Entry<V>>| -> bool { mark.passes(entry.key()) })
     }
 
     /// How many entries it has.
@@ -135,9 +174,11 @@ impl<V: Drop> Page<V> {
     pub(crate) fn of_one(alloc: Global, entry: Arc<Entry<V>>) -> Result<Page<V>, AllocError>
         ensures { IfOk result (λ p. p ≡ arc_value entry ∷ []) }
     {
+        let mut leads = Vec::new(alloc);
+        leads.push(lead_of(entry.key()))?;
         let mut entries = Vec::new(alloc);
         entries.push(entry)?;
-        Ok(Page { entries })
+        Ok(Page { entries, leads })
     }
 
     /// The entries before one place and those from another on.
@@ -154,7 +195,10 @@ impl<V: Drop> Page<V> {
         let mut entries = Vec::new(alloc);
         entries.extend_with_clones(&self.entries[..from])?;
         entries.extend_with_clones(&self.entries[to..])?;
-        Ok(Page { entries })
+        let mut leads = Vec::new(alloc);
+        leads.extend_from_slice(&self.leads[..from])?;
+        leads.extend_from_slice(&self.leads[to..])?;
+        Ok(Page { entries, leads })
     }
 
     /// Puts an entry at a place, before those from there on. Without memory all is as before.
@@ -163,6 +207,7 @@ impl<V: Drop> Page<V> {
         ensures ok { OnOk result (self.new ≡ insert self.old at (arc_value entry)) }
         ensures err { OnErr result (self.new ≡ self.old) }
     {
+        self.leads.insert(at, lead_of(entry.key()))?;
         self.entries.insert(at, entry)?;
         Ok(())
     }
@@ -180,6 +225,7 @@ impl<V: Drop> Page<V> {
         requires { at < length self.old }
         ensures { self.new ≡ remove self.old at }
     {
+        let _ = self.leads.remove(at);
         drop(self.entries.remove(at));
     }
 }
@@ -190,6 +236,7 @@ impl<V: Drop> Clone for Page<V> {
     fn clone(&self) -> Result<Page<V>, AllocError> {
         Ok(Page {
             entries: self.entries.clone()?,
+            leads: self.leads.clone()?,
         })
     }
 }

@@ -17,6 +17,7 @@ use crate::node::NodeCount;
 use crate::set_edit::{Appending, Opening, Thinning};
 use crate::tree::VersionTree;
 use dns_name::{Labelled, Ttl};
+use name_keys::{NameKey, NameKeyRef};
 use dns_rdata::{RecordData, StoredRecordData};
 use std::alloc::{AllocError, Global};
 use zone_values::{PutError, Rrset, SharedRrset};
@@ -40,11 +41,16 @@ impl VersionTree {
         ensures steps { OnOk result (steps.new ≡ counted steps.old (built self.old self.new (N.labels owner.now) (rtype_of item))) }
         ensures uncounted { OnErr result (steps.new ≡ steps.old) }
     {
+        let key = NameKey::of(owner);
+        let name = key.borrowed();
         let rtype = item.rtype();
-        match self.get(owner, rtype) {
+        match self.set_at(&name, rtype) {
             Some(set) => match may_append(set, &item, alone) {
-                Ok(()) => match self.append_in_place(alloc, owner, ttl, item, steps) {
-                    Ok(()) => Ok(()),
+                Ok(()) => match self.edit_set(&name, rtype, Appending { alloc, ttl, item }) {
+                    Ok(()) => {
+                        steps.add_one();
+                        Ok(())
+                    }
                     Err(_) => Err(PutError::Memory),
                 },
                 Err(error) => {
@@ -52,11 +58,24 @@ impl VersionTree {
                     Err(error)
                 }
             },
-            None => match self.put_first(alloc, owner, ttl, item, steps) {
+            None => match self.put_one(alloc, &name, ttl, item, steps) {
                 Ok(()) => Ok(()),
                 Err(_) => Err(PutError::Memory),
             },
         }
+    }
+
+    fn put_one(
+        &mut self,
+        alloc: Global,
+        name: &NameKeyRef<'_>,
+        ttl: Ttl,
+        item: StoredRecordData,
+        steps: &mut NodeCount,
+    ) -> Result<(), AllocError> {
+        let rtype = item.rtype();
+        let set = Rrset::of_one(alloc, ttl, item)?.into_shared(alloc)?;
+        self.put_full(alloc, name, rtype, set, steps)
     }
 
     /// Puts data that a zone opens with in the RRset of their type at an owner: last, unless equal data stand there (RFC 2181, 5). The RRset's TTL is
@@ -75,10 +94,16 @@ impl VersionTree {
         ensures steps { OnOk result (steps.new ≡ counted steps.old (built self.old self.new (N.labels owner.now) (rtype_of item))) }
         ensures uncounted { OnErr result (steps.new ≡ steps.old) }
     {
+        let key = NameKey::of(owner);
+        let name = key.borrowed();
         let rtype = item.rtype();
-        match self.get(owner, rtype) {
-            Some(_) => self.open_in_place(alloc, owner, ttl, item, steps),
-            None => self.put_first(alloc, owner, ttl, item, steps),
+        match self.set_at(&name, rtype) {
+            Some(_) => {
+                self.edit_set(&name, rtype, Opening { alloc, ttl, item })?;
+                steps.add_one();
+                Ok(())
+            }
+            None => self.put_one(alloc, &name, ttl, item, steps),
         }
     }
 

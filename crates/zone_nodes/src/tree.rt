@@ -139,7 +139,7 @@ impl VersionTree {
     }
 
     /// The same of an owner's key.
-    fn set_at(&self, name: &NameKeyRef<'_>, rtype: Rtype) -> Option<&Rrset>
+    pub(crate) fn set_at(&self, name: &NameKeyRef<'_>, rtype: Rtype) -> Option<&Rrset>
         ensures { option_copied result ≡ option_map (typed rtype) (set_at self.now name.now rtype) }
     {
         match self.nodes.get(name) {
@@ -245,7 +245,7 @@ impl VersionTree {
     }
 
     /// Puts an RRset that isn't empty in place of the one of its owner and type.
-    fn put_full(
+    pub(crate) fn put_full(
         &mut self,
         alloc: Global,
         owner: &NameKeyRef<'_>,
