@@ -243,7 +243,7 @@ STEPS = [
     ("insertion, secondary", r"(\bzone_sessions::|\bstd_collections::|::ends_with\b|::flatten\b).*\bzone_sync::client"),
     ("walk, to write", r"\bzone_sessions::.*\bxfr_(server|text)::"),
     ("walk, to report", r"\bzone_sessions::walk.*\bzone_sync::program"),
-    ("reading the script", r"\bzone_script::"),
+    ("reading the script", r"\b(zone_script|script_words)::"),
     ("writing the message", r"\bxfr_(server|services|replies|text|batch)::"),
     ("reading the message", r"\bzone_sync::client|\bzone_sync::sync::take_replies|\btsig_port::"),
     ("report and link", r"\bzone_sync::program"),

@@ -7,4 +7,5 @@ pub mod Shared
 pub mod PageEdits
 pub mod Keys
 pub mod Cuts
+pub mod Guesses
 pub mod Lent

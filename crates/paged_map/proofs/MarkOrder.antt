@@ -89,7 +89,7 @@ reaches_falls m x y less at = reaches_passed m x (passes_reached m x y less at)
 pub passes_falls : (m : Mark) (x y : List ℕ) → octets_cmp x y ≡ Less → passes m y ≡ true → passes m x ≡ true
 passes_falls m x y less at = passes_reached m x y less (reaches_passed m y at)
 
-flipped : (a b : Bool) → (a ≡ true → b ≡ true) → b ≡ false → a ≡ false
+pub flipped : (a b : Bool) → (a ≡ true → b ≡ true) → b ≡ false → a ≡ false
 flipped false b f e = refl
 flipped true b f e = absurd (true≢false (sym (f refl) ∙ e))
 

@@ -1,5 +1,5 @@
 -- Pages of entries in order, and places among them.
-use Rattle.std.specs.Prelude.{◌≡◌, ℕ, suc, ◌<◌, ◌≤◌, true, false, List, [], ◌∷◌, ◌++◌, map, take, drop, length, flat_map, slice_index_or, slice_get, option_map, IsSome, None}
+use Rattle.std.specs.Prelude.{◌≡◌, ℕ, zero, suc, ◌<◌, ◌≤◌, true, false, List, [], ◌∷◌, ◌++◌, map, take, drop, length, flat_map, slice_index_or, slice_get, option_map, IsSome, Some, None}
 use Rattle.std.specs.List.{AllByRecursion}
 use Rattle.std.specs.List.Sorted.{IsStrictlySortedBy}
 use Rattle.std.specs.BTreeMap.{insert_entry, is_at}
@@ -69,6 +69,11 @@ Passed m es = AllByRecursion (λ e. passes m e.0 ≡ true) es
 -- a mark passes none of some entries
 abbrev pub Ahead : {X : Type 0} → Mark → List (List ℕ × X) → Type 0
 Ahead m es = AllByRecursion (λ e. passes m e.0 ≡ false) es
+
+-- a mark stands after the entry before a place
+abbrev pub FollowsOne : {X : Type 0} → Mark → List (List ℕ × X) → ℕ → Type 0
+FollowsOne m es zero = ⊥
+FollowsOne m es (suc i) = option_map (λ e. passes m e.0) (slice_get es i) ≡ Some true
 
 -- no page that begins at any of their keys reaches to a mark
 abbrev pub Unreached : {X : Type 0} → Mark → List (List ℕ × X) → Type 0

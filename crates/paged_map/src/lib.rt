@@ -6,6 +6,7 @@
 
 mod edits;
 mod iter;
+mod leads;
 mod map;
 mod marks;
 mod page;

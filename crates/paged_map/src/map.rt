@@ -9,10 +9,11 @@ ghost use Rattle.paged_map.specs.Octets.{octets_cmp, begins_with};
 ghost use Rattle.paged_map.specs.Pages.{Ascend};
 
 use crate::iter::Entries;
+use crate::leads::Leads;
 use crate::marks::Mark;
 use crate::page::Page;
 use crate::reads::{first_past, get};
-use crate::spots::{Spot, locate};
+use crate::spots::{Spot, guessed, locate};
 use crate::writes::{insert, remove, remove_under, value_mut};
 use std::alloc::{AllocError, Global};
 use std::boxed::BoxedSlice;
@@ -24,6 +25,8 @@ use std::sync::Arc;
 pub struct PagedMap<V> {
     // Each has entries, and at most as many as fit; the keys ascend over all pages together.
     pages: Vec<Arc<Page<V>>>,
+    // By the key that each begins at: where a search looks first.
+    leads: Leads,
 }
 
 impl<V> Model for PagedMap<V> {
@@ -44,6 +47,7 @@ impl<V> PagedMap<V> {
     {
         PagedMap {
             pages: Vec::new(alloc),
+            leads: Leads::new(alloc),
         }
     }
 
@@ -58,21 +62,21 @@ impl<V> PagedMap<V> {
     pub fn get(&self, key: &[u8]) -> Option<&V>
         ensures { option_copied result ≡ lookup (is_at (octets_cmp key.now)) self.now }
     {
-        get(&self.pages, key)
+        get(&self.pages, self.guess(key), key)
     }
 
     /// The first entry at a key or after it.
     pub fn first_from(&self, key: &[u8]) -> Option<(&[u8], &V)>
         ensures { option_map deref_pair result ≡ find (λ e. is_le (octets_cmp key.now e.0)) self.now }
     {
-        first_past(&self.pages, Mark::Before(key))
+        first_past(&self.pages, self.guess(key), Mark::Before(key))
     }
 
     /// The first entry after a key.
     pub fn first_after(&self, key: &[u8]) -> Option<(&[u8], &V)>
         ensures { option_map deref_pair result ≡ find (λ e. is_lt (octets_cmp key.now e.0)) self.now }
     {
-        first_past(&self.pages, Mark::After(key))
+        first_past(&self.pages, self.guess(key), Mark::After(key))
     }
 
     /// The entries in order.
@@ -87,7 +91,13 @@ impl<V> PagedMap<V> {
     pub fn iter_from(&self, key: &[u8]) -> Entries<'_, V>
         ensures { result ≡ filter (λ e. is_le (octets_cmp key.now e.0)) self.now }
     {
-        Entries::new(&self.pages, locate(&self.pages, Mark::Before(key)))
+        let guess = guessed(&self.pages, self.guess(key), key);
+        Entries::new(&self.pages, locate(&self.pages, guess, Mark::Before(key)))
+    }
+
+    /// The page in which a key may stand: a guess.
+    fn guess(&self, key: &[u8]) -> usize {
+        self.leads.count_up_to(key).saturating_sub(1)
     }
 
     /// How many pages it has. No contract speaks of pages: this and the next are for measurements.
@@ -128,7 +138,10 @@ impl<V: Drop> PagedMap<V> {
         ensures ok { OnOk result (self.new ≡ insert_entry octets_cmp self.old (boxed_slice_items key) value) }
         ensures err { OnErr result (self.new ≡ self.old) }
     {
-        insert(&mut self.pages, alloc, key, value)
+        let guess = self.guess(key.as_slice());
+        let done = insert(&mut self.pages, guess, alloc, key, value);
+        take_up(&mut self.leads, &self.pages);
+        done
     }
 
     /// Takes the entry at a key out. Where there is none, that needs no memory; without memory all is as before.
@@ -137,7 +150,10 @@ impl<V: Drop> PagedMap<V> {
         ensures err { OnErr result (self.new ≡ self.old) }
         ensures ready { IsNone (lookup (is_at (octets_cmp key.now)) self.old) → IsOk result }
     {
-        remove(&mut self.pages, key)
+        let guess = self.guess(key);
+        let done = remove(&mut self.pages, guess, key);
+        take_up(&mut self.leads, &self.pages);
+        done
     }
 
     /// Takes all entries out whose keys begin with a string. Without memory all is as before.
@@ -145,7 +161,10 @@ impl<V: Drop> PagedMap<V> {
         ensures ok { OnOk result (self.new ≡ filter (λ e. not (begins_with e.0 prefix.now)) self.old) }
         ensures err { OnErr result (self.new ≡ self.old) }
     {
-        remove_under(&mut self.pages, prefix)
+        let guess = self.guess(prefix);
+        let done = remove_under(&mut self.pages, guess, prefix);
+        take_up(&mut self.leads, &self.pages);
+        done
     }
 }
 
@@ -161,7 +180,8 @@ impl<V: Clone + Drop> PagedMap<V> {
         ensures* writes_back { sem 𝓛 (lends_entry V.row self.entry key.now result) }
         ensures value { IfOk result (λ x. lookup (is_at (octets_cmp key.now)) self.old ≡ Some x.now) }
     {
-        Ok(value_mut(&mut self.pages, key)?)
+        let guess = self.guess(key);
+        Ok(value_mut(&mut self.pages, guess, key)?)
     }
 }
 
@@ -171,6 +191,32 @@ impl<V: Drop> Clone for PagedMap<V> {
     fn clone(&self) -> Result<PagedMap<V>, AllocError> {
         Ok(PagedMap {
             pages: self.pages.clone()?,
+            leads: self.leads.clone()?,
         })
+    }
+}
+
+/// Has the leads of a map be those of the keys that its pages begin at, if pages came or went.
+fn take_up<V>(leads: &mut Leads, pages: &[Arc<Page<V>>]) {
+    if leads.len() == pages.len() {
+        return;
+    }
+    if let Some(first) = first_key(pages.first())
+        && let Some(last) = first_key(pages.last())
+    {
+        leads.begin(first, last);
+    }
+    for page in pages.iter() {
+        if let Some(key) = page.first_key() {
+            leads.push(key);
+        }
+    }
+}
+
+/// The key that a page begins at, if there is one.
+fn first_key<V>(page: Option<&Arc<Page<V>>>) -> Option<&[u8]> {
+    match page {
+        Some(page) => page.first_key(),
+        None => None,
     }
 }

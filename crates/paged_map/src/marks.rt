@@ -1,7 +1,7 @@
 // Places among keys in order, by what stands before them.
 ghost use Rattle.std.specs.Prelude.{◌≡◌, true, false};
 ghost use Rattle.std.specs.Ordering.{is_eq};
-ghost use Rattle.std.specs.declared.cmp.Ordering.TheVariants.{Equal, Greater};
+ghost use Rattle.std.specs.declared.cmp.Ordering.TheVariants.{Equal, Greater, Less};
 ghost use Rattle.paged_map.specs.Octets.{octets_cmp, passes, reaches};
 
 use std::cmp::Ordering;
@@ -64,6 +64,15 @@ pub(crate) fn is_same<'x>(left: &'x [u8], right: &'x [u8]) -> bool
 }
 
 impl<'k> Mark<'k> {
+    /// The octets beside which it stands.
+    pub(crate) fn octets(self) -> &'k [u8] {
+        match self {
+            Mark::Before(key) => key,
+            Mark::After(key) => key,
+            Mark::Under(key) => key,
+        }
+    }
+
     /// Whether it stands after a key.
     pub(crate) fn passes(self, key: &[u8]) -> bool
         ensures { result ≡ passes self.entry key.now }
@@ -75,10 +84,11 @@ impl<'k> Mark<'k> {
         }
     }
 
-    /// `Greater` where it stands after a key, and `Equal` where it stands just before that.
+    /// `Greater` where it stands after a key, `Equal` where it stands just before that, and else `Less`.
     pub(crate) fn beside(self, key: &[u8]) -> Ordering
         ensures past { result ≡ Greater → passes self.entry key.now ≡ true }
         ensures before { result ≡ Equal → (passes self.entry key.now ≡ false) × (reaches self.entry key.now ≡ true) }
+        ensures ahead { result ≡ Less → passes self.entry key.now ≡ false }
     {
         match self {
             Mark::Before(mark) => compare(mark, key),

@@ -9,6 +9,7 @@ ghost use Rattle.paged_map.specs.Pages.{Ascend, Passed, Ahead, first_key, values
 ghost use Rattle.std.specs.Borrow.{sem};
 ghost use Rattle.paged_map.specs.Lends.{lends_shared};
 
+use crate::leads::Leads;
 use crate::marks::Mark;
 use std::alloc::{AllocError, Global};
 use std::boxed::BoxedSlice;
@@ -67,6 +68,8 @@ impl<V> Entry<V> {
 #[derive(Drop)]
 pub(crate) struct Page<V> {
     entries: Vec<Arc<Entry<V>>>,
+    // Where a search looks first.
+    leads: Leads,
 }
 
 impl<V> Model for Page<V> {
@@ -103,6 +106,19 @@ impl<V> Page<V> {
         )
     }
 
+    /// The key that it begins at.
+    pub(crate) fn first_key(&self) -> Option<&[u8]> {
+        match self.entries.first() {
+            Some(entry) => Some(entry.key()),
+            None => None,
+        }
+    }
+
+    /// How many of its entries stand before a key, or about as many: a guess.
+    pub(crate) fn guess(&self, key: &[u8]) -> usize {
+        self.leads.count_before(key)
+    }
+
     /// How many entries it has.
     pub(crate) fn len(&self) -> usize
         ensures { result ≡ length self.now }
@@ -131,13 +147,22 @@ impl<V> Page<V> {
 
 // New pages, and edits of one.
 impl<V: Drop> Page<V> {
+    /// A page of these entries.
+    fn of(alloc: Global, entries: Vec<Arc<Entry<V>>>) -> Page<V>
+        ensures { result ≡ values_in entries.items }
+    {
+        let mut leads = Leads::new(alloc);
+        take_up(&mut leads, &entries);
+        Page { entries, leads }
+    }
+
     /// A page of one entry.
     pub(crate) fn of_one(alloc: Global, entry: Arc<Entry<V>>) -> Result<Page<V>, AllocError>
         ensures { IfOk result (λ p. p ≡ arc_value entry ∷ []) }
     {
         let mut entries = Vec::new(alloc);
         entries.push(entry)?;
-        Ok(Page { entries })
+        Ok(Page::of(alloc, entries))
     }
 
     /// The entries before one place and those from another on.
@@ -154,7 +179,7 @@ impl<V: Drop> Page<V> {
         let mut entries = Vec::new(alloc);
         entries.extend_with_clones(&self.entries[..from])?;
         entries.extend_with_clones(&self.entries[to..])?;
-        Ok(Page { entries })
+        Ok(Page::of(alloc, entries))
     }
 
     /// Puts an entry at a place, before those from there on. Without memory all is as before.
@@ -164,6 +189,7 @@ impl<V: Drop> Page<V> {
         ensures err { OnErr result (self.new ≡ self.old) }
     {
         self.entries.insert(at, entry)?;
+        take_up_one(&mut self.leads, &self.entries, at);
         Ok(())
     }
 
@@ -181,6 +207,7 @@ impl<V: Drop> Page<V> {
         ensures { self.new ≡ remove self.old at }
     {
         drop(self.entries.remove(at));
+        self.leads.remove(at);
     }
 }
 
@@ -190,6 +217,7 @@ impl<V: Drop> Clone for Page<V> {
     fn clone(&self) -> Result<Page<V>, AllocError> {
         Ok(Page {
             entries: self.entries.clone()?,
+            leads: self.leads.clone()?,
         })
     }
 }
@@ -203,6 +231,30 @@ impl<V: Clone + Drop> Clone for Entry<V> {
             value: self.value.clone()?,
         })
     }
+}
+
+/// Has the leads of a page be those of its entries' keys.
+fn take_up<V>(leads: &mut Leads, entries: &[Arc<Entry<V>>]) {
+    if let Some(first) = entries.first()
+        && let Some(last) = entries.last()
+    {
+        leads.begin(first.key(), last.key());
+    }
+    for entry in entries.iter() {
+        leads.push(entry.key());
+    }
+}
+
+/// The same after an entry was put at a place. Most often only its own lead is wanted.
+fn take_up_one<V>(leads: &mut Leads, entries: &[Arc<Entry<V>>], at: usize) {
+    let beside = if at == 0 { 1 } else { 0 };
+    if let Some(entry) = entries.get(at)
+        && let Some(other) = entries.get(beside)
+        && leads.insert(at, entry.key(), other.key())
+    {
+        return;
+    }
+    take_up(leads, entries);
 }
 
 /// The value of an entry, which is copied first if others have it, to write.

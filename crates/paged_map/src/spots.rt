@@ -1,8 +1,8 @@
 // Places within the pages of a map.
-ghost use Rattle.std.specs.Prelude.{◌≡◌, ◌-◌, ◌<◌, ◌≤◌, suc, true, false, length, drop, slice_get, option_map, IfSome};
+ghost use Rattle.std.specs.Prelude.{◌≡◌, ◌-◌, ◌<◌, ◌≤◌, suc, true, false, length, drop, slice_get, option_map, IfSome, IsTrue};
 ghost use Rattle.std.specs.Arc.{arc_value};
 ghost use Rattle.paged_map.specs.Octets.{reaches, is_key_of};
-ghost use Rattle.paged_map.specs.Pages.{AreFit, Ascend, Passed, Ahead, Unreached, IsWithin, after, before, joined, values_in, page_at, first_key};
+ghost use Rattle.paged_map.specs.Pages.{AreFit, Ascend, Passed, Ahead, Unreached, IsWithin, after, before, joined, values_in, page_at, first_key, FollowsOne, HasAt};
 
 use crate::marks::{Mark, is_same};
 use crate::page::{Entry, Page};
@@ -65,6 +65,57 @@ fn at_end<V>(pages: &[Arc<Page<V>>], mark: Mark<'_>) -> Option<Spot>
     }
 }
 
+/// A place in a page, if a mark stands there: just before the key there, or between it and the one before.
+fn tested<V>(pages: &[Arc<Page<V>>], spot: Spot, mark: Mark<'_>) -> Option<Spot>
+    requires fit { AreFit (values_in pages.now) }
+    requires ascend { Ascend (joined (values_in pages.now)) }
+    ensures within { IfSome result (λ s. IsWithin (values_in pages.now) s) }
+    ensures passed { IfSome result (λ s. Passed mark.entry (before (values_in pages.now) s)) }
+    ensures ahead { IfSome result (λ s. Ahead mark.entry (after (values_in pages.now) s)) }
+    ensures unreached { IfSome result (λ s. Unreached mark.entry (joined (drop (suc s.page) (values_in pages.now)))) }
+{
+    let entry = entry_at(pages, spot)?;
+    match mark.beside(entry.key()) {
+        Ordering::Greater => None,
+        Ordering::Equal => Some(spot),
+        Ordering::Less => {
+            if passes_last_before(pages, spot, mark) {
+                Some(spot)
+            } else {
+                None
+            }
+        }
+    }
+}
+
+/// Whether a mark stands after the entry before a place in its page.
+fn passes_last_before<V>(pages: &[Arc<Page<V>>], spot: Spot, mark: Mark<'_>) -> bool
+    ensures { IsTrue result → FollowsOne mark.entry (page_at (values_in pages.now) spot.page) spot.at }
+{
+    let Some(at) = spot.at.checked_sub(1) else {
+        return false;
+    };
+    match entry_at(
+        pages,
+        Spot {
+            page: spot.page,
+            at,
+        },
+    ) {
+        Some(entry) => mark.passes(entry.key()),
+        None => false,
+    }
+}
+
+/// Where a key may stand in a page, by the leads of the keys there.
+pub(crate) fn guessed<V>(pages: &[Arc<Page<V>>], page: usize, key: &[u8]) -> Spot {
+    let at = match pages.get(page) {
+        Some(page) => page.guess(key),
+        None => 0,
+    };
+    Spot { page, at }
+}
+
 /// Where a mark stands among entries in order, by searches: in the last page that reaches to it.
 fn search<V>(pages: &[Arc<Page<V>>], mark: Mark<'_>) -> Spot
     requires fit { AreFit (values_in pages.now) }
@@ -85,8 +136,31 @@ fn search<V>(pages: &[Arc<Page<V>>], mark: Mark<'_>) -> Spot
     }
 }
 
-/// Where a mark stands among entries in order: in the last page that reaches to it.
-pub(crate) fn locate<V>(pages: &[Arc<Page<V>>], mark: Mark<'_>) -> Spot
+/// Whether an entry with a key stands at a place, wherever that came from.
+pub(crate) fn is_found_at<V>(pages: &[Arc<Page<V>>], spot: Spot, key: &[u8]) -> bool
+    requires { Ascend (joined (values_in pages.now)) }
+    ensures { IsTrue result → HasAt key.now (values_in pages.now) spot }
+{
+    has_key_at(pages, spot, key)
+}
+
+/// Where a mark stands among entries in order: in the last page that reaches to it. A place is guessed, which is looked at first.
+pub(crate) fn locate<V>(pages: &[Arc<Page<V>>], guess: Spot, mark: Mark<'_>) -> Spot
+    requires fit { AreFit (values_in pages.now) }
+    requires ascend { Ascend (joined (values_in pages.now)) }
+    ensures within { IsWithin (values_in pages.now) result }
+    ensures passed { Passed mark.entry (before (values_in pages.now) result) }
+    ensures ahead { Ahead mark.entry (after (values_in pages.now) result) }
+    ensures unreached { Unreached mark.entry (joined (drop (suc result.page) (values_in pages.now))) }
+{
+    match tested(pages, guess, mark) {
+        Some(spot) => spot,
+        None => at_end_or_search(pages, mark),
+    }
+}
+
+/// The same, beside the last entry or by searches.
+fn at_end_or_search<V>(pages: &[Arc<Page<V>>], mark: Mark<'_>) -> Spot
     requires fit { AreFit (values_in pages.now) }
     requires ascend { Ascend (joined (values_in pages.now)) }
     ensures within { IsWithin (values_in pages.now) result }

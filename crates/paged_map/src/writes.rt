@@ -1,4 +1,4 @@
-// Edits of the pages of a map, each at a key. Without memory all is as before.
+// Edits of the pages of a map, each at a key. Without memory all is as before. Each is told the number of a page, to be looked at first.
 ghost use Rattle.std.specs.Prelude.{◌≡◌, None, not, filter, IsOk, IsSome, IfOk, Some, OnOk, OnErr};
 ghost use Rattle.std.specs.Box.{boxed_slice_items};
 ghost use Rattle.std.specs.BTreeMap.{insert_entry, is_at};
@@ -12,7 +12,7 @@ use crate::edits::{put, remove_between, replace, take_out, value_at};
 use crate::marks::Mark;
 use crate::page::{Entry, Page};
 use crate::reads::find;
-use crate::spots::locate;
+use crate::spots::{guessed, locate};
 use std::alloc::{AllocError, Global};
 use std::boxed::BoxedSlice;
 use std::sync::Arc;
@@ -20,6 +20,7 @@ use std::sync::Arc;
 /// Puts a value at a key, in place of the one there.
 pub(crate) fn insert<V: Drop>(
     pages: &mut Vec<Arc<Page<V>>>,
+    guess: usize,
     alloc: Global,
     key: BoxedSlice<u8>,
     value: V,
@@ -29,7 +30,7 @@ pub(crate) fn insert<V: Drop>(
     ensures err { OnErr result (values_in pages.new.items ≡ values_in pages.old.items) }
     ensures sound { IsSound pages.new.items }
 {
-    let (spot, found) = find(pages, key.as_slice());
+    let (spot, found) = find(pages, guess, key.as_slice());
     let entry = Arc::new(alloc, Entry::new(key, value))?;
     if found {
         return replace(pages, spot, entry);
@@ -40,6 +41,7 @@ pub(crate) fn insert<V: Drop>(
 /// The value at a key that is there, to write. Its page and its entry are copied first if others have them.
 pub(crate) fn value_mut<'p, V: Clone + Drop>(
     pages: &'p mut Vec<Arc<Page<V>>>,
+    guess: usize,
     key: &[u8],
 ) -> Result<&'p mut V, AllocError>
     requires sound { IsSound pages.old.items }
@@ -48,19 +50,23 @@ pub(crate) fn value_mut<'p, V: Clone + Drop>(
     ensures* writes_back { sem 𝓛 (lends_key V.row pages.entry key.now result) }
     ensures value { IfOk result (λ x. lookup (is_at (octets_cmp key.now)) (entries_of pages.old.items) ≡ Some x.now) }
 {
-    let (spot, _) = find(pages, key);
+    let (spot, _) = find(pages, guess, key);
     value_at(pages, spot)
 }
 
 /// Takes the entry at a key out. Where there is none, that needs no memory.
-pub(crate) fn remove<V: Drop>(pages: &mut Vec<Arc<Page<V>>>, key: &[u8]) -> Result<(), AllocError>
+pub(crate) fn remove<V: Drop>(
+    pages: &mut Vec<Arc<Page<V>>>,
+    guess: usize,
+    key: &[u8],
+) -> Result<(), AllocError>
     requires { IsSound pages.old.items }
     ensures ok { OnOk result (entries_of pages.new.items ≡ remove_entry (is_at (octets_cmp key.now)) (entries_of pages.old.items)) }
     ensures err { OnErr result (values_in pages.new.items ≡ values_in pages.old.items) }
     ensures ready { lookup (is_at (octets_cmp key.now)) (entries_of pages.old.items) ≡ None → IsOk result }
     ensures sound { IsSound pages.new.items }
 {
-    let (spot, found) = find(pages, key);
+    let (spot, found) = find(pages, guess, key);
     if !found {
         return Ok(());
     }
@@ -70,6 +76,7 @@ pub(crate) fn remove<V: Drop>(pages: &mut Vec<Arc<Page<V>>>, key: &[u8]) -> Resu
 /// Takes all entries out whose keys begin with a string.
 pub(crate) fn remove_under<V: Drop>(
     pages: &mut Vec<Arc<Page<V>>>,
+    guess: usize,
     prefix: &[u8],
 ) -> Result<(), AllocError>
     requires { IsSound pages.old.items }
@@ -77,7 +84,8 @@ pub(crate) fn remove_under<V: Drop>(
     ensures err { OnErr result (values_in pages.new.items ≡ values_in pages.old.items) }
     ensures sound { IsSound pages.new.items }
 {
-    let from = locate(pages, Mark::Before(prefix));
-    let to = locate(pages, Mark::Under(prefix));
+    let guess = guessed(pages, guess, prefix);
+    let from = locate(pages, guess, Mark::Before(prefix));
+    let to = locate(pages, guess, Mark::Under(prefix));
     remove_between(pages, from, to)
 }

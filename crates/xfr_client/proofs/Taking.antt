@@ -11,23 +11,27 @@ use Rattle.xfr_model.specs.Interpreter.{mode_asked}
 use Rattle.xfr_model.specs.Machine.{Run, went, then_run, first_step, run_items}
 use Rattle.xfr_model.specs.Machine as machine
 use Rattle.xfr_client.specs.declared.interpreter_state.Place.{Place}
-use Rattle.xfr_client.specs.declared.interpreter_state.Place.TheVariants.{AtSecond, InWhole, InDeletes, InAdds, AtEnd}
+use Rattle.xfr_client.specs.declared.interpreter_state.Stage.{Stage}
+use Rattle.xfr_client.specs.declared.interpreter_state.Stage.TheVariants.{AtSecond, InWhole, InDeletes, InAdds, AtEnd}
 use Rattle.xfr_client.specs.declared.protocol.Error.{Error}
 use Rattle.xfr_client.specs.declared.protocol.Error.TheVariants as error
 use Rattle.xfr_client.specs.declared.update.ZoneUpdate.{ZoneUpdate}
-use Rattle.xfr_client.specs.Places.{place_of, is_at_second}
+use Rattle.xfr_client.specs.Places.{place_at, place_of, is_at_second}
 use Rattle.xfr_client.specs.Items.{items_left}
 use Rattle.xfr_client.specs.Rest.{Rest, rest_of, asks_again, updates_in_hand}
 use Rattle.xfr_client.specs.Interpreting.{Interpreting, Begins, Taken, told_first, Interprets, IsFault, Refuses, interpreting_of, is_over}
 use Rattle.xfr_client.proofs.Places.{is_begun, any_mode, signal_told}
 use Rattle.xfr_client.proofs.FirstMessage.{faultless_later}
 
+begun_at : (stage : Stage) (s : Record) → is_begun (place_at stage s) ≡ true
+begun_at AtSecond s = refl
+begun_at InWhole s = refl
+begun_at InDeletes s = refl
+begun_at InAdds s = refl
+begun_at AtEnd s = refl
+
 begun_place : (p : Place) → is_begun (place_of p) ≡ true
-begun_place (AtSecond s) = refl
-begun_place (InWhole s) = refl
-begun_place (InDeletes s) = refl
-begun_place (InAdds s) = refl
-begun_place AtEnd = refl
+begun_place p = begun_at p.stage p.first
 
 -- a run after some updates
 abbrev behind : List Update → Run → Run

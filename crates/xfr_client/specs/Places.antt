@@ -1,16 +1,22 @@
 -- The places that the interpreter's code keeps, as places of the machine.
 use Rattle.std.specs.Prelude.{ℕ, Bool, true, false, Option, Some, None}
+use Rattle.dns_rdata.specs.Records.{Record}
 use Rattle.dns_rdata.specs.Soa.{serial_of}
 use Rattle.xfr_model.specs.Machine as machine
 use Rattle.xfr_client.specs.declared.interpreter_state.Place.{Place}
-use Rattle.xfr_client.specs.declared.interpreter_state.Place.TheVariants.{AtSecond, InWhole, InDeletes, InAdds, AtEnd}
+use Rattle.xfr_client.specs.declared.interpreter_state.Stage.{Stage}
+use Rattle.xfr_client.specs.declared.interpreter_state.Stage.TheVariants.{AtSecond, InWhole, InDeletes, InAdds, AtEnd}
+
+-- the place at a stage of a text that begins with this record
+abbrev pub place_at : Stage → Record → machine.Place
+place_at AtSecond s = machine.AtSecond s
+place_at InWhole s = machine.InWhole s
+place_at InDeletes s = machine.InDeletes s
+place_at InAdds s = machine.InAdds s
+place_at AtEnd s = machine.AtEnd
 
 abbrev pub place_of : Place → machine.Place
-place_of (AtSecond s) = machine.AtSecond s
-place_of (InWhole s) = machine.InWhole s
-place_of (InDeletes s) = machine.InDeletes s
-place_of (InAdds s) = machine.InAdds s
-place_of AtEnd = machine.AtEnd
+place_of p = place_at p.stage p.first
 
 -- whether one record was read of a text that may be of either form
 abbrev pub is_at_second : machine.Place → Bool

@@ -1,19 +1,19 @@
 // The interpreter of a transfer's messages.
-ghost use Rattle.std.specs.Prelude.{◌≡◌, ◌==◌, ◌∷◌, ◌&&◌, not, true, false, List, Option, Some, None, Ok, Err, map, length, is_some, is_none, IsTrue, IsOkAnd, IfOk, IfErr, OnErr};
+ghost use Rattle.std.specs.Prelude.{◌≡◌, ◌==◌, ◌∷◌, ◌&&◌, not, if◌then◌else◌, true, false, List, Option, Some, None, Ok, Err, map, length, is_some, is_none, IsTrue, IsOkAnd, IfOk, IfErr, OnErr};
 ghost use Rattle.dns_rdata.specs.Records.{Record};
 ghost use Rattle.xfr_model.specs.Messages.{ReadMessage, message_of};
-ghost use Rattle.zone_model.specs.TransferText.{Axfr};
+ghost use Rattle.zone_model.specs.TransferText.{Axfr, Ixfr};
 ghost use Rattle.xfr_model.specs.Read.{first_fault, is_transfer_head, record_item};
-ghost use Rattle.xfr_model.specs.Machine.{run_items, AtStart};
+ghost use Rattle.xfr_model.specs.Machine.{run_items, first_step, AtStart};
 ghost use Rattle.xfr_client.specs.declared.protocol.Error.TheVariants.{Finished, ParseError};
 ghost use Rattle.dns_wire.specs.Parse.{answers_start};
-ghost use Rattle.xfr_client.specs.Places.{place_of, is_at_second, first_serial};
+ghost use Rattle.xfr_client.specs.Places.{place_at, place_of, is_at_second, first_serial};
 ghost use Rattle.xfr_client.specs.Items.{items_left};
 ghost use Rattle.xfr_client.specs.Rest.{updates_in_hand};
 ghost use Rattle.xfr_client.specs.Interpreting.{Interprets, Refuses, interpreting_of, is_over, TakenOr, told_first, sections_here, IsReadAs, good_header, good_counts, good_head, unreached_fault, unreached, Asks, BeginsAt, IsPlaceAt};
 
 use crate::first_soa::{first_soa, serial_of};
-use crate::interpreter_state::{Place, step};
+use crate::interpreter_state::{Place, Stage, step};
 use crate::iterator::XfrZoneUpdateIterator;
 use crate::protocol::Error;
 use crate::section::next_found;
@@ -251,11 +251,21 @@ fn place_at(asks_changes: bool, found: &ReadRecord<'_>) -> Result<Place, Error>
 {
     match first_soa(found) {
         None => Err(Error::NotValidXfrResponse),
-        Some(first) => Ok(if asks_changes {
-            Place::AtSecond(first)
-        } else {
-            Place::InWhole(first)
+        Some(first) => Ok(Place {
+            stage: first_stage(asks_changes),
+            first,
         }),
+    }
+}
+
+// The stage after the first record: a question for changes alone may be answered in either form.
+fn first_stage(asks_changes: bool) -> Stage
+    ensures { (r : Record) → place_at result r ≡ (first_step (if asks_changes then Ixfr else Axfr) r).place }
+{
+    if asks_changes {
+        Stage::AtSecond
+    } else {
+        Stage::InWhole
     }
 }
 
@@ -285,9 +295,7 @@ fn run_over(mut place: Place, mut section: RecordSection<'_>) -> (Place, bool)
         let Ok(found) = next else {
             return (place, true);
         };
-        let (behind, told) = step(place, found);
-        drop(told);
-        place = behind;
+        drop(step(&mut place, found));
     }
     (place, false)
 }

@@ -2,7 +2,8 @@
 // (RFC 5936, 2.2; RFC 1995, 4).
 ghost use Rattle.std.specs.Prelude.{◌≡◌};
 ghost use Rattle.zone_model.specs.TransferText.{Mode, is_soa};
-ghost use Rattle.xfr_model.specs.Machine.{step, end_or_batch, is_at_end, AtSecond, InWhole, InDeletes, InAdds};
+ghost use Rattle.xfr_model.specs.Machine.{step, end_or_batch, is_at_end};
+ghost use Rattle.xfr_client.specs.declared.interpreter_state.Stage.TheVariants as stages;
 ghost use Rattle.xfr_client.specs.Places.{place_of, is_at_second, first_serial};
 ghost use Rattle.xfr_client.specs.Told.{run_of, EndsBefore};
 
@@ -11,19 +12,26 @@ use crate::update::ZoneUpdate;
 use dns_name::{Rtype, Serial};
 use dns_rdata::ReadRecord;
 
-/// A place in the text; each but the end keeps the text's first SOA record.
-#[derive(Drop)]
-pub enum Place {
-    /// After the first record of an answer that may yet be of either form.
-    AtSecond(FirstSoa),
+/// How far a text was read.
+#[derive(Clone, Copy)]
+pub enum Stage {
+    /// Up to the first record of an answer that may yet be of either form.
+    AtSecond,
     /// Among the records of a whole zone.
-    InWhole(FirstSoa),
+    InWhole,
     /// Among the deletes of a batch.
-    InDeletes(FirstSoa),
+    InDeletes,
     /// Among the adds of a batch.
-    InAdds(FirstSoa),
-    /// After the last SOA record.
+    InAdds,
+    /// Up to the last SOA record.
     AtEnd,
+}
+
+/// A place in the text, with the text's first SOA record, which is large and stays where it is.
+#[derive(Drop)]
+pub struct Place {
+    pub stage: Stage,
+    pub first: FirstSoa,
 }
 
 impl Place {
@@ -31,12 +39,9 @@ impl Place {
     pub fn duplicate(&self) -> Place
         ensures { result ≡ self.now }
     {
-        match self {
-            Place::AtSecond(first) => Place::AtSecond(duplicate(first)),
-            Place::InWhole(first) => Place::InWhole(duplicate(first)),
-            Place::InDeletes(first) => Place::InDeletes(duplicate(first)),
-            Place::InAdds(first) => Place::InAdds(duplicate(first)),
-            Place::AtEnd => Place::AtEnd,
+        Place {
+            stage: self.stage,
+            first: duplicate(&self.first),
         }
     }
 
@@ -44,8 +49,8 @@ impl Place {
     pub fn is_second(&self) -> bool
         ensures { result ≡ is_at_second (place_of self.now) }
     {
-        match self {
-            Place::AtSecond(_) => true,
+        match self.stage {
+            Stage::AtSecond => true,
             _ => false,
         }
     }
@@ -54,22 +59,19 @@ impl Place {
     pub fn is_end(&self) -> bool
         ensures { result ≡ is_at_end (place_of self.now) }
     {
-        match self {
-            Place::AtEnd => true,
+        match self.stage {
+            Stage::AtEnd => true,
             _ => false,
         }
     }
 
-    /// The serial of the first SOA record, which is forgotten at the end.
+    /// The serial of the first SOA record, up to the end.
     pub fn initial_serial(&self) -> Option<Serial>
         ensures { result ≡ first_serial (place_of self.now) }
     {
-        match self {
-            Place::AtSecond(first) => Some(serial_of(first)),
-            Place::InWhole(first) => Some(serial_of(first)),
-            Place::InDeletes(first) => Some(serial_of(first)),
-            Place::InAdds(first) => Some(serial_of(first)),
-            Place::AtEnd => None,
+        match self.stage {
+            Stage::AtEnd => None,
+            _ => Some(serial_of(&self.first)),
         }
     }
 }
@@ -85,80 +87,71 @@ pub enum Told<'m> {
     AfterEnd,
 }
 
-/// The place after one more record, and what that record says.
-pub fn step<'m>(place: Place, found: ReadRecord<'m>) -> (Place, Told<'m>)
-    ensures says { (mode : Mode) → run_of result.0 result.1 ≡ step mode (place_of place) found.entry }
-    ensures ends { EndsBefore result.0 result.1 }
+/// What one more record says; the place is then the one after it.
+pub fn step<'m>(place: &mut Place, found: ReadRecord<'m>) -> Told<'m>
+    ensures says { (mode : Mode) → run_of place.new result ≡ step mode (place_of place.old) found.entry }
+    ensures ends { EndsBefore place.new result }
 {
-    match place {
-        Place::AtSecond(first) => at_second(first, found),
-        Place::InWhole(first) => in_whole(first, found),
-        Place::InDeletes(first) => in_deletes(first, found),
-        Place::InAdds(first) => in_adds(first, found),
-        Place::AtEnd => {
+    match place.stage {
+        Stage::AtSecond => at_second(place, found),
+        Stage::InWhole => in_whole(place, found),
+        Stage::InDeletes => in_deletes(place, found),
+        Stage::InAdds => in_adds(place, found),
+        Stage::AtEnd => {
             drop(found);
-            (Place::AtEnd, Told::AfterEnd)
+            Told::AfterEnd
         }
     }
 }
 
 // The second record tells which form the answer has (RFC 1995, 4).
-fn at_second<'m>(first: FirstSoa, found: ReadRecord<'m>) -> (Place, Told<'m>)
-    ensures says { (mode : Mode) → run_of result.0 result.1 ≡ step mode (AtSecond first) found.entry }
-    ensures ends { EndsBefore result.0 result.1 }
+fn at_second<'m>(place: &mut Place, found: ReadRecord<'m>) -> Told<'m>
+    ensures says { place.old.stage ≡ stages.AtSecond → (mode : Mode) → run_of place.new result ≡ step mode (place_of place.old) found.entry }
+    ensures ends { EndsBefore place.new result }
 {
     if is_soa(&found) {
-        end_or_batch(first, found)
+        end_or_batch(place, found)
     } else {
-        (Place::InWhole(first), Told::Whole(found))
+        place.stage = Stage::InWhole;
+        Told::Whole(found)
     }
 }
 
 // A record of a whole zone is added, up to the first SOA's like (RFC 5936, 2.2).
-fn in_whole<'m>(first: FirstSoa, found: ReadRecord<'m>) -> (Place, Told<'m>)
-    ensures says { (mode : Mode) → run_of result.0 result.1 ≡ step mode (InWhole first) found.entry }
-    ensures ends { EndsBefore result.0 result.1 }
+fn in_whole<'m>(place: &mut Place, found: ReadRecord<'m>) -> Told<'m>
+    ensures says { place.old.stage ≡ stages.InWhole → (mode : Mode) → run_of place.new result ≡ step mode (place_of place.old) found.entry }
+    ensures ends { EndsBefore place.new result }
 {
-    if is_same_soa(&first, &found) {
-        (Place::AtEnd, Told::One(ZoneUpdate::Finished(found)))
+    if is_same_soa(&place.first, &found) {
+        place.stage = Stage::AtEnd;
+        Told::One(ZoneUpdate::Finished(found))
     } else {
-        (
-            Place::InWhole(first),
-            Told::One(ZoneUpdate::AddRecord(found)),
-        )
+        Told::One(ZoneUpdate::AddRecord(found))
     }
 }
 
 // A record among deletes goes, up to the SOA before the adds (RFC 1995, 4).
-fn in_deletes<'m>(first: FirstSoa, found: ReadRecord<'m>) -> (Place, Told<'m>)
-    ensures says { (mode : Mode) → run_of result.0 result.1 ≡ step mode (InDeletes first) found.entry }
-    ensures ends { EndsBefore result.0 result.1 }
+fn in_deletes<'m>(place: &mut Place, found: ReadRecord<'m>) -> Told<'m>
+    ensures says { place.old.stage ≡ stages.InDeletes → (mode : Mode) → run_of place.new result ≡ step mode (place_of place.old) found.entry }
+    ensures ends { EndsBefore place.new result }
 {
     if is_soa(&found) {
-        (
-            Place::InAdds(first),
-            Told::One(ZoneUpdate::BeginBatchAdd(found)),
-        )
+        place.stage = Stage::InAdds;
+        Told::One(ZoneUpdate::BeginBatchAdd(found))
     } else {
-        (
-            Place::InDeletes(first),
-            Told::One(ZoneUpdate::DeleteRecord(found)),
-        )
+        Told::One(ZoneUpdate::DeleteRecord(found))
     }
 }
 
 // A record among adds comes in, up to the SOA that ends the batch (RFC 1995, 4).
-fn in_adds<'m>(first: FirstSoa, found: ReadRecord<'m>) -> (Place, Told<'m>)
-    ensures says { (mode : Mode) → run_of result.0 result.1 ≡ step mode (InAdds first) found.entry }
-    ensures ends { EndsBefore result.0 result.1 }
+fn in_adds<'m>(place: &mut Place, found: ReadRecord<'m>) -> Told<'m>
+    ensures says { place.old.stage ≡ stages.InAdds → (mode : Mode) → run_of place.new result ≡ step mode (place_of place.old) found.entry }
+    ensures ends { EndsBefore place.new result }
 {
     if is_soa(&found) {
-        end_or_batch(first, found)
+        end_or_batch(place, found)
     } else {
-        (
-            Place::InAdds(first),
-            Told::One(ZoneUpdate::AddRecord(found)),
-        )
+        Told::One(ZoneUpdate::AddRecord(found))
     }
 }
 
@@ -170,16 +163,15 @@ fn is_soa(found: &ReadRecord<'_>) -> bool
 }
 
 // An SOA where deletes would begin: the end, or a batch.
-fn end_or_batch<'m>(first: FirstSoa, found: ReadRecord<'m>) -> (Place, Told<'m>)
-    ensures says { run_of result.0 result.1 ≡ end_or_batch first found.entry }
-    ensures ends { EndsBefore result.0 result.1 }
+fn end_or_batch<'m>(place: &mut Place, found: ReadRecord<'m>) -> Told<'m>
+    ensures says { run_of place.new result ≡ end_or_batch place.old.first found.entry }
+    ensures ends { EndsBefore place.new result }
 {
-    if is_same_soa(&first, &found) {
-        (Place::AtEnd, Told::One(ZoneUpdate::Finished(found)))
+    if is_same_soa(&place.first, &found) {
+        place.stage = Stage::AtEnd;
+        Told::One(ZoneUpdate::Finished(found))
     } else {
-        (
-            Place::InDeletes(first),
-            Told::One(ZoneUpdate::BeginBatchDelete(found)),
-        )
+        place.stage = Stage::InDeletes;
+        Told::One(ZoneUpdate::BeginBatchDelete(found))
     }
 }

@@ -9,7 +9,6 @@ use crate::update::ZoneUpdate;
 use dns_rdata::ReadRecord;
 use dns_wire::RecordSection;
 use std::marker::Model;
-use std::mem;
 
 /// The updates that one message says, in turn; an error, if there is one, is the last answer.
 ///
@@ -73,9 +72,7 @@ impl<'m> XfrZoneUpdateIterator<'m> {
             self.has_failed = true;
             return Some(Err(IterationError::ParseError));
         };
-        let (place, told) = step(mem::replace(&mut self.place, Place::AtEnd), found);
-        self.place = place;
-        match told {
+        match step(&mut self.place, found) {
             Told::One(update) => Some(Ok(update)),
             Told::Whole(found) => {
                 drop(self.in_hand.replace(ZoneUpdate::AddRecord(found)));

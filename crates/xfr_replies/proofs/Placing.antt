@@ -1,6 +1,6 @@
 -- Where a text begins and goes on: the first record that is found of it.
 use Rattle.std.proofs.Common.{◌≡◌, ℕ, ◌<◌, ◌≤◌, ◌+◌, ◌==◌, zero, suc, Bool, true, false, cond, not, List, [], ◌∷◌, ◌++◌, filter, drop, length, refl, sym, ap, ◌∙◌, subst, true≢false, Option, Some, None, is_some, eqb-true, arith}
-use Rattle.std.specs.Prelude.{flat_map, slice_get}
+use Rattle.std.specs.Prelude.{IfSome, flat_map, option_map, slice_get}
 use Rattle.std.specs.Option.{option_map_or}
 use Rattle.std.proofs.lemmas.List.{append_assoc, append-nil, length-map}
 use Rattle.dns_name.specs.Names.{Name, fold}
@@ -12,8 +12,10 @@ use Rattle.zone_model.specs.Walk.{Stop, shown_owner}
 use Rattle.zone_model.specs.Difference.{Difference}
 use Rattle.zone_model.specs.Offer.{whole_text, changes_text, is_apex_soa, side_soas, side_records}
 use Rattle.zone_model.specs.TransferText.{is_plain}
+use Rattle.zone_values.specs.TypedSets.{TypedSet}
+use Rattle.zone_values.specs.TypedEntries.{typed}
 use Rattle.xfr_replies.specs.Sides.{behind, shown_records, middle_of, side_text, sides_of, sides_from, first_side}
-use Rattle.xfr_replies.specs.Places.{Begins, place_records, sides_text, text_behind, text_from}
+use Rattle.xfr_replies.specs.Places.{Begins, IsPlace, KeepsItsSet, place_records, sides_text, text_behind, text_from}
 use Rattle.xfr_replies.specs.Steps.{FindsFrom, Heads, HeadsAt, SkipsSoas, SkipsApexSoa, is_soa_stop, soa_place}
 use Rattle.xfr_replies.specs.declared.place.Side.{Side}
 use Rattle.xfr_replies.specs.declared.place.Part.{Part}
@@ -40,27 +42,33 @@ pub begins_as : (v : Version) (ds : List Difference) (text other : List Record) 
 begins_as v ds text other p e b = record { is_place = b.is_place; left = b.left ∙ e }
 
 -- the first record of a set, with what stands behind the set
+first_kept_of : (v : Version) (ds : List Difference) (part : Part) (owner : Name) (rtype : ℕ) (set : Option TypedSet) (rs behind text : List Record)
+    → KeepsItsSet v ds (record { part = part; owner = owner; rtype = rtype; index = 0; set = set })
+    → place_records v ds (record { part = part; owner = owner; rtype = rtype; index = 0; set = set }) ≡ rs → 0 < length rs → text_behind v ds part owner rtype ≡ behind → rs ++ behind ≡ text
+    → Begins v ds text (Some (record { part = part; owner = owner; rtype = rtype; index = 0; set = set }))
+first_kept_of v ds part owner rtype set rs behind text keeps is some after whole =
+    record { is_place = (subst (λ (n : ℕ). 0 < n) (sym (ap length is)) some, keeps); left = (λ i. is i ++ after i) ∙ whole }
+
 first_record_of : (v : Version) (ds : List Difference) (part : Part) (owner : Name) (rtype : ℕ) (rs behind text : List Record)
-    → place_records v ds (record { part = part; owner = owner; rtype = rtype; index = 0 }) ≡ rs → 0 < length rs → text_behind v ds part owner rtype ≡ behind → rs ++ behind ≡ text
-    → Begins v ds text (Some (record { part = part; owner = owner; rtype = rtype; index = 0 }))
-first_record_of v ds part owner rtype rs behind text is some after whole =
-    record { is_place = subst (λ (n : ℕ). 0 < n) (sym (ap length is)) some; left = (λ i. is i ++ after i) ∙ whole }
+    → place_records v ds (record { part = part; owner = owner; rtype = rtype; index = 0; set = None }) ≡ rs → 0 < length rs → text_behind v ds part owner rtype ≡ behind → rs ++ behind ≡ text
+    → Begins v ds text (Some (record { part = part; owner = owner; rtype = rtype; index = 0; set = None }))
+first_record_of v ds part owner rtype rs behind text is some after whole = first_kept_of v ds part owner rtype None rs behind text tt is some after whole
 
 -- ---- the zone's SOA record
 
 soa_at : (v : Version) (part : Part) (p : Place) → Some p ≡ soa_place v part
-    → (p ≡ record { part = part; owner = v.apex; rtype = type_soa; index = 0 }) × (0 < length (apex_soa_record v))
+    → (p ≡ record { part = part; owner = v.apex; rtype = type_soa; index = 0; set = None }) × (0 < length (apex_soa_record v))
 soa_at v part p e = by (length (apex_soa_record v) == 0) refl e
   where
-    by : (b : Bool) → (length (apex_soa_record v) == 0) ≡ b → Some p ≡ cond b None (Some (record { part = part; owner = v.apex; rtype = type_soa; index = 0 }))
-        → (p ≡ record { part = part; owner = v.apex; rtype = type_soa; index = 0 }) × (0 < length (apex_soa_record v))
+    by : (b : Bool) → (length (apex_soa_record v) == 0) ≡ b → Some p ≡ cond b None (Some (record { part = part; owner = v.apex; rtype = type_soa; index = 0; set = None }))
+        → (p ≡ record { part = part; owner = v.apex; rtype = type_soa; index = 0; set = None }) × (0 < length (apex_soa_record v))
     by true h f = absurd (true≢false (ap is_some f))
     by false h f = (some_inj p _ f, some_records (apex_soa_record v) h)
 
 soa_missing : (v : Version) (part : Part) → ◌≡◌ {A = Option Place} None (soa_place v part) → apex_soa_record v ≡ []
 soa_missing v part e = by (length (apex_soa_record v) == 0) refl e
   where
-    by : (b : Bool) → (length (apex_soa_record v) == 0) ≡ b → ◌≡◌ {A = Option Place} None (cond b None (Some (record { part = part; owner = v.apex; rtype = type_soa; index = 0 }))) → apex_soa_record v ≡ []
+    by : (b : Bool) → (length (apex_soa_record v) == 0) ≡ b → ◌≡◌ {A = Option Place} None (cond b None (Some (record { part = part; owner = v.apex; rtype = type_soa; index = 0; set = None }))) → apex_soa_record v ≡ []
     by true h f = no_records (apex_soa_record v) h
     by false h f = absurd (true≢false (sym (ap is_some f)))
 
@@ -113,12 +121,18 @@ stop_skipped v rest s h soa =
     sym (ap (middle_of v) h.0.1 ∙ ap (λ n. filter p (records_of n s.rtype v.class h.0.0 ++ shown_records v after)) h.1
     ∙ set_fails p s.owner s.rtype v.class h.0.0 (shown_records v after) (λ d. ap not soa))
 
-pub zone_at_stop : (v : Version) (ds : List Difference) (rest : Sets) (s : Stop) → SkipsApexSoa v rest (Some s)
-    → Begins v ds (middle_of v rest ++ apex_soa_record v) (Some (record { part = Zone; owner = s.owner; rtype = s.rtype; index = 0 }))
-zone_at_stop v ds rest s skips =
+keeps_stop : (v : Version) (ds : List Difference) (rest : Sets) (s : Stop) (kept : Option TypedSet) → HeadsAt v rest (Some s) → IfSome kept (λ set. set ≡ typed s.rtype s.contents)
+    → KeepsItsSet v ds (record { part = Zone; owner = s.owner; rtype = s.rtype; index = 0; set = kept })
+keeps_stop v ds rest s None h is = tt
+keeps_stop v ds rest s (Some set) h is = ap Some is ∙ sym (ap (option_map (typed s.rtype)) h.2)
+
+pub zone_at_stop : (v : Version) (ds : List Difference) (rest : Sets) (s : Stop) (kept : Option TypedSet) → SkipsApexSoa v rest (Some s) → IfSome kept (λ set. set ≡ typed s.rtype s.contents)
+    → Begins v ds (middle_of v rest ++ apex_soa_record v) (Some (record { part = Zone; owner = s.owner; rtype = s.rtype; index = 0; set = kept }))
+zone_at_stop v ds rest s kept skips is =
     let set = skips.heads.0.0 in
     let after : List Record = middle_of v (behind (fold s.owner, s.rtype) v.sets) ++ apex_soa_record v in
-    first_record_of v ds Zone s.owner s.rtype (records_of s.owner s.rtype v.class set) after (middle_of v rest ++ apex_soa_record v)
+    first_kept_of v ds Zone s.owner s.rtype kept (records_of s.owner s.rtype v.class set) after (middle_of v rest ++ apex_soa_record v)
+    (keeps_stop v ds skips.left s kept skips.heads is)
     (ap (records_of_option s.owner s.rtype v.class) skips.heads.0.2)
     (subst (λ (n : ℕ). 0 < n) (sym (length-map set.items _)) skips.heads.0.3)
     refl
@@ -143,7 +157,7 @@ key_skipped v sets rest k h soa =
     sym (ap (side_records v) h.1 ∙ set_fails is_plain (shown_owner v k.0) k.1 v.class h.0 (shown_records v (behind k sets)) (λ d. ap not soa))
 
 pub side_at_key : (v : Version) (ds : List Difference) (side : Side) (sets rest : Sets) (more : List Sets) (k : Key) → sides_from ds side ≡ sets ∷ more → SkipsSoas sets rest (Some k)
-    → Begins v ds (side_records v rest ++ sides_text v more) (Some (record { part = SideSets side; owner = shown_owner v k.0; rtype = k.1; index = 0 }))
+    → Begins v ds (side_records v rest ++ sides_text v more) (Some (record { part = SideSets side; owner = shown_owner v k.0; rtype = k.1; index = 0; set = None }))
 side_at_key v ds side sets rest more k at skips =
     let set = skips.heads.0 in
     let owner : Name = shown_owner v k.0 in
@@ -163,7 +177,7 @@ soas_as_option v None = refl
 soas_as_option v (Some s) = refl
 
 pub side_at_soas : (v : Version) (ds : List Difference) (side : Side) (sets : Sets) (more : List Sets) → sides_from ds side ≡ sets ∷ more → (length (side_soas v sets) == 0) ≡ false
-    → Begins v ds (side_text v sets ++ sides_text v more) (Some (record { part = SideSoas side; owner = v.apex; rtype = type_soa; index = 0 }))
+    → Begins v ds (side_text v sets ++ sides_text v more) (Some (record { part = SideSoas side; owner = v.apex; rtype = type_soa; index = 0; set = None }))
 side_at_soas v ds side sets more at some =
     first_record_of v ds (SideSoas side) v.apex type_soa (side_soas v sets) (side_records v sets ++ sides_text v more) (side_text v sets ++ sides_text v more)
     (ap (λ (l : List Sets). records_of_option v.apex type_soa v.class (set_in (first_side l) (fold v.apex, type_soa))) at ∙ soas_as_option v (set_in sets (fold v.apex, type_soa)))
@@ -226,13 +240,13 @@ past_first [] ys n h = absurd (omega (arith, h))
 past_first (x ∷ xs) ys zero h = refl
 past_first (x ∷ xs) ys (suc n) h = past_first xs ys n (omega (arith, h))
 
-pub next_in_set : (v : Version) (ds : List Difference) (p : Place) → p.index < length (place_records v ds p) → p.index + 1 < length (place_records v ds p)
+pub next_in_set : (v : Version) (ds : List Difference) (p : Place) → IsPlace v ds (Some p) → p.index + 1 < length (place_records v ds p)
     → Begins v ds (drop 1 (text_from v ds p)) (Some (record p { index = p.index + 1 }))
 next_in_set v ds p h more =
     let rs = place_records v ds p in
     let behind_set = text_behind v ds p.part p.owner p.rtype in
     let one : suc p.index ≡ p.index + 1 = omega arith in
-    record { is_place = more; left = sym (past_first rs behind_set p.index h ∙ ap (λ (m : ℕ). drop m rs ++ behind_set) one) }
+    record { is_place = (more, h.1); left = sym (past_first rs behind_set p.index h.0 ∙ ap (λ (m : ℕ). drop m rs ++ behind_set) one) }
 
 past_set : {X : Type 0} (xs ys : List X) (n : ℕ) → n < length xs → length xs ≤ n + 1 → drop 1 (drop n xs ++ ys) ≡ ys
 past_set [] ys n h e = absurd (omega (arith, h))
@@ -240,7 +254,7 @@ past_set (x ∷ []) ys zero h e = refl
 past_set (x ∷ y ∷ xs) ys zero h e = absurd (omega (arith, e))
 past_set (x ∷ xs) ys (suc n) h e = past_set xs ys n (omega (arith, h)) (omega (arith, e))
 
-pub next_behind_set : (v : Version) (ds : List Difference) (p : Place) (o : Option Place) → p.index < length (place_records v ds p) → length (place_records v ds p) ≤ p.index + 1
+pub next_behind_set : (v : Version) (ds : List Difference) (p : Place) (o : Option Place) → IsPlace v ds (Some p) → length (place_records v ds p) ≤ p.index + 1
     → Begins v ds (text_behind v ds p.part p.owner p.rtype) o → Begins v ds (drop 1 (text_from v ds p)) o
 next_behind_set v ds p o h last b =
-    begins_as v ds (text_behind v ds p.part p.owner p.rtype) (drop 1 (text_from v ds p)) o (sym (past_set (place_records v ds p) (text_behind v ds p.part p.owner p.rtype) p.index h last)) b
+    begins_as v ds (text_behind v ds p.part p.owner p.rtype) (drop 1 (text_from v ds p)) o (sym (past_set (place_records v ds p) (text_behind v ds p.part p.owner p.rtype) p.index h.0 last)) b

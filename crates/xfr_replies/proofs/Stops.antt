@@ -64,8 +64,11 @@ heads_at : (v : Version) (rest : Sets) → IsRest v.sets rest → AllByRecursion
 heads_at v [] r h = refl
 heads_at v (e ∷ es) r h =
     let key : (fold (shown_owner v e.0.0), e.0.1) ≡ e.0 = λ i. ((shown_folds v e.0.0 ∙ h.0.folded) i, e.0.1) in
-    let P : Key → Type 0 = λ k. Heads v.sets (e ∷ es) (Some k) in
-    (subst P (sym key) (heads_first v.sets (e ∷ es) r (all_entries (Kept v) HasData (e ∷ es) (λ f g. g.holds_some) h)), shown_again v e.0.0 h.0.folded)
+    let P : Key → Type 0 = λ k. Heads v.sets (e ∷ es) (Some k) in (
+      subst P (sym key) (heads_first v.sets (e ∷ es) r (all_entries (Kept v) HasData (e ∷ es) (λ f g. g.holds_some) h)),
+      shown_again v e.0.0 h.0.folded,
+      shown_set v e.0.0 e.0.1 v.sets ∙ r.1,
+    )
 
 first_is : (v : Version) (es : Sets) → first_of (map (stop_of v) es) ≡ option_map (stop_of v) (first_entry es)
 first_is v [] = refl

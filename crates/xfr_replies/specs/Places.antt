@@ -1,5 +1,5 @@
 -- The places of a transfer's text, and the text from a place on (RFC 5936, 2.2; RFC 1995, 4).
-use Rattle.std.specs.Prelude.{◌≡◌, ℕ, ◌++◌, ◌<◌, List, [], flat_map, drop, length, Option, Some, None, option_map}
+use Rattle.std.specs.Prelude.{◌≡◌, ℕ, ◌++◌, ◌<◌, List, [], flat_map, drop, length, Option, Some, None, IfSome, option_map}
 use Rattle.dns_name.specs.Names.{Name, fold}
 use Rattle.dns_name.specs.Records.{Record}
 use Rattle.zone_model.specs.Version.{RecordSet, Sets, Version, set_in, set_at}
@@ -7,6 +7,7 @@ use Rattle.zone_model.specs.Answer.{first_only, records_of_option, apex_soa_reco
 use Rattle.zone_model.specs.Commits.{Commit}
 use Rattle.zone_model.specs.Difference.{Difference}
 use Rattle.zone_model.specs.Offer.{side_records}
+use Rattle.zone_values.specs.TypedEntries.{typed}
 use Rattle.xfr_replies.specs.Sides.{behind, middle_of, side_text, sides_of, sides_from, first_side}
 use Rattle.xfr_replies.specs.declared.place.Part.{Part}
 use Rattle.xfr_replies.specs.declared.place.Part.TheVariants.{BeforeZone, Zone, BeforeChanges, SideSoas, SideSets, Last}
@@ -25,6 +26,10 @@ set_in_part v ds BeforeChanges owner rtype = option_map first_only (set_at v own
 set_in_part v ds (SideSoas side) owner rtype = set_in (first_side (sides_from ds side)) (fold owner, rtype)
 set_in_part v ds (SideSets side) owner rtype = set_in (first_side (sides_from ds side)) (fold owner, rtype)
 set_in_part v ds Last owner rtype = option_map first_only (set_at v owner rtype)
+
+-- a set that is kept with a place is the one there
+abbrev pub KeepsItsSet : Version → List Difference → Place → Type 0
+KeepsItsSet v ds p = IfSome p.set (λ s. Some s ≡ option_map (typed p.rtype) (set_in_part v ds p.part p.owner p.rtype))
 
 -- the text of sides and what ends it
 abbrev pub sides_text : Version → List Sets → List Record
@@ -52,10 +57,10 @@ abbrev pub text_left : Version → List Difference → Option Place → List Rec
 text_left v ds None = []
 text_left v ds (Some p) = text_from v ds p
 
--- a place of a text is at a record: its set is there, and the index is one of the set's
+-- a place of a text is at a record: its set is there, the index is one of the set's, and a set that is kept is that one
 abbrev pub IsPlace : Version → List Difference → Option Place → Type 0
 IsPlace v ds None = Unit {0}
-IsPlace v ds (Some p) = p.index < length (place_records v ds p)
+IsPlace v ds (Some p) = (p.index < length (place_records v ds p)) × KeepsItsSet v ds p
 
 -- a place from which on a text is this one
 pub record Begins (v : Version) (ds : List Difference) (text : List Record) (p : Option Place) : Type 0 where

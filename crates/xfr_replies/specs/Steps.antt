@@ -3,7 +3,7 @@ use Rattle.std.specs.Prelude.{◌≡◌, ◌++◌, ◌<◌, Bool, false, ◌&&�
 use Rattle.dns_name.specs.Names.{fold, same_name}
 use Rattle.dns_name.specs.Codes.{type_soa}
 use Rattle.dns_name.specs.Records.{Record}
-use Rattle.zone_model.specs.Version.{RecordSet, Key, Sets, Version, set_in}
+use Rattle.zone_model.specs.Version.{RecordSet, Key, Sets, Version, set_at, set_in}
 use Rattle.zone_model.specs.Answer.{apex_soa_record}
 use Rattle.zone_model.specs.Walk.{Stop, shown_owner}
 use Rattle.zone_model.specs.Difference.{Difference}
@@ -15,7 +15,7 @@ use Rattle.xfr_replies.specs.declared.place.Place.{Place}
 
 -- the place of the apex SOA record in a part, where there is such a record
 abbrev pub soa_place : Version → Part → Option Place
-soa_place v part = if length (apex_soa_record v) == 0 then None else Some (record { part = part; owner = v.apex; rtype = type_soa; index = 0 })
+soa_place v part = if length (apex_soa_record v) == 0 then None else Some (record { part = part; owner = v.apex; rtype = type_soa; index = 0; set = None })
 
 -- whether a stop is the apex SOA
 abbrev pub is_soa_stop : Version → Stop → Bool
@@ -26,10 +26,10 @@ abbrev pub Heads : Sets → Sets → Option Key → Type 0
 Heads sets rest None = rest ≡ []
 Heads sets rest (Some k) = (s : RecordSet) × (rest ≡ (k, s) ∷ behind k sets) × (set_in sets k ≡ Some s) × (0 < length s.items)
 
--- the same of a stop of a version
+-- the same of a stop of a version, which has that set
 abbrev pub HeadsAt : Version → Sets → Option Stop → Type 0
 HeadsAt v rest None = rest ≡ []
-HeadsAt v rest (Some s) = Heads v.sets rest (Some (fold s.owner, s.rtype)) × (shown_owner v (fold s.owner) ≡ s.owner)
+HeadsAt v rest (Some s) = Heads v.sets rest (Some (fold s.owner, s.rtype)) × (shown_owner v (fold s.owner) ≡ s.owner) × (set_at v s.owner s.rtype ≡ Some s.contents)
 
 -- the first set of the rest that isn't of SOA records, where there is one
 abbrev pub IsPlainKey : Option Key → Type 0

@@ -1,8 +1,9 @@
 // Places in the zone: its SOA record, and its sets in order.
-ghost use Rattle.std.specs.Prelude.{◌≡◌, ◌++◌};
+ghost use Rattle.std.specs.Prelude.{◌≡◌, ◌++◌, IfSome};
 ghost use Rattle.dns_name.specs.Names.{fold};
 ghost use Rattle.zone_model.specs.Version.{Sets};
 ghost use Rattle.zone_model.specs.Answer.{apex_soa_record};
+ghost use Rattle.zone_values.specs.TypedEntries.{typed};
 ghost use Rattle.xfr_replies.specs.Places.{Begins};
 ghost use Rattle.xfr_replies.specs.Sides.{behind, middle_of};
 ghost use Rattle.xfr_replies.specs.Steps.{HeadsAt, SkipsApexSoa, is_soa_stop, soa_place};
@@ -10,6 +11,7 @@ ghost use Rattle.xfr_replies.specs.Steps.{HeadsAt, SkipsApexSoa, is_soa_stop, so
 use crate::place::{Part, Place};
 use dns_name::{KeyName, Labelled, Rtype, ToName};
 use zone_reads::{ReadZone, WalkItem};
+use zone_values::SharedRrset;
 
 /// The place of the apex SOA record in a part of the text, if there is one.
 pub(crate) fn soa_place(zone: &ReadZone, part: Part) -> Option<Place>
@@ -75,13 +77,29 @@ fn other_stop<'z>(zone: &'z ReadZone, first: Option<WalkItem<'z>>) -> Option<Wal
     None
 }
 
-/// The first record from a set of the zone on that isn't the apex SOA's, or the SOA record that ends the text.
+/// The set of a stop, to be kept; None where it can't be shared once more.
+fn kept_set(stop: &WalkItem<'_>) -> Option<SharedRrset>
+    ensures { IfSome result (λ set. set ≡ typed stop.now.rtype stop.now.contents) }
+{
+    match stop.shared().clone() {
+        Ok(set) => Some(set),
+        Err(_) => None,
+    }
+}
+
+/// The first record from a set of the zone on that isn't the apex SOA's, with that set, or the SOA record that ends the text.
 pub(crate) fn zone_place(zone: &ReadZone, first: Option<WalkItem<'_>>) -> Option<Place>
     ensures { (rest : Sets) → HeadsAt zone.now.version rest first.entry
         → (ds : _) → Begins zone.now.version ds (middle_of zone.now.version rest ++ apex_soa_record zone.now.version) result }
 {
     match other_stop(zone, first) {
-        Some(stop) => Some(Place::first_of(Part::Zone, stop.owner().duplicate(), stop.rtype())),
+        Some(stop) => Some(Place {
+            part: Part::Zone,
+            owner: stop.owner().duplicate(),
+            rtype: stop.rtype(),
+            index: 0,
+            set: kept_set(&stop),
+        }),
         None => last_place(zone),
     }
 }

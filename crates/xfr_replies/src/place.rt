@@ -1,8 +1,9 @@
 // A place in the text of a transfer.
-ghost use Rattle.std.specs.Prelude.{◌≡◌, ◌<◌, ◌^◌, ◌+◌, drop};
+ghost use Rattle.std.specs.Prelude.{◌≡◌, ◌<◌, ◌^◌, ◌+◌, drop, None};
 ghost use Rattle.xfr_replies.specs.Sides.{sides_from, sides_of};
 
 use dns_name::{KeyName, Rtype};
+use zone_values::SharedRrset;
 
 /// One side of a difference: of which one, counted from 0, and whether it is what that adds.
 #[derive(Clone, Copy, Drop)]
@@ -58,37 +59,41 @@ pub(crate) enum Part {
     Last,
 }
 
-/// A record of the text: the part, the owner and type of the set in it, and the index in that set from 0.
+/// A record of the text: the part, the owner and type of the set in it, and the index in that set from 0. A set of the zone is kept with them, so
+/// that it isn't looked up for each of its records.
 #[derive(Drop)]
 pub(crate) struct Place {
     pub(crate) part: Part,
     pub(crate) owner: KeyName,
     pub(crate) rtype: Rtype,
     pub(crate) index: usize,
+    pub(crate) set: Option<SharedRrset>,
 }
 
 impl Place {
-    /// The first record of a set in a part.
+    /// The first record of a set in a part, which isn't kept.
     pub(crate) fn first_of(part: Part, owner: KeyName, rtype: Rtype) -> Place
-        ensures { result ≡ record { part = part; owner = owner; rtype = rtype; index = 0 } }
+        ensures { result ≡ record { part = part; owner = owner; rtype = rtype; index = 0; set = None } }
     {
         Place {
             part,
             owner,
             rtype,
             index: 0,
+            set: None,
         }
     }
 
     /// The record with this index in the same set.
-    pub(crate) fn at_index(&self, index: usize) -> Place
-        ensures { result ≡ record self.now { index = index } }
+    pub(crate) fn at_index(self, index: usize) -> Place
+        ensures { result ≡ record self { index = index } }
     {
         Place {
             part: self.part,
-            owner: self.owner.duplicate(),
+            owner: self.owner,
             rtype: self.rtype,
             index,
+            set: self.set,
         }
     }
 }

@@ -5,7 +5,7 @@ ghost use Rattle.dns_name.specs.Names.{fold};
 ghost use Rattle.zone_model.specs.Version.{set_at, set_in};
 ghost use Rattle.zone_model.specs.Answer.{first_only};
 ghost use Rattle.zone_values.specs.TypedEntries.{typed};
-ghost use Rattle.xfr_replies.specs.Places.{set_in_part};
+ghost use Rattle.xfr_replies.specs.Places.{KeepsItsSet, set_in_part};
 ghost use Rattle.xfr_replies.specs.Sides.{first_side, sides_from};
 
 use crate::lent_set::LentSet;
@@ -16,8 +16,23 @@ use zone_diffs::InMemoryZoneDiff;
 use zone_reads::ReadZone;
 use zone_sets::SetKey;
 
-/// The set of a place.
-pub(crate) fn set_at_place<'t>(
+/// The set of a place: the one that is kept, or else the one that a look-up finds.
+pub(crate) fn set_of_place<'t>(
+    zone: &'t ReadZone,
+    diffs: &'t [Arc<InMemoryZoneDiff>],
+    place: &'t Place,
+) -> Option<LentSet<'t>>
+    requires { KeepsItsSet zone.now.version (map arc_value diffs.now) place.now }
+    ensures { result ≡ option_map (typed place.now.rtype) (set_in_part zone.now.version (map arc_value diffs.now) place.now.part place.now.owner place.now.rtype) }
+{
+    match &place.set {
+        Some(kept) => Some(LentSet::of(kept.as_rrset())),
+        None => set_at_place(zone, diffs, place),
+    }
+}
+
+/// The set that a look-up finds at a place.
+fn set_at_place<'t>(
     zone: &'t ReadZone,
     diffs: &'t [Arc<InMemoryZoneDiff>],
     place: &Place,

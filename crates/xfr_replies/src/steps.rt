@@ -2,14 +2,14 @@
 ghost use Rattle.std.specs.Prelude.{◌≡◌, ◌++◌, ◌<◌, ◌+◌, drop, length, map, Some};
 ghost use Rattle.std.specs.Arc.{arc_value};
 ghost use Rattle.zone_model.specs.Offer.{changes_text, side_records, whole_text};
-ghost use Rattle.xfr_replies.specs.Places.{Begins, IsPlace, place_records, sides_text, text_behind, text_from};
+ghost use Rattle.xfr_replies.specs.Places.{Begins, IsPlace, KeepsItsSet, place_records, sides_text, text_behind, text_from};
 ghost use Rattle.xfr_replies.specs.Sides.{behind, first_side, sides_from};
 ghost use Rattle.xfr_replies.specs.Steps.{soa_place};
 
 use crate::of_difference::{first_key, key_behind, plain_place, side_place, side_sets};
 use crate::of_zone::{first_stop, last_place, soa_place, stop_behind, zone_place};
 use crate::place::{Part, Place, Side};
-use crate::place_set::set_at_place;
+use crate::place_set::set_of_place;
 use std::sync::Arc;
 use zone_diffs::InMemoryZoneDiff;
 use zone_reads::ReadZone;
@@ -39,24 +39,26 @@ pub(crate) fn changes_place(zone: &ReadZone, diffs: &[Arc<InMemoryZoneDiff>]) ->
 pub(crate) fn next_place(
     zone: &ReadZone,
     diffs: &[Arc<InMemoryZoneDiff>],
-    place: &Place,
+    place: Place,
 ) -> Option<Place>
-    requires { IsPlace zone.now.version (map arc_value diffs.now) (Some place.now) }
-    ensures { Begins zone.now.version (map arc_value diffs.now) (drop 1 (text_from zone.now.version (map arc_value diffs.now) place.now)) result }
+    requires { IsPlace zone.now.version (map arc_value diffs.now) (Some place) }
+    ensures { Begins zone.now.version (map arc_value diffs.now) (drop 1 (text_from zone.now.version (map arc_value diffs.now) place)) result }
 {
-    let count = record_count(zone, diffs, place);
-    if place.index + 1 < count {
-        Some(place.at_index(place.index + 1))
+    let count = record_count(zone, diffs, &place);
+    let index = place.index + 1;
+    if index < count {
+        Some(place.at_index(index))
     } else {
-        place_behind(zone, diffs, place)
+        place_behind(zone, diffs, &place)
     }
 }
 
 /// How many records a place's set has.
 fn record_count(zone: &ReadZone, diffs: &[Arc<InMemoryZoneDiff>], place: &Place) -> usize
+    requires { KeepsItsSet zone.now.version (map arc_value diffs.now) place.now }
     ensures { result ≡ length (place_records zone.now.version (map arc_value diffs.now) place.now) }
 {
-    match set_at_place(zone, diffs, place) {
+    match set_of_place(zone, diffs, place) {
         Some(set) => set.items().len(),
         None => 0,
     }

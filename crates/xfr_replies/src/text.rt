@@ -4,7 +4,7 @@ ghost use Rattle.std.specs.Arc.{arc_value};
 ghost use Rattle.zone_model.specs.Offer.{changes_text, whole_text};
 
 use crate::place::Place;
-use crate::place_set::set_at_place;
+use crate::place_set::set_of_place;
 use crate::steps::{changes_place, next_place, whole_place};
 use dns_rdata::{LentRecord, Record};
 use std::alloc::Global;
@@ -57,14 +57,15 @@ impl TransferText {
         TransferText { zone, diffs, place }
     }
 
-    /// The first record that is left, lent from where it is kept; None where none is left. One look-up of its set.
+    /// The first record that is left, lent from where it is kept; None where none is left. A set of the zone was found when the text came to it;
+    /// for other records it is looked up.
     pub fn next(&self) -> Option<LentRecord<'_>>
         ensures { result ≡ slice_get self.now.records 0 }
     {
         let Some(place) = &self.place else {
             return None;
         };
-        let set = set_at_place(&self.zone, &self.diffs, place)?;
+        let set = set_of_place(&self.zone, &self.diffs, place)?;
         let rdata = set.items().get(place.index)?;
         let owner = place.owner.borrowed();
         Some(Record::new(owner, self.zone.class(), set.ttl(), rdata))
@@ -74,7 +75,7 @@ impl TransferText {
     pub fn advance(&mut self)
         ensures { self.new ≡ record self.old { records = drop 1 self.old.records } }
     {
-        let next = match &self.place {
+        let next = match self.place.take() {
             Some(place) => next_place(&self.zone, &self.diffs, place),
             None => None,
         };

@@ -9,9 +9,10 @@ use Rattle.std.proofs.lemmas.Map.Keys.{sorted_tail}
 use Rattle.dns_name.specs.Names.{Name, fold, same_name, under, canonical_cmp, upwards}
 use Rattle.dns_name.specs.NameOrder.{canonical_total}
 use Rattle.zone_model.specs.Version.{RecordSet, Key, Version, key_cmp, has_key, set_in, set_at}
-use Rattle.zone_model.specs.Edits.{with_sets}
+use Rattle.zone_model.specs.Edits.{with_sets, put_set}
 use Rattle.zone_model.proofs.Folded.{fold-fold}
 use Rattle.zone_model.proofs.Ordered.{sorted_none, sorted_cons, past_head}
+use Rattle.zone_nodes.specs.Held.{counted}
 use Rattle.zone_nodes.specs.Trees.{NodeSets, Nodes, IsTree, node_at, sets_of_node, sets_of, in_tree, sets_at, node_of, with_set, built, type_in}
 use Rattle.zone_nodes.specs.Ways.{version_of}
 use Rattle.zone_nodes.proofs.Flat.{set_in-sets_of}
@@ -84,9 +85,6 @@ removed_at v folded rtype = with_sets v (remove_entry (has_key (folded, rtype)) 
 abbrev put_at : Version → Name → ℕ → RecordSet → Version
 put_at v folded rtype s = if length s.items == 0 then removed_at v folded rtype else with_sets v (insert_entry key_cmp v.sets (folded, rtype) s)
 
-pub set_folded : (v : Version) (n : Name) (rtype : ℕ) → set_at v (fold n) rtype ≡ set_at v n rtype
-set_folded v n rtype = ap (λ m. set_in v.sets (m, rtype)) (fold-fold n)
-
 pub with_folded : (v : Version) (n : Name) (rtype : ℕ) (s : Option RecordSet) → with_set v (fold n) rtype s ≡ with_set v n rtype s
 with_folded v n rtype None = ap (λ m. removed_at v m rtype) (fold-fold n)
 with_folded v n rtype (Some s) = ap (λ m. put_at v m rtype s) (fold-fold n)
@@ -97,6 +95,18 @@ built_at v w folded was stays rtype =
 
 pub built_folded : (v w : Version) (n : Name) (rtype : ℕ) → built v w (fold n) rtype ≡ built v w n rtype
 built_folded v w n rtype = λ i. built_at v w (fold-fold n i) (in_tree_alike v (fold n) n (fold-fold n) i) (in_tree_alike w (fold n) n (fold-fold n) i) rtype
+
+-- ---- an edit of a name's set, by the name in lower case that its key has
+
+module _ (n key : Name) (is : key ≡ fold n) where
+  pub set_by_key : (v : Version) (rtype : ℕ) → set_at v key rtype ≡ set_at v n rtype
+  set_by_key v rtype = ap (λ m. set_in v.sets (m, rtype)) (ap fold is ∙ fold-fold n)
+
+  pub edit_by_key : (v : Version) (rtype : ℕ) (edit : Option RecordSet → RecordSet) → put_set v key rtype (edit (set_at v key rtype)) ≡ put_set v n rtype (edit (set_at v n rtype))
+  edit_by_key v rtype edit = ap (λ m. put_at v m rtype (edit (set_in v.sets (m, rtype)))) (ap fold is ∙ fold-fold n)
+
+  pub counted_by_key : (v w : Version) (rtype count : ℕ) → counted count (built v w key rtype) ≡ counted count (built v w n rtype)
+  counted_by_key v w rtype count = ap (counted count) (ap (λ m. built v w m rtype) is ∙ built_folded v w n rtype)
 
 -- ---- the apex alone
 

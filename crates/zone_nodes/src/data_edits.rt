@@ -18,6 +18,7 @@ use crate::set_edit::{Appending, Opening, Thinning};
 use crate::tree::VersionTree;
 use dns_name::{Labelled, Ttl};
 use dns_rdata::{RecordData, StoredRecordData};
+use name_keys::{NameKey, NameKeyRef};
 use std::alloc::{AllocError, Global};
 use zone_values::{PutError, Rrset, SharedRrset};
 
@@ -40,23 +41,8 @@ impl VersionTree {
         ensures steps { OnOk result (steps.new ≡ counted steps.old (built self.old self.new (N.labels owner.now) (rtype_of item))) }
         ensures uncounted { OnErr result (steps.new ≡ steps.old) }
     {
-        let rtype = item.rtype();
-        match self.get(owner, rtype) {
-            Some(set) => match may_append(set, &item, alone) {
-                Ok(()) => match self.append_in_place(alloc, owner, ttl, item, steps) {
-                    Ok(()) => Ok(()),
-                    Err(_) => Err(PutError::Memory),
-                },
-                Err(error) => {
-                    drop(item);
-                    Err(error)
-                }
-            },
-            None => match self.put_first(alloc, owner, ttl, item, steps) {
-                Ok(()) => Ok(()),
-                Err(_) => Err(PutError::Memory),
-            },
-        }
+        let key = NameKey::of(owner);
+        self.append_at(alloc, &key.borrowed(), ttl, item, alone, steps)
     }
 
     /// Puts data that a zone opens with in the RRset of their type at an owner: last, unless equal data stand there (RFC 2181, 5). The RRset's TTL is
@@ -75,11 +61,8 @@ impl VersionTree {
         ensures steps { OnOk result (steps.new ≡ counted steps.old (built self.old self.new (N.labels owner.now) (rtype_of item))) }
         ensures uncounted { OnErr result (steps.new ≡ steps.old) }
     {
-        let rtype = item.rtype();
-        match self.get(owner, rtype) {
-            Some(_) => self.open_in_place(alloc, owner, ttl, item, steps),
-            None => self.put_first(alloc, owner, ttl, item, steps),
-        }
+        let key = NameKey::of(owner);
+        self.open_at(alloc, &key.borrowed(), ttl, item, steps)
     }
 
     /// Takes the data equal to these out of the RRset of their type at an owner, whose TTL is then this one, in seconds; an emptied RRset goes. Where
@@ -99,32 +82,113 @@ impl VersionTree {
         ensures steps { OnOk result (steps.new ≡ counted steps.old (built self.old self.new (N.labels owner.now) (rtype_of item.now))) }
         ensures uncounted { OnErr result (steps.new ≡ steps.old) }
     {
+        let key = NameKey::of(owner);
+        self.take_out_at(alloc, &key.borrowed(), ttl, item, steps)
+    }
+}
+
+// The same by an owner's key, which is made once.
+impl VersionTree {
+    /// `append` by the owner's key.
+    fn append_at(
+        &mut self,
+        alloc: Global,
+        owner: &NameKeyRef<'_>,
+        ttl: Ttl,
+        item: StoredRecordData,
+        alone: bool,
+        steps: &mut NodeCount,
+    ) -> Result<(), PutError>
+        requires { under owner.now self.old.apex ≡ true }
+        ensures ok { OnOk result (self.new ≡ edits.put_set self.old owner.now (rtype_of item) (last_set ttl (data_fields item) (set_at self.old owner.now (rtype_of item)))) }
+        ensures cause { TellsPut (data_fields item) alone (set_at self.old owner.now (rtype_of item)) result }
+        ensures err { OnErr result (self.new ≡ self.old) }
+        ensures steps { OnOk result (steps.new ≡ counted steps.old (built self.old self.new owner.now (rtype_of item))) }
+        ensures uncounted { OnErr result (steps.new ≡ steps.old) }
+    {
+        let rtype = item.rtype();
+        match self.set_at(owner, rtype) {
+            Some(set) => match may_append(set, &item, alone) {
+                Ok(()) => match self.append_in_place(alloc, owner, ttl, item, steps) {
+                    Ok(()) => Ok(()),
+                    Err(_) => Err(PutError::Memory),
+                },
+                Err(error) => {
+                    drop(item);
+                    Err(error)
+                }
+            },
+            None => match self.put_first(alloc, owner, ttl, item, steps) {
+                Ok(()) => Ok(()),
+                Err(_) => Err(PutError::Memory),
+            },
+        }
+    }
+
+    /// `open_with` by the owner's key.
+    fn open_at(
+        &mut self,
+        alloc: Global,
+        owner: &NameKeyRef<'_>,
+        ttl: Ttl,
+        item: StoredRecordData,
+        steps: &mut NodeCount,
+    ) -> Result<(), AllocError>
+        requires { under owner.now self.old.apex ≡ true }
+        ensures ok { OnOk result (self.new ≡ edits.put_set self.old owner.now (rtype_of item) (opening_set ttl (data_fields item) (set_at self.old owner.now (rtype_of item)))) }
+        ensures err { OnErr result (self.new ≡ self.old) }
+        ensures steps { OnOk result (steps.new ≡ counted steps.old (built self.old self.new owner.now (rtype_of item))) }
+        ensures uncounted { OnErr result (steps.new ≡ steps.old) }
+    {
+        let rtype = item.rtype();
+        match self.set_at(owner, rtype) {
+            Some(_) => self.open_in_place(alloc, owner, ttl, item, steps),
+            None => self.put_first(alloc, owner, ttl, item, steps),
+        }
+    }
+
+    /// `take_out` by the owner's key.
+    fn take_out_at(
+        &mut self,
+        alloc: Global,
+        owner: &NameKeyRef<'_>,
+        ttl: Ttl,
+        item: &StoredRecordData,
+        steps: &mut NodeCount,
+    ) -> Result<(), AllocError>
+        requires { under owner.now self.old.apex ≡ true }
+        ensures ok { OnOk result (self.new ≡ edits.put_set self.old owner.now (rtype_of item.now)
+            (record { ttl = ttl; items = filter (λ d. not (same_data (data_fields item.now) d)) (data_at self.old owner.now (rtype_of item.now)) })) }
+        ensures err { OnErr result (self.new ≡ self.old) }
+        ensures steps { OnOk result (steps.new ≡ counted steps.old (built self.old self.new owner.now (rtype_of item.now))) }
+        ensures uncounted { OnErr result (steps.new ≡ steps.old) }
+    {
         // For the proof: the count fits 64 bits.
         let _ = steps.get();
         let rtype = item.rtype();
-        let Some(found) = self.get(owner, rtype) else {
+        let Some(found) = self.set_at(owner, rtype) else {
             return Ok(());
         };
         if found.has_others(item) {
             return self.thin_in_place(owner, ttl, item, steps);
         }
-        self.with_set(alloc, owner, rtype, None, steps)
+        self.remove(alloc, owner, rtype, steps)
     }
 
     /// Puts data last in the RRset of their type at an owner, which stands there, and this TTL in place of the RRset's.
-    fn append_in_place<N: Labelled>(
+    fn append_in_place(
         &mut self,
         alloc: Global,
-        owner: &N,
+        owner: &NameKeyRef<'_>,
         ttl: Ttl,
         item: StoredRecordData,
         steps: &mut NodeCount,
     ) -> Result<(), AllocError>
-        requires zone { under (N.labels owner.now) self.old.apex ≡ true }
-        requires there { IsSome (set_at self.old (N.labels owner.now) (rtype_of item)) }
-        ensures ok { OnOk result (self.new ≡ edits.put_set self.old (N.labels owner.now) (rtype_of item) (last_set ttl (data_fields item) (set_at self.old (N.labels owner.now) (rtype_of item)))) }
+        requires zone { under owner.now self.old.apex ≡ true }
+        requires there { IsSome (set_at self.old owner.now (rtype_of item)) }
+        ensures ok { OnOk result (self.new ≡ edits.put_set self.old owner.now (rtype_of item) (last_set ttl (data_fields item) (set_at self.old owner.now (rtype_of item)))) }
         ensures err { OnErr result (self.new ≡ self.old) }
-        ensures steps { OnOk result (steps.new ≡ counted steps.old (built self.old self.new (N.labels owner.now) (rtype_of item))) }
+        ensures steps { OnOk result (steps.new ≡ counted steps.old (built self.old self.new owner.now (rtype_of item))) }
         ensures uncounted { OnErr result (steps.new ≡ steps.old) }
     {
         let rtype = item.rtype();
@@ -132,19 +196,19 @@ impl VersionTree {
     }
 
     /// Puts data that a zone opens with in the RRset of their type at an owner, which stands there.
-    fn open_in_place<N: Labelled>(
+    fn open_in_place(
         &mut self,
         alloc: Global,
-        owner: &N,
+        owner: &NameKeyRef<'_>,
         ttl: Ttl,
         item: StoredRecordData,
         steps: &mut NodeCount,
     ) -> Result<(), AllocError>
-        requires zone { under (N.labels owner.now) self.old.apex ≡ true }
-        requires there { IsSome (set_at self.old (N.labels owner.now) (rtype_of item)) }
-        ensures ok { OnOk result (self.new ≡ edits.put_set self.old (N.labels owner.now) (rtype_of item) (opening_set ttl (data_fields item) (set_at self.old (N.labels owner.now) (rtype_of item)))) }
+        requires zone { under owner.now self.old.apex ≡ true }
+        requires there { IsSome (set_at self.old owner.now (rtype_of item)) }
+        ensures ok { OnOk result (self.new ≡ edits.put_set self.old owner.now (rtype_of item) (opening_set ttl (data_fields item) (set_at self.old owner.now (rtype_of item)))) }
         ensures err { OnErr result (self.new ≡ self.old) }
-        ensures steps { OnOk result (steps.new ≡ counted steps.old (built self.old self.new (N.labels owner.now) (rtype_of item))) }
+        ensures steps { OnOk result (steps.new ≡ counted steps.old (built self.old self.new owner.now (rtype_of item))) }
         ensures uncounted { OnErr result (steps.new ≡ steps.old) }
     {
         let rtype = item.rtype();
@@ -152,18 +216,18 @@ impl VersionTree {
     }
 
     /// Takes the data equal to these out of the RRset of their type at an owner, which has others, and puts this TTL in place of the RRset's.
-    fn thin_in_place<N: Labelled>(
+    fn thin_in_place(
         &mut self,
-        owner: &N,
+        owner: &NameKeyRef<'_>,
         ttl: Ttl,
         item: &StoredRecordData,
         steps: &mut NodeCount,
     ) -> Result<(), AllocError>
-        requires zone { under (N.labels owner.now) self.old.apex ≡ true }
-        requires others { list_any (λ d. not (same_data (data_fields item.now) d)) (data_at self.old (N.labels owner.now) (rtype_of item.now)) ≡ true }
-        ensures ok { OnOk result (self.new ≡ edits.put_set self.old (N.labels owner.now) (rtype_of item.now) (thinned_set ttl (data_fields item.now) (set_at self.old (N.labels owner.now) (rtype_of item.now)))) }
+        requires zone { under owner.now self.old.apex ≡ true }
+        requires others { list_any (λ d. not (same_data (data_fields item.now) d)) (data_at self.old owner.now (rtype_of item.now)) ≡ true }
+        ensures ok { OnOk result (self.new ≡ edits.put_set self.old owner.now (rtype_of item.now) (thinned_set ttl (data_fields item.now) (set_at self.old owner.now (rtype_of item.now)))) }
         ensures err { OnErr result (self.new ≡ self.old) }
-        ensures steps { OnOk result (steps.new ≡ counted steps.old (built self.old self.new (N.labels owner.now) (rtype_of item.now))) }
+        ensures steps { OnOk result (steps.new ≡ counted steps.old (built self.old self.new owner.now (rtype_of item.now))) }
         ensures uncounted { OnErr result (steps.new ≡ steps.old) }
     {
         let rtype = item.rtype();
@@ -171,23 +235,23 @@ impl VersionTree {
     }
 
     /// Puts data in a new RRset of their type at an owner.
-    fn put_first<N: Labelled>(
+    fn put_first(
         &mut self,
         alloc: Global,
-        owner: &N,
+        owner: &NameKeyRef<'_>,
         ttl: Ttl,
         item: StoredRecordData,
         steps: &mut NodeCount,
     ) -> Result<(), AllocError>
-        requires { under (N.labels owner.now) self.old.apex ≡ true }
-        ensures ok { OnOk result (self.new ≡ edits.put_set self.old (N.labels owner.now) (rtype_of item) (record { ttl = ttl; items = data_fields item ∷ [] })) }
+        requires { under owner.now self.old.apex ≡ true }
+        ensures ok { OnOk result (self.new ≡ edits.put_set self.old owner.now (rtype_of item) (record { ttl = ttl; items = data_fields item ∷ [] })) }
         ensures err { OnErr result (self.new ≡ self.old) }
-        ensures steps { OnOk result (steps.new ≡ counted steps.old (built self.old self.new (N.labels owner.now) (rtype_of item))) }
+        ensures steps { OnOk result (steps.new ≡ counted steps.old (built self.old self.new owner.now (rtype_of item))) }
         ensures uncounted { OnErr result (steps.new ≡ steps.old) }
     {
         let rtype = item.rtype();
         let set = first_of(alloc, ttl, item)?;
-        self.with_set(alloc, owner, rtype, Some(set), steps)
+        self.put_full(alloc, owner, rtype, set, steps)
     }
 }
 

@@ -12,7 +12,7 @@ ghost use Rattle.zone_nodes.specs.Ways.{put_node, any_held, outside};
 
 use crate::node::ZoneNode;
 use name_keys::NameKeyRef;
-use paged_map::{Entries, PagedMap};
+use paged_map::{Entries, PagedMap, compare};
 use std::alloc::{AllocError, Global};
 use std::marker::Model;
 
@@ -187,5 +187,5 @@ fn holds_outside(other: &[u8], key: &[u8], node: &ZoneNode) -> bool
 pub(crate) fn is_same<'x>(left: &'x [u8], right: &'x [u8]) -> bool
     ensures { result ≡ is_eq (octets_cmp left.now right.now) }
 {
-    Ord::cmp(&left, &right).is_eq()
+    compare(left, right).is_eq()
 }

@@ -139,7 +139,7 @@ impl VersionTree {
     }
 
     /// The same of an owner's key.
-    fn set_at(&self, name: &NameKeyRef<'_>, rtype: Rtype) -> Option<&Rrset>
+    pub(crate) fn set_at(&self, name: &NameKeyRef<'_>, rtype: Rtype) -> Option<&Rrset>
         ensures { option_copied result ≡ option_map (typed rtype) (set_at self.now name.now rtype) }
     {
         match self.nodes.get(name) {
@@ -245,7 +245,7 @@ impl VersionTree {
     }
 
     /// Puts an RRset that isn't empty in place of the one of its owner and type.
-    fn put_full(
+    pub(crate) fn put_full(
         &mut self,
         alloc: Global,
         owner: &NameKeyRef<'_>,
@@ -271,7 +271,7 @@ impl VersionTree {
 
     /// Edits the RRset of an owner and type, which stands there and keeps data, in place: what another version shares with it on the way is copied first,
     /// and no node is built. Without memory all is as before.
-    pub(crate) fn edit_set<E: SetEdit + Drop>(
+    fn edit_set<E: SetEdit + Drop>(
         &mut self,
         owner: &NameKeyRef<'_>,
         rtype: Rtype,
@@ -290,31 +290,30 @@ impl VersionTree {
         edit_set(&mut self.nodes, owner, rtype, edit)
     }
 
-    /// The same by the owner's name. It counts as the node that `with_set` would build.
-    pub(crate) fn edit_in_place<N: Labelled, E: SetEdit + Drop>(
+    /// The same, counted as the node that `with_set` would build.
+    pub(crate) fn edit_in_place<E: SetEdit + Drop>(
         &mut self,
-        owner: &N,
+        owner: &NameKeyRef<'_>,
         rtype: Rtype,
         edit: E,
         steps: &mut NodeCount,
     ) -> Result<(), AllocError>
-        requires zone { under (N.labels owner.now) self.old.apex ≡ true }
-        requires there { IsSome (set_at self.old (N.labels owner.now) rtype) }
+        requires zone { under owner.now self.old.apex ≡ true }
+        requires there { IsSome (set_at self.old owner.now rtype) }
         requires fits { E.fits edit rtype }
-        requires full { 1 ≤ length (E.edited edit (set_at self.old (N.labels owner.now) rtype)).items }
-        ensures ok { OnOk result (self.new ≡ edits.put_set self.old (N.labels owner.now) rtype (E.edited edit (set_at self.old (N.labels owner.now) rtype))) }
+        requires full { 1 ≤ length (E.edited edit (set_at self.old owner.now rtype)).items }
+        ensures ok { OnOk result (self.new ≡ edits.put_set self.old owner.now rtype (E.edited edit (set_at self.old owner.now rtype))) }
         ensures err { OnErr result (self.new ≡ self.old) }
-        ensures steps { OnOk result (steps.new ≡ counted steps.old (built self.old self.new (N.labels owner.now) rtype)) }
+        ensures steps { OnOk result (steps.new ≡ counted steps.old (built self.old self.new owner.now rtype)) }
         ensures uncounted { OnErr result (steps.new ≡ steps.old) }
     {
-        let key = NameKey::of(owner);
-        self.edit_set(&key.borrowed(), rtype, edit)?;
+        self.edit_set(owner, rtype, edit)?;
         steps.add_one();
         Ok(())
     }
 
     /// Takes the RRset of an owner and type out, where there is one.
-    fn remove(
+    pub(crate) fn remove(
         &mut self,
         alloc: Global,
         owner: &NameKeyRef<'_>,

@@ -25,7 +25,7 @@ use zone_values::{Rrset, SharedRrset};
 #[derive(Drop)]
 pub struct TreeSet<'v> {
     owner: NameKeyRef<'v>,
-    set: &'v Rrset,
+    set: &'v SharedRrset,
 }
 
 impl<'v> Model for TreeSet<'v> {
@@ -52,12 +52,18 @@ impl<'v> TreeSet<'v> {
     pub fn rtype(&self) -> Rtype
         ensures { result ≡ self.now.1.rtype }
     {
-        let set = self.set;
-        set.rtype()
+        self.set().rtype()
     }
 
     /// The RRset.
     pub fn set(&self) -> &'v Rrset
+        ensures { result.now ≡ self.now.1 }
+    {
+        self.set.as_rrset()
+    }
+
+    /// The RRset as versions share it.
+    pub fn shared(&self) -> &'v SharedRrset
         ensures { result.now ≡ self.now.1 }
     {
         self.set
@@ -133,7 +139,7 @@ impl<'v> NodeRest<'v> {
         match sets.next() {
             Some(set) => Some(TreeSet {
                 owner: NameKeyRef::of_octets(key),
-                set: set.as_rrset(),
+                set,
             }),
             None => None,
         }

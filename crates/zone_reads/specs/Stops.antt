@@ -1,12 +1,15 @@
--- Stops of a walk: that each set has one, and two that are the same but for the order of their data and the case of letters.
-use Rattle.std.specs.Prelude.{◌≡◌, Bool, ◌&&◌, ◌==◌, map}
+-- Sets of a walk: two that are the same but for the order of their data and the case of letters, and that each set has one stop.
+use Rattle.std.specs.Prelude.{◌≡◌, Bool, map}
 use Rattle.std.specs.List.Sorted.{IsStrictlySortedBy}
-use Rattle.dns_name.specs.Names.{fold, same_name}
-use Rattle.zone_model.specs.Version.{RecordSet, Key, Version, IsValid, key_cmp, same_items}
+use Rattle.dns_name.specs.Names.{Name, fold}
+use Rattle.zone_model.specs.Version.{RecordSet, Key, Version, IsValid, key_cmp, same_entry}
 use Rattle.zone_model.specs.Walk.{Stop, walk}
+use Rattle.zone_values.specs.TypedSets.{TypedSet}
+use Rattle.zone_versions.specs.Stops.{entry_told}
 
-abbrev pub same_stop : Stop → Stop → Bool
-same_stop s t = same_name s.owner t.owner && (s.rtype == t.rtype) && (s.contents.ttl == t.contents.ttl) && same_items s.contents.items t.contents.items
+-- sets as the tree of a version gives them
+abbrev pub same_told : Name × TypedSet → Name × TypedSet → Bool
+same_told s t = same_entry (entry_told s) (entry_told t)
 
 -- where a stop's set stands in the version, and the set
 abbrev pub key_of : Stop → Key

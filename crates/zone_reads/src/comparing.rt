@@ -1,31 +1,38 @@
 // Whether two versions have the same records.
-ghost use Rattle.std.specs.Prelude.{◌≡◌, map};
+ghost use Rattle.std.specs.Prelude.{◌≡◌, bytes_eq, map};
+ghost use Rattle.std.specs.Cmp.Lexicographic.{pointwise};
 ghost use Rattle.std.specs.List.{list_all, list_any};
 ghost use Rattle.dns_rdata.specs.Records.{same_data};
 ghost use Rattle.dns_rdata.specs.ZoneData.{data_fields};
+ghost use Rattle.dns_name.specs.Names.{fold};
 ghost use Rattle.zone_model.specs.Version.{same_items, same_version};
-ghost use Rattle.zone_reads.specs.Stops.{same_stop};
+ghost use Rattle.zone_reads.specs.Stops.{same_told};
 
 use crate::read::ReadZone;
-use dns_name::ToName;
 use dns_rdata::StoredRecordData;
-use zone_versions::WalkItem;
+use name_keys::NameKeyRef;
+use zone_nodes::{TreeSet, TreeSets};
 
 /// Whether two versions have sets of the same owners, types and TTLs with the same data, but for the order of a set's data and the case of
 /// letters in names (RFC 2181, 5; RFC 4343). Apex and class aren't looked at. Within a set each datum is compared with each of the other's.
+#[tactic(auto, using(crate::proofs::Walks::same_sets))]
 pub fn is_same(one: &ReadZone, other: &ReadZone) -> bool
     ensures { result ≡ same_version one.now.version other.now.version }
 {
-    // For the proof: a published version is valid.
-    one.validity();
-    other.validity();
-    let mut ones = one.iter_rrsets();
-    let mut others = other.iter_rrsets();
-    while let Some(stop) = ones.next() {
+    are_same_sets(one.contents().sets(), other.contents().sets())
+}
+
+/// Whether the sets of two trees are the same with their owners and types, the first as the first, and so on.
+fn are_same_sets(ones: TreeSets<'_>, others: TreeSets<'_>) -> bool
+    ensures { result ≡ pointwise same_told ones.entry others.entry }
+{
+    let mut ones = ones;
+    let mut others = others;
+    while let Some(found) = ones.next() {
         let Some(beside) = others.next() else {
             return false;
         };
-        if !is_same_stop(&stop, &beside) {
+        if !is_same_set(&found, &beside) {
             return false;
         }
     }
@@ -36,22 +43,52 @@ pub fn is_same(one: &ReadZone, other: &ReadZone) -> bool
 }
 
 /// Whether two sets are the same with their owners and types.
-fn is_same_stop(stop: &WalkItem<'_>, beside: &WalkItem<'_>) -> bool
-    ensures { result ≡ same_stop stop.now beside.now }
+fn is_same_set(found: &TreeSet<'_>, beside: &TreeSet<'_>) -> bool
+    ensures { result ≡ same_told found.now beside.now }
 {
-    stop.owner().name_eq(beside.owner())
-        && stop.rtype() == beside.rtype()
-        && stop.ttl() == beside.ttl()
-        && are_same(stop.items(), beside.items())
+    is_same_owner(found.owner(), beside.owner())
+        && found.rtype() == beside.rtype()
+        && found.set().ttl() == beside.set().ttl()
+        && are_same(found.set().data(), beside.set().data())
 }
 
-/// Whether each datum of each list has its equal in the other.
+/// Whether two owners in lower case are the same. Their keys are compared, so that no name is spelled out.
+#[tactic(auto, using(crate::proofs::Walks::same_by_keys))]
+fn is_same_owner(owner: &NameKeyRef<'_>, beside: &NameKeyRef<'_>) -> bool
+    requires owner { fold owner.now ≡ owner.now }
+    requires beside { fold beside.now ≡ beside.now }
+    ensures { result ≡ pointwise bytes_eq owner.now beside.now }
+{
+    owner.as_slice() == beside.as_slice()
+}
+
+/// Whether each datum of each list has its equal in the other. Most often they stand in the same order.
 fn are_same(items: &[StoredRecordData], others: &[StoredRecordData]) -> bool
     ensures { result ≡ same_items (map data_fields items.now) (map data_fields others.now) }
 {
+    if are_alike(items, others) {
+        return true;
+    }
     let there = are_among(items, others);
     let back = are_among(others, items);
     there & back
+}
+
+/// Whether the data of two lists are equal, the first to the first, and so on.
+fn are_alike(items: &[StoredRecordData], others: &[StoredRecordData]) -> bool
+    ensures { result ≡ pointwise (λ x y. same_data (data_fields x) (data_fields y)) items.now others.now }
+{
+    let mut ones = items.iter();
+    let mut others = others.iter();
+    while let Some(item) = ones.next() {
+        let Some(other) = others.next() else {
+            return false;
+        };
+        if !item.fields_eq(other) {
+            return false;
+        }
+    }
+    others.next().is_none()
 }
 
 /// Whether each datum has its equal among the others.

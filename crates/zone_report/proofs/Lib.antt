@@ -1,1 +1,2 @@
 mod WalkLines
+mod Counted

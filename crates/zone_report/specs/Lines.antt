@@ -6,6 +6,7 @@ use Rattle.dns_rdata.specs.Records.{Record, Field, record_wire}
 use Rattle.zone_model.specs.Version.{Version, same_version}
 use Rattle.zone_model.specs.Answer.{Answer, answer, answer_section, authority_section, glue_section, rcode_of, is_authoritative, records_of}
 use Rattle.zone_model.specs.Walk.{Stop, walk, records_of_version}
+use Rattle.zone_values.specs.TypedSets.{TypedSet}
 
 -- words of one line, with a space between each two
 abbrev pub joined_words : List (List ℕ) → List ℕ
@@ -51,6 +52,10 @@ item_line class s d = record_line record_wire (codes "rr" ∷ flag_word record_w
 -- its RRsets, each once, and their records
 abbrev pub count_lines : Version → List ℕ
 count_lines v = line (codes "sets" ∷ decimal (length (walk v)) ∷ []) ++ line (codes "records" ∷ decimal (length (records_of_version v)) ∷ [])
+
+-- the data of a set, as the tree of a version gives it
+abbrev pub items_told : Name × TypedSet → List (List Field)
+items_told s = s.1.contents.items
 
 -- whether it has the same records as another
 abbrev pub same_line : Version → Version → List ℕ

@@ -1,13 +1,12 @@
 //! Lines that tell how much a version has, and whether it is the same as another.
-ghost use Rattle.std.specs.Prelude.{◌≡◌, ◌+◌, ◌++◌, length, IfOk, OnOk};
-ghost use Rattle.zone_model.specs.Answer.{records_of};
+ghost use Rattle.std.specs.Prelude.{◌≡◌, ◌+◌, ◌++◌, flat_map, length, IfOk, OnOk};
 ghost use Rattle.zone_model.specs.Walk.{walk, records_of_version};
-ghost use Rattle.zone_report.specs.Lines.{count_lines, same_line};
+ghost use Rattle.zone_report.specs.Lines.{count_lines, items_told, same_line};
 
 use crate::numbers::append_number;
-use dns_name::Class;
 use std::alloc::{AllocError, Global};
-use zone_reads::{ReadZone, WalkItem, is_same};
+use zone_nodes::{TreeSet, TreeSets};
+use zone_reads::{ReadZone, is_same};
 
 /// The lines `sets N` and `records N` of a version.
 pub fn append_counts(alloc: Global, out: &mut Vec<u8>, zone: &ReadZone) -> Result<(), AllocError>
@@ -22,25 +21,33 @@ pub fn append_counts(alloc: Global, out: &mut Vec<u8>, zone: &ReadZone) -> Resul
 }
 
 /// How many RRsets and how many records a version has. A count that would pass 2^64 - 1 answers want of memory.
+#[tactic(auto, using(crate::proofs::Counted::walk_length, crate::proofs::Counted::records_length))]
 fn counts_of(zone: &ReadZone) -> Result<(u64, u64), AllocError>
     ensures sets { IfOk result (λ n. n.0 ≡ length (walk zone.now.version)) }
     ensures records { IfOk result (λ n. n.1 ≡ length (records_of_version zone.now.version)) }
 {
-    let mut sets = 0u64;
+    counts_in(zone.contents().sets())
+}
+
+/// How many sets a tree has, and how many records they have.
+fn counts_in(sets: TreeSets<'_>) -> Result<(u64, u64), AllocError>
+    ensures sets { IfOk result (λ n. n.0 ≡ length sets.entry) }
+    ensures records { IfOk result (λ n. n.1 ≡ length (flat_map items_told sets.entry)) }
+{
+    let mut count = 0u64;
     let mut records = 0u64;
-    for stop in zone.iter_rrsets() {
-        sets = sum(sets, 1)?;
-        records = with_records(records, zone.class(), &stop)?;
+    for found in sets {
+        count = sum(count, 1)?;
+        records = with_records(records, &found)?;
     }
-    Ok((sets, records))
+    Ok((count, records))
 }
 
 /// A count with that of a set's records.
-fn with_records(count: u64, class: Class, stop: &WalkItem<'_>) -> Result<u64, AllocError>
-    ensures { IfOk result (λ n.
-        n ≡ count + length (records_of stop.now.owner stop.now.rtype class stop.now.contents)) }
+fn with_records(count: u64, found: &TreeSet<'_>) -> Result<u64, AllocError>
+    ensures { IfOk result (λ n. n ≡ count + length (items_told found.now)) }
 {
-    sum(count, stop.items().len() as u64)
+    sum(count, found.set().data().len() as u64)
 }
 
 /// A sum of two counts.

@@ -1,10 +1,6 @@
-mod NumberSteps
-mod CutSteps
 mod FileLaws
 mod Refused
-mod KeyFields
 mod EditCauses
 mod LaterLines
 mod Agreement
 mod Parsing
-mod WordForms

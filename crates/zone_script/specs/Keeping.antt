@@ -17,7 +17,8 @@ use Rattle.zone_records.specs.Taking.{take}
 use Rattle.zone_records.specs.Faults.{is_whole}
 use Rattle.zone_script.specs.Script as scripts
 use Rattle.zone_script.specs.Script.{stage_of, is_once, is_skipped, read_line, committed_by}
-use Rattle.zone_script.specs.ScriptReaders.{wire_readers}
+use Rattle.script_words.specs.ScriptReaders.{wire_readers}
+pub use Rattle.script_words.specs.Lines.{is_of_class}
 use Rattle.zone_script.specs.declared.opening.OpeningZone.{OpeningZone}
 use Rattle.zone_script.specs.declared.reading.Zones.{Zones}
 use Rattle.zone_script.specs.declared.reading.Reading.{Reading}
@@ -56,12 +57,6 @@ nothing_read = record { stage = 0; zones = None; key = None; at_primary = 0; at_
 
 abbrev pub may_come : Reading → ℕ → Bool
 may_come k stage = nat_le k.stage stage && not (is_once stage && (k.stage == stage)) && ((stage == 1) || nat_le 1 k.stage) && (nat_le stage 2 || is_some k.key)
-
--- an edit's record has the class of the zones
-abbrev pub is_of_class : ℕ → scripts.Line TsigKey → Bool
-is_of_class class (scripts.ChangeLine (scripts.Plus r)) = r.class == class
-is_of_class class (scripts.ChangeLine (scripts.Minus r)) = r.class == class
-is_of_class class _ = true
 
 abbrev pub is_of_zones : Option Zones → scripts.Line TsigKey → Bool
 is_of_zones None line = true

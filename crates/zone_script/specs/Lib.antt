@@ -1,7 +1,5 @@
+pub use Rattle.script_words.specs.ScriptReaders
+pub use Rattle.script_words.specs.Words
 pub mod Script
-pub mod ScriptReaders
-pub mod Digits
-pub mod Words
-pub mod Lines
 pub mod Causes
 pub mod Keeping

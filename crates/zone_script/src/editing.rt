@@ -7,15 +7,15 @@ ghost use Rattle.zone_script.specs.Script as scripts;
 ghost use Rattle.zone_script.specs.Script.{script_lines};
 ghost use Rattle.zone_script.specs.Keeping as keeping;
 ghost use Rattle.zone_script.specs.Keeping.{edited};
-ghost use Rattle.zone_script.specs.Lines.{line_of, change_of};
+ghost use Rattle.script_words.specs.Lines.{line_of, change_of};
 ghost use Rattle.zone_script.specs.Causes.{line_in, edit_cause};
 
 use crate::commits::Commits;
-use crate::fields::{Change, Line, read_line};
-use crate::lines::{is_skipped, next_line};
 use crate::script::ScriptError;
 use dns_name::{Class, Rtype, StoredName};
 use dns_rdata::StoredRecord;
+use script_words::fields::{Change, Line, read_line};
+use script_words::lines::{is_skipped, next_line};
 use std::alloc::{AllocError, Global};
 use zone_diffs::InMemoryZoneDiff;
 use zone_lookup::Queries;

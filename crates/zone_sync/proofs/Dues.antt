@@ -28,7 +28,7 @@ pub untouched : {longest f : ℕ} {lists : Option LinkLists} → Untouched (cros
 untouched = record { lists = refl; faults = refl }
 
 -- a report that was written whole
-not_sink : (s : Status) → IsTrue (is_reported s) → s ≢ ends.SinkFault
+pub not_sink : (s : Status) → IsTrue (is_reported s) → s ≢ ends.SinkFault
 not_sink s h e = let clash : false ≡ true = ap is_reported (sym e) ∙ h in absurd cc
 
 pub report_taken : (SendsOf : Provider → TsigKey → ℕ → List ℕ → Option (List Sending) → Type 0) (mode : Mode) (script : Script) (link : Crossed) (octets shown : List ℕ) (status s : Status) (taken_old taken_new : Option (List ℕ)) → ReportsOn SendsOf mode script link octets status → shown ≡ octets
@@ -43,7 +43,7 @@ report_taken SendsOf mode script link octets shown status s taken_old taken_new 
 abbrev pub Spelt : List ℕ → Script → Type 0
 Spelt text k = (t : scripts.Script TsigKey) × (script_of wire_readers text ≡ Ok t) × Gives t k
 
-with_nothing : (had : Option (List ℕ)) → had ≡ with_more [] had
+pub with_nothing : (had : Option (List ℕ)) → had ≡ with_more [] had
 with_nothing None = refl
 with_nothing (Some xs) = ap Some (sym (append-nil xs))
 

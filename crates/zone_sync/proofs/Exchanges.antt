@@ -36,7 +36,7 @@ pub none_done : (a : Asking) (gave : Outcome) → Amounts (course_so_far a [] ga
 unfolding client_so_far
 none_done a gave = amounts a [] gave gave gave (none_passed (fault_so_far a)) (omega (arith)) (stop_few gave [] refl (omega (arith))) refl
 
-abbrev EndsBefore : SyncError → Type 0
+abbrev pub EndsBefore : SyncError → Type 0
 EndsBefore why.Memory = Unit {0}
 EndsBefore why.NoSoa = Unit {0}
 EndsBefore (why.Request ShortBuf) = Unit {0}
@@ -46,7 +46,7 @@ EndsBefore (why.Short x) = Unit {0}
 EndsBefore (why.Primary service.InternalError) = Unit {0}
 EndsBefore e = ⊥
 
-ends_before : (a : Asking) (s : Session) (before handles : List Commit) (e : SyncError) → EndsBefore e → HasMade a.base before s handles [] → Transfers a [] before handles s (Err e)
+pub ends_before : (a : Asking) (s : Session) (before handles : List Commit) (e : SyncError) → EndsBefore e → HasMade a.base before s handles [] → Transfers a [] before handles s (Err e)
 ends_before a s before handles why.Memory x m = record { versions = []; spelt = record { rest = []; is = (none_done a Ended).made }; made = m; answers = inl refl }
 ends_before a s before handles why.NoSoa x m = comes_to a [] before handles s (Err why.NoSoa) NoSoa [] (none_done a NoSoa) refl m
 ends_before a s before handles (why.Request ShortBuf) x m = comes_to a [] before handles s (Err (why.Request ShortBuf)) RequestTooLong [] (none_done a RequestTooLong) refl m
@@ -65,7 +65,7 @@ ends_before a s before handles (why.Iteration e) x m = absurd x
 ends_before a s before handles (why.Update e) x m = absurd x
 ends_before a s before handles why.VersionsExhausted x m = absurd x
 
-at_rest : (a : Asking) (s : Session) (before : List Commit) → s.current ≡ a.base → HasMade a.base before s before []
+pub at_rest : (a : Asking) (s : Session) (before : List Commit) → s.current ≡ a.base → HasMade a.base before s before []
 at_rest a s before h = record { current = h; behind = sym (append-nil before) }
 
 says : (Sends : List ℕ → Option (List Sending) → Type 0) (a : Asking) (longest : ℕ) (old new : Option LinkLists) (before : List Commit) (s : Session) (e : SyncError) (asked heard sent : List (List ℕ)) → LinkWentOn old new asked heard sent [] → Asks a longest asked heard (Err e)

@@ -88,7 +88,7 @@ module _ (Sends : List ℕ → Option (List Sending) → Type 0) (at longest : �
   }
 
 -- what was made of an answer is its report
-reports_so : (asked queries : List (Name × ℕ)) (handles : List Commit) (s : Session) (answer : Result SyncOk SyncError) (octets : List ℕ) (n : ℕ) (last : Commit) (status : Status)
+pub reports_so : (asked queries : List (Name × ℕ)) (handles : List Commit) (s : Session) (answer : Result SyncOk SyncError) (octets : List ℕ) (n : ℕ) (last : Commit) (status : Status)
     → n ≡ length handles → last ≡ s.current → status ≡ status_by answer → asked ≡ queries
     → octets ≡ report record_wire answer n last.version asked [] → Reports answer handles s queries octets status
 reports_so asked queries handles s answer octets n last status counted current ends same is = record {

@@ -2,6 +2,7 @@
 ghost use Rattle.std.specs.Prelude.{◌≡◌, map, All};
 ghost use Rattle.dns_rdata.specs.ZoneData.{rtype_of, data_fields};
 ghost use Rattle.zone_model.specs.Walk.{walk};
+ghost use Rattle.zone_values.specs.TypedEntries.{typed};
 ghost use Rattle.zone_versions.specs.Stops.{stop_of, entry_told, key_told};
 
 use crate::version::ZoneVersion;
@@ -10,6 +11,7 @@ use dns_rdata::StoredRecordData;
 use std::marker::Model;
 use zone_nodes::{TreeSet, TreeSets};
 use zone_sets::SetKey;
+use zone_values::SharedRrset;
 
 /// One stop of a walk: an RRset with its owner and type.
 #[derive(Drop)]
@@ -71,6 +73,13 @@ impl<'v> WalkItem<'v> {
         ensures types { All (λ d. rtype_of d ≡ self.now.rtype) result.now }
     {
         self.found.set().data()
+    }
+
+    /// The RRset as versions share it.
+    pub fn shared(&self) -> &'v SharedRrset
+        ensures { result.now ≡ typed self.now.rtype self.now.contents }
+    {
+        self.found.shared()
     }
 
     /// Whether a zone cut stands at the owner or above it (RFC 1034, 4.2.1). It is looked for here.

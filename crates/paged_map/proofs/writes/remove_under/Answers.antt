@@ -13,9 +13,9 @@ remove_between-requires-clause-order g c same =
     let from = c.locate-from.result in
     let to = c.locate-to.result in
     let k = c.args.prefix.now in
-    let fitting : IsWithin ps from = subst (λ l. IsWithin (values_in l) from) c.deref.ensures.value c.locate-from.ensures.within in
-    let less : Below k (before ps from) = subst (λ l. Below k (before (values_in l) from)) c.deref.ensures.value c.locate-from.ensures.passed in
-    let others : BeyondUnder k (after ps to) = subst (λ l. BeyondUnder k (after (values_in l) to)) c.deref-2.ensures.value c.locate-to.ensures.ahead in
+    let fitting : IsWithin ps from = subst (λ l. IsWithin (values_in l) from) c.deref-2.ensures.value c.locate-from.ensures.within in
+    let less : Below k (before ps from) = subst (λ l. Below k (before (values_in l) from)) c.deref-2.ensures.value c.locate-from.ensures.passed in
+    let others : BeyondUnder k (after ps to) = subst (λ l. BeyondUnder k (after (values_in l) to)) c.deref-3.ensures.value c.locate-to.ensures.ahead in
     ordered_at k (page_at ps from.page) from.at to.at fitting.0 (all_back _ (joined (take from.page ps)) (take from.at (page_at ps from.page)) less)
     (subst (λ n. BeyondUnder k (drop to.at (page_at ps n))) (sym same) (all_front _ (drop to.at (page_at ps to.page)) _ others))
 
@@ -25,12 +25,12 @@ returns-clause-ok g c =
     let from = c.locate-from.result in
     let to = c.locate-to.result in
     let k = c.args.prefix.now in
-    let fitting : IsWithin ps from = subst (λ l. IsWithin (values_in l) from) c.deref.ensures.value c.locate-from.ensures.within in
-    let less : Below k (before ps from) = subst (λ l. Below k (before (values_in l) from)) c.deref.ensures.value c.locate-from.ensures.passed in
-    let others : BeyondUnder k (after ps to) = subst (λ l. BeyondUnder k (after (values_in l) to)) c.deref-2.ensures.value c.locate-to.ensures.ahead in
-    let more : From k (after ps from) = subst (λ l. From k (after (values_in l) from)) c.deref.ensures.value c.locate-from.ensures.ahead in
-    let fitting_to : IsWithin ps to = subst (λ l. IsWithin (values_in l) to) c.deref-2.ensures.value c.locate-to.ensures.within in
-    let upto : UpToUnder k (before ps to) = subst (λ l. UpToUnder k (before (values_in l) to)) c.deref-2.ensures.value c.locate-to.ensures.passed in
+    let fitting : IsWithin ps from = subst (λ l. IsWithin (values_in l) from) c.deref-2.ensures.value c.locate-from.ensures.within in
+    let less : Below k (before ps from) = subst (λ l. Below k (before (values_in l) from)) c.deref-2.ensures.value c.locate-from.ensures.passed in
+    let others : BeyondUnder k (after ps to) = subst (λ l. BeyondUnder k (after (values_in l) to)) c.deref-3.ensures.value c.locate-to.ensures.ahead in
+    let more : From k (after ps from) = subst (λ l. From k (after (values_in l) from)) c.deref-2.ensures.value c.locate-from.ensures.ahead in
+    let fitting_to : IsWithin ps to = subst (λ l. IsWithin (values_in l) to) c.deref-3.ensures.value c.locate-to.ensures.within in
+    let upto : UpToUnder k (before ps to) = subst (λ l. UpToUnder k (before (values_in l) to)) c.deref-3.ensures.value c.locate-to.ensures.passed in
     let ok : OnOk c.remove_between.result (entries_of c.remove_between.new.pages.items ≡ filter (λ e. not (begins_with e.0 k)) (entries_of c.args.pages.now.items)) =
     on_ok_weaker c.remove_between.result (λ made. made ∙ sym (under_cut k (joined ps) (before ps from) (after ps from) (before ps to) (after ps to) (whole ps from fitting) (whole ps to fitting_to) less more upto others)) c.remove_between.ensures.ok in
     ok
@@ -41,12 +41,12 @@ returns-clause-sound g c =
     let from = c.locate-from.result in
     let to = c.locate-to.result in
     let k = c.args.prefix.now in
-    let fitting : IsWithin ps from = subst (λ l. IsWithin (values_in l) from) c.deref.ensures.value c.locate-from.ensures.within in
-    let less : Below k (before ps from) = subst (λ l. Below k (before (values_in l) from)) c.deref.ensures.value c.locate-from.ensures.passed in
-    let others : BeyondUnder k (after ps to) = subst (λ l. BeyondUnder k (after (values_in l) to)) c.deref-2.ensures.value c.locate-to.ensures.ahead in
-    let more : From k (after ps from) = subst (λ l. From k (after (values_in l) from)) c.deref.ensures.value c.locate-from.ensures.ahead in
-    let fitting_to : IsWithin ps to = subst (λ l. IsWithin (values_in l) to) c.deref-2.ensures.value c.locate-to.ensures.within in
-    let upto : UpToUnder k (before ps to) = subst (λ l. UpToUnder k (before (values_in l) to)) c.deref-2.ensures.value c.locate-to.ensures.passed in
+    let fitting : IsWithin ps from = subst (λ l. IsWithin (values_in l) from) c.deref-2.ensures.value c.locate-from.ensures.within in
+    let less : Below k (before ps from) = subst (λ l. Below k (before (values_in l) from)) c.deref-2.ensures.value c.locate-from.ensures.passed in
+    let others : BeyondUnder k (after ps to) = subst (λ l. BeyondUnder k (after (values_in l) to)) c.deref-3.ensures.value c.locate-to.ensures.ahead in
+    let more : From k (after ps from) = subst (λ l. From k (after (values_in l) from)) c.deref-2.ensures.value c.locate-from.ensures.ahead in
+    let fitting_to : IsWithin ps to = subst (λ l. IsWithin (values_in l) to) c.deref-3.ensures.value c.locate-to.ensures.within in
+    let upto : UpToUnder k (before ps to) = subst (λ l. UpToUnder k (before (values_in l) to)) c.deref-3.ensures.value c.locate-to.ensures.passed in
     let ok : OnOk c.remove_between.result (entries_of c.remove_between.new.pages.items ≡ filter (λ e. not (begins_with e.0 k)) (entries_of c.args.pages.now.items)) =
     on_ok_weaker c.remove_between.result (λ made. made ∙ sym (under_cut k (joined ps) (before ps from) (after ps from) (before ps to) (after ps to) (whole ps from fitting) (whole ps to fitting_to) less more upto others)) c.remove_between.ensures.ok in
     sound_by c.args.pages.now.items c.remove_between.new.pages.items c.remove_between.result (filter (λ e. not (begins_with e.0 k)) (entries_of c.args.pages.now.items)) c.remove_between.ensures.fit ok

@@ -1,4 +1,4 @@
-use Rattle.std.proofs.Common.{◌≡◌, ◌++◌, Some, sym, ap, ◌∙◌, subst}
+use Rattle.std.proofs.Common.{◌≡◌, ◌++◌, Some, None, sym, ap, ◌∙◌, subst}
 use Rattle.zone_model.specs.Walk.{shown_owner}
 use Rattle.zone_model.specs.Offer.{side_records}
 use Rattle.xfr_replies.specs.Places.{Begins, sides_text}
@@ -12,8 +12,8 @@ returns-in-Some c ds more rest at h =
     let v = c.args.zone.now.version in
     let key = c.in-Some.key.now in
     let owner = c.shown_owner-owner.ensures ∙ ap (shown_owner v) c.owner.ensures in
-    let made : c.first_of.result ≡ record { part = SideSets c.args.side; owner = shown_owner v key.0; rtype = key.1; index = 0 } =
-    c.first_of.ensures ∙ (λ i. record { part = SideSets c.args.side; owner = owner i; rtype = c.rtype.ensures i; index = 0 }) in
+    let made : c.first_of.result ≡ record { part = SideSets c.args.side; owner = shown_owner v key.0; rtype = key.1; index = 0; set = None } =
+    c.first_of.ensures ∙ (λ i. record { part = SideSets c.args.side; owner = owner i; rtype = c.rtype.ensures i; index = 0; set = None }) in
     subst (λ (p : Place). Begins v ds (side_records v rest ++ sides_text v more) (Some p)) (sym made)
     (side_at_key v ds c.args.side c.args.sets.now rest more key at (c.in-Some.ensures rest h))
 

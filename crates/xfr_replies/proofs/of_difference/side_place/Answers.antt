@@ -1,4 +1,4 @@
-use Rattle.std.proofs.Common.{◌≡◌, ◌++◌, Some, sym, ◌∙◌, subst}
+use Rattle.std.proofs.Common.{◌≡◌, ◌++◌, Some, None, sym, ◌∙◌, subst}
 use Rattle.dns_name.specs.Codes.{type_soa}
 use Rattle.xfr_replies.specs.Sides.{side_text}
 use Rattle.xfr_replies.specs.Places.{Begins, sides_text}
@@ -12,8 +12,8 @@ pub returns-then-has_soas : goal.returns-then-has_soas
 returns-then-has_soas c ds more at =
     let v = c.args.zone.now.version in
     let apex = c.to_key_name-apex.ensures.value ∙ c.apex_name.ensures in
-    let made : c.first_of.result ≡ record { part = SideSoas c.args.side; owner = v.apex; rtype = type_soa; index = 0 } =
-    c.first_of.ensures ∙ (λ i. record { part = SideSoas c.args.side; owner = apex i; rtype = type_soa; index = 0 }) in
+    let made : c.first_of.result ≡ record { part = SideSoas c.args.side; owner = v.apex; rtype = type_soa; index = 0; set = None } =
+    c.first_of.ensures ∙ (λ i. record { part = SideSoas c.args.side; owner = apex i; rtype = type_soa; index = 0; set = None }) in
     subst (λ (p : Place). Begins v ds (side_text v c.args.sets.now ++ sides_text v more) (Some p)) (sym made)
     (side_at_soas v ds c.args.side c.args.sets.now more at (not_true _ (sym c.has_soas.ensures ∙ c.if-has_soas.true)))
 

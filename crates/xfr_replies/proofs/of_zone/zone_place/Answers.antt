@@ -12,9 +12,11 @@ returns-in-Some c rest h ds =
     let v = c.args.zone.now.version in
     let stop = c.in-Some.stop in
     let owner = c.duplicate.ensures ∙ c.owner.ensures in
-    let made : c.first_of.result ≡ record { part = Zone; owner = stop.owner; rtype = stop.rtype; index = 0 } =
-    c.first_of.ensures ∙ (λ i. record { part = Zone; owner = owner i; rtype = c.rtype.ensures i; index = 0 }) in
-    subst (λ (p : Place). Begins v ds (middle_of v rest ++ apex_soa_record v) (Some p)) (sym made) (zone_at_stop v ds rest stop (c.in-Some.ensures rest h))
+    let set = c.kept_set.result in
+    let made : ◌≡◌ {A = Place} (record { part = Zone; owner = c.duplicate.result; rtype = c.rtype.result; index = 0; set = set })
+    (record { part = Zone; owner = stop.owner; rtype = stop.rtype; index = 0; set = set }) =
+    λ i. record { part = Zone; owner = owner i; rtype = c.rtype.ensures i; index = 0; set = set } in
+    subst (λ (p : Place). Begins v ds (middle_of v rest ++ apex_soa_record v) (Some p)) (sym made) (zone_at_stop v ds rest stop set (c.in-Some.ensures rest h) c.kept_set.ensures)
 
 pub returns-in-None : goal.returns-in-None
 returns-in-None c rest h ds = zone_at_last c.args.zone.now.version ds rest c.last_place.result (c.in-None.ensures rest h) (c.last_place.ensures ds)

@@ -10,8 +10,8 @@ pub returns : goal.returns
 returns g c =
     let s = c.locate.result in
     let k = c.args.key.now in
-    let ps = values_in c.deref-2.result.now in
-    c.new.ensures ∙ ap (λ l. after (values_in l) s) (c.deref.ensures.value ∙ sym c.deref-2.ensures.value)
+    let ps = values_in c.deref-3.result.now in
+    c.new.ensures ∙ ap (λ l. after (values_in l) s) (c.deref-2.ensures.value ∙ sym c.deref-3.ensures.value)
     ∙ sym (filter_cut (Before c.args.key) (before ps s) (after ps s) c.locate.ensures.passed c.locate.ensures.ahead)
     ∙ ap (filter (λ e. not (is_gt (octets_cmp k e.0)))) (sym (whole ps s c.locate.ensures.within)) ∙ filter_from k (joined ps)
-    ∙ ap (filter (λ e. is_le (octets_cmp k e.0))) (ap entries_of c.deref-2.ensures.value ∙ c.self.view_is)
+    ∙ ap (filter (λ e. is_le (octets_cmp k e.0))) (ap entries_of c.deref-3.ensures.value ∙ c.self.view_is)

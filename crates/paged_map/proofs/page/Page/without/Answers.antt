@@ -9,7 +9,7 @@ pub returns : goal.returns
 returns g c =
     let es = c.self.inside.entries.items in
     let tail = take (length c.deref-2.result.now - c.args.to) (drop c.args.to c.deref-2.result.now) in
-    appended_values c.extend_with_clones.new.self.items c.extend_with_clones-2.new.self.items tail c.in_ok-extend_with_clones-2.ensures.items
+    c.of.ensures ∙ appended_values c.extend_with_clones.new.self.items c.extend_with_clones-2.new.self.items tail c.in_ok-extend_with_clones-2.ensures.items
     ∙ ap (λ l. l ++ values_in tail) (appended_values c.new-entries.result.items c.extend_with_clones.new.self.items (take c.args.from c.deref.result.now) c.in_ok-extend_with_clones.ensures.items)
     ∙ ap (λ l. values_in l ++ values_in (take c.args.from c.deref.result.now) ++ values_in tail) c.new-entries.ensures.items
     ∙ ap (λ l. values_in (take c.args.from l) ++ values_in tail) c.deref.ensures.value

@@ -19,14 +19,14 @@ pub returns-in-AfterEnd : goal.returns-in-AfterEnd
 returns-in-AfterEnd c =
     let i = c.self.inside in
     let t = c.next_found.new.section in
-    let q = c.step-place.result.0 in
+    let q = c.step.new.place in
     let r : Record = c.in-Ok.found in
     let N : Result Record ParseError → Type 0 = λ n. NextItem (items_left i.section) (Some n) (items_left t) in
     let read : items_left i.section ≡ Good r ∷ items_left t = subst N c.in-Ok.is c.in-Some-next_found.ensures in
     let says : run_of q told.AfterEnd ≡ step Axfr (place_of i.place) r
-    = ap (run_of q) (sym c.in-AfterEnd.is) ∙ c.step-place.ensures.says Axfr ∙ ap (λ p. step Axfr (place_of p) r) c.replace.ensures.value in
+    = ap (run_of q) (sym c.in-AfterEnd.is) ∙ c.step.ensures.says Axfr in
     let E : Told → Type 0 = EndsBefore q in
-    let ends : place_of q ≡ AtEnd = subst E c.in-AfterEnd.is c.step-place.ensures.ends in
+    let ends : place_of q ≡ AtEnd = subst E c.in-AfterEnd.is c.step.ensures.ends in
     let none : i.in_hand ≡ None = sym c.take.ensures.value ∙ c.in-None.is in
     let old : rest_of i.section i.place None i.is_first false ≡ c.args.self.now
     = ap (λ h. rest_of i.section i.place h i.is_first false) (sym none) ∙ ap (rest_of i.section i.place i.in_hand i.is_first) (sym c.if-self.false) ∙ c.self.view_is in

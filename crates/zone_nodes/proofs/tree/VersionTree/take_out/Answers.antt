@@ -1,33 +1,18 @@
-use Rattle.std.proofs.Common.{◌≡◌, arith, false, [], not, filter, refl, sym, ap, ◌∙◌}
-use Rattle.std.specs.Option.{option_map_or}
-use Rattle.std.specs.List.{list_any}
-use Rattle.dns_rdata.specs.Records.{same_data}
+use Rattle.std.proofs.Common.{◌∙◌}
 use Rattle.dns_rdata.specs.ZoneData.{rtype_of, data_fields}
-use Rattle.zone_model.specs.Version.{RecordSet, set_at, data_at}
-use Rattle.zone_model.specs.Edits.{remove_set}
+use Rattle.zone_nodes.specs.DataEdits.{thinned_set}
 use Rattle.zone_nodes.proofs.Named.{on_ok}
-use Rattle.zone_nodes.proofs.InPlace.{got_contents, thinned_gone}
-use Rattle.zone_nodes.proofs.NoSet.{nothing_left, nothing_counted}
+use Rattle.zone_nodes.proofs.Told.{edit_by_key, counted_by_key}
 use Rattle.zone_nodes.proofs.tree.VersionTree.take_out.Goals as goal
 
--- No set is found, and taking data out of none leaves the version as it is.
-pub returns-in_default-clause-ok : goal.returns-in_default-clause-ok
-returns-in_default-clause-ok g c =
-    nothing_left c.args.self.now (g.N.Labelled.labels c.args.owner.now) c.rtype-rtype.result _ c.rtype-rtype.ensures c.in_default.ensures (filter (λ d. not (same_data (data_fields c.args.item.now) d))) c.args.ttl refl
-
-pub returns-in_default-clause-steps : goal.returns-in_default-clause-steps
-returns-in_default-clause-steps g c =
-    nothing_counted c.args.self.now (g.N.Labelled.labels c.args.owner.now) c.rtype-rtype.result _ c.rtype-rtype.ensures c.in_default.ensures c.args.steps.now (omega (arith, c.get.ensures, c.get.type_inv))
-
--- No others stand there, and the set goes.
 pub returns-clause-ok : goal.returns-clause-ok
 returns-clause-ok g c =
-    let name = g.N.Labelled.labels c.args.owner.now in
-    let fields = data_fields c.args.item.now in
-    let h : list_any (λ d. not (same_data fields d)) (data_at c.args.self.now name (rtype_of c.args.item.now)) ≡ false =
-    ap (λ t. list_any (λ d. not (same_data fields d)) (data_at c.args.self.now name t)) (sym c.rtype-rtype.ensures)
-    ∙ ap (λ o. list_any (λ d. not (same_data fields d)) (option_map_or (λ (s : RecordSet). s.items) o [])) (sym (got_contents c.rtype-rtype.result (set_at c.args.self.now name c.rtype-rtype.result) c.in-Some.found.now c.in-Some.ensures))
-    ∙ sym c.has_others.ensures ∙ c.if-has_others.false in
-    on_ok c.with_set.result
-    (λ e. e ∙ ap (λ t. remove_set c.args.self.now name t) c.rtype-rtype.ensures ∙ thinned_gone c.args.self.now name (rtype_of c.args.item.now) c.args.ttl fields h)
-    c.with_set.ensures.ok
+    on_ok c.take_out_at.result
+    (λ e. e ∙ edit_by_key (g.N.Labelled.labels c.args.owner.now) c.borrowed.result (c.borrowed.ensures.value ∙ c.of-key.ensures) c.args.self.now (rtype_of c.args.item.now) (thinned_set c.args.ttl (data_fields c.args.item.now)))
+    c.take_out_at.ensures.ok
+
+pub returns-clause-steps : goal.returns-clause-steps
+returns-clause-steps g c =
+    on_ok c.take_out_at.result
+    (λ e. e ∙ counted_by_key (g.N.Labelled.labels c.args.owner.now) c.borrowed.result (c.borrowed.ensures.value ∙ c.of-key.ensures) c.args.self.now c.take_out_at.new.self (rtype_of c.args.item.now) c.args.steps.now)
+    c.take_out_at.ensures.steps

@@ -1,0 +1,4 @@
+mod NumberSteps
+mod CutSteps
+mod KeyFields
+mod WordForms

@@ -1,0 +1,5 @@
+pub mod ScriptLines
+pub mod ScriptReaders
+pub mod Digits
+pub mod Words
+pub mod Lines

@@ -1,0 +1,7 @@
+mod Streams
+mod Tellings
+mod Replies
+mod Requests
+mod TwoExchanges
+mod Dues
+mod Ends

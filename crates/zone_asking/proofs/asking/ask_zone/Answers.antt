@@ -1,0 +1,22 @@
+use Rattle.std.proofs.Common.{List, Option, ℕ}
+use Rattle.zone_sync.specs.Modes.{mode_of}
+use Rattle.zone_sync.specs.SoFar.{asks_with}
+use Rattle.zone_sync.proofs.Clients.{nothing_pending}
+use Rattle.zone_sync.proofs.Handles.{keeps_handles}
+use Rattle.zone_asking.specs.Exchanges.{crossing}
+use Rattle.zone_asking.proofs.Requests.{rolled_exchanges}
+use Rattle.zone_asking.proofs.asking.ask_zone.Goals as goal
+
+pub returns-clause-exchanges : goal.returns-clause-exchanges
+returns-clause-exchanges g c =
+    let a = asks_with c.args.key.now (mode_of c.args.mode) c.args.at c.args.session.now.current in
+    let x = crossing (g.S.Source.remaining c.args.src.now) (g.S.Source.remaining c.exchange-answer.new.src) (g.K.Sink.taken c.args.sink.now) (g.K.Sink.taken c.exchange-answer.new.sink) in
+    rolled_exchanges a x c.args.made.now.items c.exchange-answer.new.made.items c.drop_pending.new.session c.exchange-answer.new.session c.exchange-answer.result c.drop_pending.ensures (rw c.new-client.ensures at c.exchange-answer.ensures.exchanges)
+
+pub returns-clause-settled : goal.returns-clause-settled
+returns-clause-settled g c = nothing_pending c.drop_pending.new.session c.exchange-answer.new.session c.drop_pending.ensures
+
+pub returns-clause-handles : goal.returns-clause-handles
+returns-clause-handles g c =
+    let k = rw c.new-client.ensures at c.exchange-answer.ensures.exchanges in
+    keeps_handles c.args.session.now.current c.args.made.now.items c.exchange-answer.new.made.items c.exchange-answer.new.session k.transfers.versions k.transfers.made

@@ -1,0 +1,16 @@
+use Rattle.std.proofs.Common.{◌≡◌, ◌-◌, ◌≤◌, List, [], IsSome}
+use Rattle.zone_model.specs.Commits.{Commit}
+use Rattle.zone_sync.specs.SoFar.{Asking}
+use Rattle.zone_sync.specs.Standing.{Stands}
+use Rattle.zone_asking.specs.Exchanges.{TakenSoFar}
+use Rattle.zone_asking.proofs.asking.take_replies.Given as goal
+
+abbrev pub invariant-taking : goal.invariant-taking
+invariant-taking g l =
+    (g.S.Source.faults l.src ≡ g.S.Source.faults l.initial.src)
+    × (l.count ≤ 65536)
+    × IsSome l.client.exchange
+    × ((a : Asking) (before : List Commit) → Stands l.initial.client l.initial.session a [] before l.initial.made.items → TakenSoFar a (g.S.Source.remaining l.initial.src) (g.S.Source.remaining l.src) l.client l.session before l.made.items l.count)
+
+abbrev pub decreases-taking : goal.decreases-taking
+decreases-taking g l = 65536 - l.count

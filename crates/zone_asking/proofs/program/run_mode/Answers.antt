@@ -1,0 +1,29 @@
+use Rattle.std.proofs.Common.{refl, inl}
+use Rattle.zone_sync.specs.declared.program.Status.TheVariants.{SourceFault, TooLong}
+use Rattle.zone_sync.proofs.Dues.{along, wrote_last, wrote_nothing}
+use Rattle.zone_sync.proofs.ScriptRuns.{is_told}
+use Rattle.zone_asking.proofs.Dues.{untouched, written_of_file, first_of_file}
+use Rattle.zone_asking.proofs.Ends.{script_tells}
+use Rattle.zone_asking.proofs.program.run_mode.Goals as goal
+
+pub returns-in-Ok-clause-wrote : goal.returns-in-Ok-clause-wrote
+returns-in-Ok-clause-wrote g c =
+    let read = along _ c.in-Ok.text.items c.as_slice.result.now c.in-Ok.ensures.all c.as_slice.ensures.value in
+    record {
+      whole = λ no_sink. written_of_file _ _ _ c.as_slice.result.now _ _ _ c.run_script.result read (c.run_script.ensures.wrote.whole no_sink);
+      part = λ failed. first_of_file _ _ _ c.as_slice.result.now _ _ _ read (c.run_script.ensures.wrote.part failed);
+    }
+
+pub returns-in-Err-Failed-clause-wrote : goal.returns-in-Err-Failed-clause-wrote
+returns-in-Err-Failed-clause-wrote g c = wrote_last _ _ SourceFault _ _ _ (refl, untouched) c.write_last.ensures.done c.write_last.ensures.written c.write_last.ensures.part
+
+pub returns-in-Err-TooLong-clause-wrote : goal.returns-in-Err-TooLong-clause-wrote
+returns-in-Err-TooLong-clause-wrote g c = wrote_last _ _ TooLong _ _ _ (refl, untouched) c.write_last-in-Err-TooLong.ensures.done c.write_last-in-Err-TooLong.ensures.written c.write_last-in-Err-TooLong.ensures.part
+
+pub returns-in-Err-Memory-clause-wrote : goal.returns-in-Err-Memory-clause-wrote
+returns-in-Err-Memory-clause-wrote g c = wrote_nothing _ _ _ (refl, inl untouched) refl
+
+pub returns-in-Ok-clause-by_script : goal.returns-in-Ok-clause-by_script
+returns-in-Ok-clause-by_script g c = λ text had.
+    let same = is_told _ text c.in-Ok.text.items c.as_slice.result.now had c.in-Ok.ensures.all c.as_slice.ensures.value in
+    script_tells text c.as_slice.result.now c.in-Ok.text.items c.run_script.result same c.as_slice.ensures.value c.in-Ok.ensures.bounded c.run_script.ensures.script c.run_script.ensures.bad_script c.run_script.ensures.others

@@ -1,0 +1,158 @@
+//! One exchange over a source and a sink.
+ghost use Rattle.std.specs.Prelude.{◌≡◌, ◌≢◌, ◌≤◌, ℕ, List, [], false, take, length, IsSome, IfErr, OnOk, OnErr, Err};
+ghost use Rattle.zone_model.specs.Commits.{Commit};
+ghost use Rattle.zone_model.specs.Session.{rolled_back};
+ghost use Rattle.zone_devices.specs.Calls.{Rose};
+ghost use Rattle.zone_devices.specs.Streams.{with_more};
+ghost use Rattle.message_frames.specs.Frames.{frame_of};
+ghost use Rattle.zone_sync.specs.Modes.{mode_of};
+ghost use Rattle.zone_sync.specs.SoFar.{Asking, asks_with};
+ghost use Rattle.zone_sync.specs.Standing.{asking_of, Stands};
+ghost use Rattle.zone_sync.specs.Handles.{KeepsHandles};
+ghost use Rattle.zone_asking.specs.Answers.{code_in};
+ghost use Rattle.zone_asking.specs.Exchanges.{crossing, EndsSo, Exchanges};
+
+use crate::errors::{AskError, refusal};
+use dns_name::Rcode;
+use dns_wire::Message;
+use message_frames::laws::octets_are_cut_frame_by_frame;
+use message_frames::reading::read_frame;
+use message_frames::writing::{WriteFrameError, write_frame};
+use std::alloc::Global;
+use tsig_port::{Key, Time48};
+use xfr_services::XfrMode;
+use zone_devices::sinks::Sink;
+use zone_devices::sources::Source;
+use zone_reads::ReadZone;
+use zone_sessions::WriteZone;
+use zone_sync::{MOST_REPLIES, SyncError, SyncOk, XfrClient};
+
+/// How many octets a request has at most.
+const MOST_OCTETS: usize = 65_535;
+
+/// Brings a zone up to date over a stream each way (RFC 5936, 4.2): what was pending is dropped, the signed request goes to the sink
+/// after its length, and replies are read of the source, each after its length, checked and applied before the next, until the
+/// outcome is met. `made` gains a handle of each version that is committed, as they come, whatever the answer is; nothing is
+/// pending afterwards. Nothing waits, so nothing is asked of `rt`; a source or a sink may.
+///
+/// For what is newer alone the request has the first apex SOA of the current version; `Transfer(NoSoa)` where there is none, before
+/// anything is written. `UpToDate` says that the primary has nothing newer. Which answer comes for what is told in docs/ERRORS.md.
+pub fn ask_zone<R, S: Source, K: Sink>(
+    rt: &R,
+    alloc: Global,
+    session: &mut WriteZone<'_>,
+    key: &Key,
+    mode: XfrMode,
+    at: Time48,
+    src: &mut S,
+    sink: &mut K,
+    made: &mut Vec<ReadZone>,
+) -> Result<SyncOk, AskError>
+    // Whatever octets the source gives, exactly the versions that the checked text of its frames spells are committed, in order, and
+    // the answer is the outcome. The sink takes the frame of the request, and nothing else.
+    ensures exchanges { Exchanges (asks_with key.now (mode_of mode) at session.old.current)
+        (crossing (S.remaining src.old) (S.remaining src.new) (K.taken sink.old) (K.taken sink.new)) made.old.items made.new.items session.new result }
+    // Nothing is pending, and no difference is wanted of the next commit.
+    ensures settled { session.new.pending ≡ session.new.current.version }
+    ensures wish { session.new.compares ≡ false }
+    // The handles that were there stay, and answer each question as before (`look_up`); those that came have the next numbers.
+    ensures handles { KeepsHandles session.old.current made.old.items made.new.items }
+    // The causes by the streams.
+    ensures source_failed { result ≡ Err AskError.SourceFault → Rose (S.faults src.old) (S.faults src.new) }
+    ensures source_steady { result ≢ Err AskError.SourceFault → S.faults src.new ≡ S.faults src.old }
+    ensures sink_failed { result ≡ Err AskError.SinkFault → Rose (K.faults sink.old) (K.faults sink.new) }
+    ensures sink_steady { result ≢ Err AskError.SinkFault → K.faults sink.new ≡ K.faults sink.old }
+{
+    let mut client = XfrClient::new(alloc, key, mode, at);
+    let answer = exchange(rt, alloc, &mut client, session, src, sink, made);
+    drop_pending(session);
+    answer
+}
+
+/// Drops what an exchange left pending.
+fn drop_pending(session: &mut WriteZone<'_>)
+    ensures { session.new ≡ rolled_back session.old }
+{
+    session.rollback();
+}
+
+/// The request, and what the secondary makes of the replies.
+fn exchange<R, S: Source, K: Sink>(
+    rt: &R,
+    alloc: Global,
+    client: &mut XfrClient,
+    session: &mut WriteZone<'_>,
+    src: &mut S,
+    sink: &mut K,
+    made: &mut Vec<ReadZone>,
+) -> Result<SyncOk, AskError>
+    ensures exchanges { Exchanges (asking_of client.old session.old.current)
+        (crossing (S.remaining src.old) (S.remaining src.new) (K.taken sink.old) (K.taken sink.new)) made.old.items made.new.items session.new result }
+    ensures source_failed { result ≡ Err AskError.SourceFault → Rose (S.faults src.old) (S.faults src.new) }
+    ensures source_steady { result ≢ Err AskError.SourceFault → S.faults src.new ≡ S.faults src.old }
+    ensures sink_failed { result ≡ Err AskError.SinkFault → Rose (K.faults sink.old) (K.faults sink.new) }
+    ensures sink_steady { result ≢ Err AskError.SinkFault → K.faults sink.new ≡ K.faults sink.old }
+{
+    let request = client.request(session, MOST_OCTETS)?;
+    send_request(sink, request.as_slice())?;
+    take_replies(rt, alloc, client, session, src, made)
+}
+
+/// Writes a request's frame.
+fn send_request<K: Sink>(sink: &mut K, octets: &[u8]) -> Result<(), AskError>
+    requires { length octets.now ≤ 65535 }
+    ensures sent { OnOk result (K.taken sink.new ≡ with_more (frame_of octets.now) (K.taken sink.old)) }
+    ensures part { (n : ℕ) × (K.taken sink.new ≡ with_more (take n (frame_of octets.now)) (K.taken sink.old)) }
+    ensures fault { IfErr result (λ e. e ≡ AskError.SinkFault) }
+    ensures failed { OnErr result (Rose (K.faults sink.old) (K.faults sink.new)) }
+    ensures steady { OnOk result (K.faults sink.new ≡ K.faults sink.old) }
+{
+    match write_frame(sink, octets) {
+        Ok(()) => Ok(()),
+        Err(WriteFrameError::Fault) => Err(AskError::SinkFault),
+        Err(WriteFrameError::TooLong) => unreachable!(),
+    }
+}
+
+/// Takes replies until the outcome is met.
+fn take_replies<R, S: Source>(
+    rt: &R,
+    alloc: Global,
+    client: &mut XfrClient,
+    session: &mut WriteZone<'_>,
+    src: &mut S,
+    made: &mut Vec<ReadZone>,
+) -> Result<SyncOk, AskError>
+    requires { IsSome client.old.exchange }
+    ensures ends { (a : Asking) (before : List Commit) → Stands client.old session.old a [] before made.old.items → EndsSo a (S.remaining src.old) (S.remaining src.new) before made.new.items session.new result }
+    ensures failed { result ≡ Err AskError.SourceFault → Rose (S.faults src.old) (S.faults src.new) }
+    ensures steady { result ≢ Err AskError.SourceFault → S.faults src.new ≡ S.faults src.old }
+    ensures others { result ≢ Err AskError.SinkFault }
+{
+    // For the proof: a frame is cut off the front.
+    octets_are_cut_frame_by_frame();
+    let mut count = 0u32;
+    'taking: while count < MOST_REPLIES {
+        count += 1;
+        let Some(reply) = read_frame(alloc, src)? else {
+            return Err(AskError::Transfer(SyncError::Ended));
+        };
+        let code = rcode_of(reply.as_slice());
+        match client.take(rt, session, reply, made) {
+            Ok(None) => {}
+            Ok(Some(outcome)) => return Ok(outcome),
+            Err(error) => return Err(refusal(error, code)),
+        }
+    }
+    Err(AskError::Transfer(SyncError::TooManyMessages))
+}
+
+/// The response code of a message; NOERROR of octets that are no header.
+fn rcode_of(octets: &[u8]) -> Rcode
+    ensures { result ≡ code_in octets.now }
+{
+    match Message::from_octets(octets) {
+        Ok(message) => message.header().rcode,
+        Err(_) => Rcode::NOERROR,
+    }
+}

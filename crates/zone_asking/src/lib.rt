@@ -1,0 +1,13 @@
+//! The secondary's half of a transfer over a stream of octets each way, as a connection gives them: the signed request goes out, and the
+//! replies come in, each message after its length in two octets (RFC 1035, 4.2.2; RFC 5936, 4.2).
+#![tactic(auto)]
+
+pub mod asking;
+pub mod errors;
+pub mod program;
+pub mod retrying;
+
+pub use asking::ask_zone;
+pub use errors::AskError;
+pub use program::{mode_asked, run_secondary};
+pub use retrying::transfer_zone;

@@ -1,0 +1,88 @@
+//! A zone is asked for again, whole, where what is newer alone isn't to be had.
+ghost use Rattle.std.specs.Prelude.{◌≡◌, ◌≢◌, false, Err};
+ghost use Rattle.zone_devices.specs.Calls.{Rose};
+ghost use Rattle.zone_sync.specs.Modes.{mode_of};
+ghost use Rattle.zone_model.specs.TransferText.{Ixfr};
+ghost use Rattle.zone_sync.specs.SoFar.{asks_with};
+ghost use Rattle.zone_sync.specs.Handles.{KeepsHandles};
+ghost use Rattle.zone_asking.specs.Exchanges.{crossing};
+ghost use Rattle.zone_asking.specs.Retries.{asks_again, refuses_ixfr, ExchangesByRule};
+
+use crate::asking::ask_zone;
+use crate::errors::AskError;
+use dns_name::Rcode;
+use std::alloc::Global;
+use tsig_port::{Key, Time48};
+use xfr_client::protocol::IterationError;
+use xfr_services::XfrMode;
+use zone_devices::sinks::Sink;
+use zone_devices::sources::Source;
+use zone_reads::ReadZone;
+use zone_sessions::WriteZone;
+use zone_sync::{SyncError, SyncOk};
+
+/// Brings a zone up to date over a stream each way, as `ask_zone`. Where what is newer was asked for, and the primary answered by its SOA
+/// record alone with another serial (RFC 1995, 4), or by FORMERR, NOTIMP or REFUSED in a signed reply, the whole zone is asked for
+/// over the same streams, in a second exchange that begins with nothing pending. What the first one committed stays.
+pub fn transfer_zone<R, S: Source, K: Sink>(
+    rt: &R,
+    alloc: Global,
+    session: &mut WriteZone<'_>,
+    key: &Key,
+    mode: XfrMode,
+    at: Time48,
+    src: &mut S,
+    sink: &mut K,
+    made: &mut Vec<ReadZone>,
+) -> Result<SyncOk, AskError>
+    // What is committed is what the replies of the one exchange spell, or of the two, one after the other; a second one is made exactly
+    // where the rule says so.
+    ensures exchanges { ExchangesByRule (asks_with key.now (mode_of mode) at session.old.current)
+        (crossing (S.remaining src.old) (S.remaining src.new) (K.taken sink.old) (K.taken sink.new)) made.old.items made.new.items session.new result }
+    // Nothing is pending, and no difference is wanted of the next commit.
+    ensures settled { session.new.pending ≡ session.new.current.version }
+    ensures wish { session.new.compares ≡ false }
+    // The handles that were there stay, and answer each question as before (`look_up`); those that came have the next numbers.
+    ensures handles { KeepsHandles session.old.current made.old.items made.new.items }
+    // The causes by the streams.
+    ensures source_failed { result ≡ Err AskError.SourceFault → Rose (S.faults src.old) (S.faults src.new) }
+    ensures source_steady { result ≢ Err AskError.SourceFault → S.faults src.new ≡ S.faults src.old }
+    ensures sink_failed { result ≡ Err AskError.SinkFault → Rose (K.faults sink.old) (K.faults sink.new) }
+    ensures sink_steady { result ≢ Err AskError.SinkFault → K.faults sink.new ≡ K.faults sink.old }
+{
+    let first = ask_zone(rt, alloc, session, key, mode, at, src, sink, made);
+    if asks_again(mode, &first) {
+        return ask_zone(rt, alloc, session, key, XfrMode::Axfr, at, src, sink, made);
+    }
+    first
+}
+
+/// Whether the whole zone is to be asked for after an exchange that was answered so.
+fn asks_again(mode: XfrMode, answer: &Result<SyncOk, AskError>) -> bool
+    ensures { result ≡ asks_again (mode_of mode) answer.now }
+{
+    match mode {
+        XfrMode::Axfr => false,
+        XfrMode::Ixfr => is_answered_so(answer),
+    }
+}
+
+/// The same of an exchange for what is newer.
+fn is_answered_so(answer: &Result<SyncOk, AskError>) -> bool
+    ensures { result ≡ asks_again Ixfr answer.now }
+{
+    match answer {
+        Err(
+            AskError::Transfer(SyncError::Iteration(IterationError::SingleSoaIxfrTcpRetrySignal)),
+        ) => true,
+        Err(AskError::Response(code)) => is_refused_so(*code),
+        _ => false,
+    }
+}
+
+/// FORMERR, NOTIMP or REFUSED.
+fn is_refused_so(code: Rcode) -> bool
+    ensures { result ≡ refuses_ixfr code }
+{
+    code == Rcode::FORMERR || code == Rcode::NOTIMP || code == Rcode::REFUSED
+}

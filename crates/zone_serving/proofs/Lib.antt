@@ -1,0 +1,4 @@
+mod Framing
+mod Replying
+mod Stepping
+mod Telling
