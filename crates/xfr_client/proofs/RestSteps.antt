@@ -27,7 +27,7 @@ at_end_tells (Bad f ∷ xs) = refl
 
 -- a record after the end
 pub tells_after_end : (s t : SectionIn) (p q : Place) (f : Bool) (r : Record) → items_left s ≡ Good r ∷ items_left t
-    → run_of q told.AfterEnd ≡ step Axfr (place_of p) r → place_of q ≡ machine.AtEnd
+    → run_of q told.AfterEnd r ≡ step Axfr (place_of p) r → place_of q ≡ machine.AtEnd
     → NextTold (rest_of s p None f false) (Some (Err error.AlreadyFinished)) (rest_of t q None f true)
 tells_after_end s t p q true r h e k = rw (h, ← e, k, at_end_stays (items_left t), at_end_tells (items_left t)) (refl, refl)
 tells_after_end s t p q false r h e k = rw (h, ← e, k, at_end_stays (items_left t), at_end_tells (items_left t)) (refl, refl)

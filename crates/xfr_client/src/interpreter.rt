@@ -295,7 +295,8 @@ fn run_over(mut place: Place, mut section: RecordSection<'_>) -> (Place, bool)
         let Ok(found) = next else {
             return (place, true);
         };
-        drop(step(&mut place, found));
+        let _ = step(&mut place, &found);
+        drop(found);
     }
     (place, false)
 }

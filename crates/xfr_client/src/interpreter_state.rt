@@ -8,7 +8,6 @@ ghost use Rattle.xfr_client.specs.Places.{place_of, is_at_second, first_serial};
 ghost use Rattle.xfr_client.specs.Told.{run_of, EndsBefore};
 
 use crate::first_soa::{FirstSoa, duplicate, is_same_soa, serial_of};
-use crate::update::ZoneUpdate;
 use dns_name::{Rtype, Serial};
 use dns_rdata::ReadRecord;
 
@@ -77,19 +76,27 @@ impl Place {
 }
 
 /// What one record says.
-#[derive(Drop)]
-pub enum Told<'m> {
-    /// One update.
-    One(ZoneUpdate<ReadRecord<'m>>),
-    /// The records all go, and this one is the first to be added.
-    Whole(ReadRecord<'m>),
-    /// Nothing: the record stands after the end.
+#[derive(Clone, Copy)]
+pub enum Told {
+    /// It goes.
+    Delete,
+    /// It is added.
+    Add,
+    /// The records all go, and it is the first to be added.
+    Whole,
+    /// A batch begins with its deletes.
+    BeginDeletes,
+    /// A batch's adds begin.
+    BeginAdds,
+    /// The end.
+    Finish,
+    /// Nothing: it stands after the end.
     AfterEnd,
 }
 
 /// What one more record says; the place is then the one after it.
-pub fn step<'m>(place: &mut Place, found: ReadRecord<'m>) -> Told<'m>
-    ensures says { (mode : Mode) → run_of place.new result ≡ step mode (place_of place.old) found.entry }
+pub fn step(place: &mut Place, found: &ReadRecord<'_>) -> Told
+    ensures says { (mode : Mode) → run_of place.new result found.now ≡ step mode (place_of place.old) found.now }
     ensures ends { EndsBefore place.new result }
 {
     match place.stage {
@@ -97,61 +104,58 @@ pub fn step<'m>(place: &mut Place, found: ReadRecord<'m>) -> Told<'m>
         Stage::InWhole => in_whole(place, found),
         Stage::InDeletes => in_deletes(place, found),
         Stage::InAdds => in_adds(place, found),
-        Stage::AtEnd => {
-            drop(found);
-            Told::AfterEnd
-        }
+        Stage::AtEnd => Told::AfterEnd,
     }
 }
 
 // The second record tells which form the answer has (RFC 1995, 4).
-fn at_second<'m>(place: &mut Place, found: ReadRecord<'m>) -> Told<'m>
-    ensures says { place.old.stage ≡ stages.AtSecond → (mode : Mode) → run_of place.new result ≡ step mode (place_of place.old) found.entry }
+fn at_second(place: &mut Place, found: &ReadRecord<'_>) -> Told
+    ensures says { place.old.stage ≡ stages.AtSecond → (mode : Mode) → run_of place.new result found.now ≡ step mode (place_of place.old) found.now }
     ensures ends { EndsBefore place.new result }
 {
-    if is_soa(&found) {
+    if is_soa(found) {
         end_or_batch(place, found)
     } else {
         place.stage = Stage::InWhole;
-        Told::Whole(found)
+        Told::Whole
     }
 }
 
 // A record of a whole zone is added, up to the first SOA's like (RFC 5936, 2.2).
-fn in_whole<'m>(place: &mut Place, found: ReadRecord<'m>) -> Told<'m>
-    ensures says { place.old.stage ≡ stages.InWhole → (mode : Mode) → run_of place.new result ≡ step mode (place_of place.old) found.entry }
+fn in_whole(place: &mut Place, found: &ReadRecord<'_>) -> Told
+    ensures says { place.old.stage ≡ stages.InWhole → (mode : Mode) → run_of place.new result found.now ≡ step mode (place_of place.old) found.now }
     ensures ends { EndsBefore place.new result }
 {
-    if is_same_soa(&place.first, &found) {
+    if is_same_soa(&place.first, found) {
         place.stage = Stage::AtEnd;
-        Told::One(ZoneUpdate::Finished(found))
+        Told::Finish
     } else {
-        Told::One(ZoneUpdate::AddRecord(found))
+        Told::Add
     }
 }
 
 // A record among deletes goes, up to the SOA before the adds (RFC 1995, 4).
-fn in_deletes<'m>(place: &mut Place, found: ReadRecord<'m>) -> Told<'m>
-    ensures says { place.old.stage ≡ stages.InDeletes → (mode : Mode) → run_of place.new result ≡ step mode (place_of place.old) found.entry }
+fn in_deletes(place: &mut Place, found: &ReadRecord<'_>) -> Told
+    ensures says { place.old.stage ≡ stages.InDeletes → (mode : Mode) → run_of place.new result found.now ≡ step mode (place_of place.old) found.now }
     ensures ends { EndsBefore place.new result }
 {
-    if is_soa(&found) {
+    if is_soa(found) {
         place.stage = Stage::InAdds;
-        Told::One(ZoneUpdate::BeginBatchAdd(found))
+        Told::BeginAdds
     } else {
-        Told::One(ZoneUpdate::DeleteRecord(found))
+        Told::Delete
     }
 }
 
 // A record among adds comes in, up to the SOA that ends the batch (RFC 1995, 4).
-fn in_adds<'m>(place: &mut Place, found: ReadRecord<'m>) -> Told<'m>
-    ensures says { place.old.stage ≡ stages.InAdds → (mode : Mode) → run_of place.new result ≡ step mode (place_of place.old) found.entry }
+fn in_adds(place: &mut Place, found: &ReadRecord<'_>) -> Told
+    ensures says { place.old.stage ≡ stages.InAdds → (mode : Mode) → run_of place.new result found.now ≡ step mode (place_of place.old) found.now }
     ensures ends { EndsBefore place.new result }
 {
-    if is_soa(&found) {
+    if is_soa(found) {
         end_or_batch(place, found)
     } else {
-        Told::One(ZoneUpdate::AddRecord(found))
+        Told::Add
     }
 }
 
@@ -163,15 +167,15 @@ fn is_soa(found: &ReadRecord<'_>) -> bool
 }
 
 // An SOA where deletes would begin: the end, or a batch.
-fn end_or_batch<'m>(place: &mut Place, found: ReadRecord<'m>) -> Told<'m>
-    ensures says { run_of place.new result ≡ end_or_batch place.old.first found.entry }
+fn end_or_batch(place: &mut Place, found: &ReadRecord<'_>) -> Told
+    ensures says { run_of place.new result found.now ≡ end_or_batch place.old.first found.now }
     ensures ends { EndsBefore place.new result }
 {
-    if is_same_soa(&place.first, &found) {
+    if is_same_soa(&place.first, found) {
         place.stage = Stage::AtEnd;
-        Told::One(ZoneUpdate::Finished(found))
+        Told::Finish
     } else {
         place.stage = Stage::InDeletes;
-        Told::One(ZoneUpdate::BeginBatchDelete(found))
+        Told::BeginDeletes
     }
 }

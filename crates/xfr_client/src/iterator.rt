@@ -72,13 +72,18 @@ impl<'m> XfrZoneUpdateIterator<'m> {
             self.has_failed = true;
             return Some(Err(IterationError::ParseError));
         };
-        match step(&mut self.place, found) {
-            Told::One(update) => Some(Ok(update)),
-            Told::Whole(found) => {
+        match step(&mut self.place, &found) {
+            Told::Delete => Some(Ok(ZoneUpdate::DeleteRecord(found))),
+            Told::Add => Some(Ok(ZoneUpdate::AddRecord(found))),
+            Told::Whole => {
                 drop(self.in_hand.replace(ZoneUpdate::AddRecord(found)));
                 Some(Ok(ZoneUpdate::DeleteAllRecords))
             }
+            Told::BeginDeletes => Some(Ok(ZoneUpdate::BeginBatchDelete(found))),
+            Told::BeginAdds => Some(Ok(ZoneUpdate::BeginBatchAdd(found))),
+            Told::Finish => Some(Ok(ZoneUpdate::Finished(found))),
             Told::AfterEnd => {
+                drop(found);
                 self.has_failed = true;
                 Some(Err(IterationError::AlreadyFinished))
             }

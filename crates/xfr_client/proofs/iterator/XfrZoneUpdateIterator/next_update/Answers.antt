@@ -23,8 +23,8 @@ returns-in-AfterEnd c =
     let r : Record = c.in-Ok.found in
     let N : Result Record ParseError → Type 0 = λ n. NextItem (items_left i.section) (Some n) (items_left t) in
     let read : items_left i.section ≡ Good r ∷ items_left t = subst N c.in-Ok.is c.in-Some-next_found.ensures in
-    let says : run_of q told.AfterEnd ≡ step Axfr (place_of i.place) r
-    = ap (run_of q) (sym c.in-AfterEnd.is) ∙ c.step.ensures.says Axfr in
+    let says : run_of q told.AfterEnd r ≡ step Axfr (place_of i.place) r
+    = ap (λ t. run_of q t r) (sym c.in-AfterEnd.is) ∙ c.step.ensures.says Axfr in
     let E : Told → Type 0 = EndsBefore q in
     let ends : place_of q ≡ AtEnd = subst E c.in-AfterEnd.is c.step.ensures.ends in
     let none : i.in_hand ≡ None = sym c.take.ensures.value ∙ c.in-None.is in
