@@ -6,6 +6,7 @@ ghost use Rattle.zone_generated.specs.Generated as generated;
 ghost use Rattle.zone_generated.specs.Generated.{zone_name, server_name, soa_record, ns_record};
 
 use crate::draws::{host_address, host_label};
+use bytes::Bytes;
 use dns_name::{Class, NameRef, Serial, StoredName, Ttl};
 use dns_rdata::{A, Ns, Record, Soa, StoredRecord, StoredRecordData, ZoneRecordData};
 use std::alloc::{AllocError, Global};
@@ -39,17 +40,29 @@ fn server(alloc: Global) -> Result<StoredName, AllocError>
     name_of(alloc, b"\x02ns\x07example\0")
 }
 
+/// The same of octets that the name keeps.
+fn name_kept(octets: Vec<u8>) -> Result<StoredName, AllocError>
+    requires name { IsTrue (is_name (labels_in octets.items)) }
+    requires spelled { name_wire (labels_in octets.items) ≡ octets.items }
+    ensures { IfOk result (λ n. n ≡ labels_in octets.items) }
+{
+    match StoredName::from_octets(Bytes::from_vec(octets)?) {
+        Ok(name) => Ok(name),
+        Err(_) => unreachable!(),
+    }
+}
+
 /// The name of a label, which isn't the root's, below the apex.
 fn below_apex(alloc: Global, label: &[u8]) -> Result<StoredName, AllocError>
     requires some { 0 < length label.now }
     requires short { length label.now ≤ 63 }
     ensures { IfOk result (λ n. n ≡ label.now ∷ zone_name) }
 {
-    let mut octets = Vec::new(alloc);
+    let mut octets = Vec::with_capacity(alloc, label.len() + 10)?;
     octets.push(label.len() as u8)?;
     octets.extend_from_slice(label)?;
     octets.extend_from_slice(b"\x07example\0")?;
-    name_of(alloc, octets.as_slice())
+    name_kept(octets)
 }
 
 /// A record of class IN with the zone's TTL.
