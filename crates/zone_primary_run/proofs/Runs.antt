@@ -1,0 +1,45 @@
+-- A primary's run, by what its parts answer.
+use Rattle.std.proofs.Common.{◌≡◌, ℕ, List, sym, subst, inr, Option, Some, None, IfSome, Result, Ok, Err}
+use Rattle.xfr_services.specs.Items.{Sending}
+use Rattle.zone_serving.specs.StreamServing.{ServesStream}
+use Rattle.zone_serving.specs.declared.errors.ServeError.{ServeError}
+use Rattle.zone_serving.specs.declared.errors.ServeError.TheVariants as stream
+use Rattle.zone_serving.specs.declared.serving.Served.{Served}
+use Rattle.zone_primary_run.specs.PrimaryStatuses.{of_serve}
+use Rattle.zone_primary_run.specs.ScriptPrimaries.{PrimaryParts}
+use Rattle.zone_primary_run.specs.PrimaryRuns.{Stream, SpellsPrimary, ServesScript, RunsText, ReadsScript, RunsPrimary}
+use Rattle.zone_primary_run.specs.declared.errors.PrimaryError.{PrimaryError}
+use Rattle.zone_primary_run.specs.declared.errors.PrimaryError.TheVariants as why
+
+serves_script : (SendsOf : PrimaryParts → List ℕ → Option (List Sending) → Type 0) (text : List ℕ) (p : PrimaryParts) (s : Stream) (answer : Result Served ServeError)
+    → SpellsPrimary text p → ServesStream (SendsOf p) s.src_old s.src_new s.sink_old s.sink_new answer → ServesScript SendsOf text s answer
+serves_script SendsOf text p s answer spelt k = record { primary = p; spelt = spelt; serves = k }
+
+-- the primary serves, and not to the end
+pub not_served : (SendsOf : PrimaryParts → List ℕ → Option (List Sending) → Type 0) (text : List ℕ) (p : PrimaryParts) (s : Stream) (e : ServeError)
+    → SpellsPrimary text p → ServesStream (SendsOf p) s.src_old s.src_new s.sink_old s.sink_new (Err e) → RunsText SendsOf text s (Err (of_serve e))
+not_served SendsOf text p s stream.Memory spelt k = inr (serves_script SendsOf text p s (Err stream.Memory) spelt k)
+not_served SendsOf text p s stream.Cut spelt k = (serves_script SendsOf text p s (Err stream.Cut) spelt k, λ h. cc)
+not_served SendsOf text p s stream.SourceFault spelt k = (serves_script SendsOf text p s (Err stream.SourceFault) spelt k, λ h. cc)
+not_served SendsOf text p s stream.SinkFault spelt k = (serves_script SendsOf text p s (Err stream.SinkFault) spelt k, λ h. cc)
+not_served SendsOf text p s stream.Short spelt k = (serves_script SendsOf text p s (Err stream.Short) spelt k, λ h. cc)
+not_served SendsOf text p s stream.NoReply spelt k = (serves_script SendsOf text p s (Err stream.NoReply) spelt k, λ h. cc)
+not_served SendsOf text p s stream.TooMany spelt k = (serves_script SendsOf text p s (Err stream.TooMany) spelt k, λ h. cc)
+
+reads_script : (Runs : List ℕ → Type 0) (script : Option (List ℕ)) (text : List ℕ) → IfSome script (λ octets. text ≡ octets) → Runs text → ReadsScript Runs script
+reads_script Runs None text told r = record { text = text; told = tt; runs = r }
+reads_script Runs (Some octets) text told r = record { text = text; told = sym told; runs = r }
+
+is_read : (SendsOf : PrimaryParts → List ℕ → Option (List Sending) → Type 0) (script : Option (List ℕ)) (text : List ℕ) (s : Stream) (answer : Result Served PrimaryError)
+    → IfSome script (λ octets. text ≡ octets) → RunsText SendsOf text s answer → RunsPrimary SendsOf script s answer
+is_read SendsOf script text s (Ok done) told r = reads_script (λ t. RunsText SendsOf t s (Ok done)) script text told r
+is_read SendsOf script text s (Err (why.Stream e)) told r = reads_script (λ t. RunsText SendsOf t s (Err (why.Stream e))) script text told r
+is_read SendsOf script text s (Err (why.Line n)) told r = reads_script (λ t. RunsText SendsOf t s (Err (why.Line n))) script text told r
+is_read SendsOf script text s (Err why.Memory) told r = inr (reads_script (λ t. RunsText SendsOf t s (Err why.Memory)) script text told r)
+is_read SendsOf script text s (Err why.ScriptFault) told r = absurd r
+is_read SendsOf script text s (Err why.ScriptTooLong) told r = absurd r
+
+-- the script is read, and its text is served
+pub is_read_as : (SendsOf : PrimaryParts → List ℕ → Option (List Sending) → Type 0) (script : Option (List ℕ)) (items text : List ℕ) (s : Stream) (answer : Result Served PrimaryError)
+    → IfSome script (λ octets. items ≡ octets) → text ≡ items → RunsText SendsOf text s answer → RunsPrimary SendsOf script s answer
+is_read_as SendsOf script items text s answer told same r = is_read SendsOf script items s answer told (subst (λ t. RunsText SendsOf t s answer) same r)

@@ -1,0 +1,3 @@
+pub mod PrimaryStatuses
+pub mod ScriptPrimaries
+pub mod PrimaryRuns

@@ -1,0 +1,72 @@
+-- A primary's run: the script that is read, and the stream that is served.
+use Rattle.std.specs.Prelude.{◌≡◌, ◌≢◌, ◌⊎◌, ℕ, ◌<◌, List, length, Option, Some, IfSome, Result, Ok, Err}
+use Rattle.tsig_port.specs.Tsig.{TsigKey}
+use Rattle.xfr_services.specs.Items.{Sending}
+use Rattle.zone_script.specs.Script.{Script, script_of}
+use Rattle.zone_script.specs.ScriptReaders.{wire_readers}
+use Rattle.zone_serving.specs.StreamServing.{ServesStream}
+use Rattle.zone_serving.specs.declared.errors.ServeError.{ServeError}
+use Rattle.zone_serving.specs.declared.errors.ServeError.TheVariants as stream
+use Rattle.zone_serving.specs.declared.serving.Served.{Served}
+use Rattle.zone_primary_run.specs.ScriptPrimaries.{PrimaryParts, primary_in}
+use Rattle.zone_primary_run.specs.declared.errors.PrimaryError.{PrimaryError}
+use Rattle.zone_primary_run.specs.declared.errors.PrimaryError.TheVariants as why
+
+-- the stream that is served: what its source had and its sink took, before and after
+pub record Stream : Type 0 where
+  pub src_old : Option (List ℕ)
+  pub src_new : Option (List ℕ)
+  pub sink_old : Option (List ℕ)
+  pub sink_new : Option (List ℕ)
+
+abbrev pub stream_of : Option (List ℕ) → Option (List ℕ) → Option (List ℕ) → Option (List ℕ) → Stream
+stream_of src_old src_new sink_old sink_new = record { src_old = src_old; src_new = src_new; sink_old = sink_old; sink_new = sink_new }
+
+-- nothing was read and nothing written
+abbrev pub IsUnserved : Stream → Type 0
+IsUnserved s = (s.src_new ≡ s.src_old) × (s.sink_new ≡ s.sink_old)
+
+-- the text is a script with a key, and this is its primary
+pub record SpellsPrimary (text : List ℕ) (p : PrimaryParts) : Type 0 where
+  pub script : Script TsigKey
+  pub key : TsigKey
+  pub spelt : script_of wire_readers text ≡ Ok script
+  pub keyed : script.key ≡ Some key
+  pub is : p ≡ primary_in script key
+
+-- One case for each answer of a call that makes the primary of a text.
+abbrev pub MakesPrimary : List ℕ → Result PrimaryParts PrimaryError → Type 0
+MakesPrimary text (Ok p) = SpellsPrimary text p
+MakesPrimary text (Err (why.Line n)) = script_of wire_readers text ≡ Err n
+MakesPrimary text (Err why.Memory) = Unit {0}
+MakesPrimary text (Err (why.Stream e)) = ⊥
+MakesPrimary text (Err why.ScriptFault) = ⊥
+MakesPrimary text (Err why.ScriptTooLong) = ⊥
+
+-- the text's primary served the stream, which ended so
+pub record ServesScript (SendsOf : PrimaryParts → List ℕ → Option (List Sending) → Type 0) (text : List ℕ) (s : Stream) (answer : Result Served ServeError) : Type 0 where
+  pub primary : PrimaryParts
+  pub spelt : SpellsPrimary text primary
+  pub serves : ServesStream (SendsOf primary) s.src_old s.src_new s.sink_old s.sink_new answer
+
+-- One case for each answer to a text that is to be served as a script.
+abbrev pub RunsText : (PrimaryParts → List ℕ → Option (List Sending) → Type 0) → List ℕ → Stream → Result Served PrimaryError → Type 0
+RunsText SendsOf text s (Ok served) = ServesScript SendsOf text s (Ok served)
+RunsText SendsOf text s (Err (why.Stream e)) = ServesScript SendsOf text s (Err e) × (e ≢ stream.Memory)
+RunsText SendsOf text s (Err (why.Line n)) = (script_of wire_readers text ≡ Err n) × IsUnserved s
+RunsText SendsOf text s (Err why.Memory) = IsUnserved s ⊎ ServesScript SendsOf text s (Err stream.Memory)
+RunsText SendsOf text s (Err why.ScriptFault) = ⊥
+RunsText SendsOf text s (Err why.ScriptTooLong) = ⊥
+
+-- the source of a script, where it tells its octets, had this text
+pub record ReadsScript (Runs : List ℕ → Type 0) (script : Option (List ℕ)) : Type 0 where
+  pub text : List ℕ
+  pub told : IfSome script (λ octets. octets ≡ text)
+  pub runs : Runs text
+
+-- One case for each answer of a run.
+abbrev pub RunsPrimary : (PrimaryParts → List ℕ → Option (List Sending) → Type 0) → Option (List ℕ) → Stream → Result Served PrimaryError → Type 0
+RunsPrimary SendsOf script s (Err why.ScriptFault) = IsUnserved s
+RunsPrimary SendsOf script s (Err why.ScriptTooLong) = IfSome script (λ octets. 16777216 < length octets) × IsUnserved s
+RunsPrimary SendsOf script s (Err why.Memory) = IsUnserved s ⊎ ReadsScript (λ text. RunsText SendsOf text s (Err why.Memory)) script
+RunsPrimary SendsOf script s answer = ReadsScript (λ text. RunsText SendsOf text s answer) script
