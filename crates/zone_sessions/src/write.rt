@@ -1,7 +1,9 @@
 // A session that writes a zone's next versions.
-ghost use Rattle.std.specs.Prelude.{◌≡◌, ◌↔◌, ◌-◌, ◌^◌, [], Ok, Err, IfOk, IfErr, IfSome, IfNone, OnOk, OnErr, IsOk, IsTrue, false};
+ghost use Rattle.std.specs.Prelude.{◌≡◌, ◌↔◌, ◌-◌, ◌^◌, [], Ok, Err, IfOk, IfErr, IfSome, IfNone, OnOk, OnErr, IsOk, IsTrue, false, option_copied, option_map};
 ghost use Rattle.zone_model.specs.Edits.{add, delete, with_sets};
 ghost use Rattle.zone_model.specs.Edits as edits;
+ghost use Rattle.zone_model.specs.Version.{set_at};
+ghost use Rattle.zone_values.specs.TypedEntries.{typed};
 ghost use Rattle.zone_model.specs.Session.{opened_session, with_pending, closed, committed, rolled_back, told_difference};
 ghost use Rattle.zone_nodes.specs.Held.{counted};
 ghost use Rattle.zone_nodes.specs.Trees.{built};
@@ -14,7 +16,7 @@ ghost use Rattle.zone_changes.specs.Drafts.{draft};
 ghost use Rattle.zone_sessions.specs.Pending.{told_of};
 
 use crate::apex::ZoneApex;
-use dns_name::{StoredName, Ttl};
+use dns_name::{Labelled, Rtype, StoredName, Ttl};
 use dns_rdata::{ReadRecord, Soa, StoredRecord, StoredRecordData};
 use std::alloc::{AllocError, Global};
 use std::marker::Model;
@@ -23,6 +25,7 @@ use zone_diffs::InMemoryZoneDiff;
 use zone_errors::CommitError;
 use zone_reads::ReadZone;
 use zone_sets::SetKey;
+use zone_values::Rrset;
 use zone_versions::{EditError, NodeCount, ZoneVersion};
 
 /// The one session of a zone: it edits what is pending, and publishes it by `commit`. What is pending when it is dropped is gone.
@@ -92,6 +95,13 @@ impl<'z> WriteZone<'z> {
         ensures { result ≡ edits.has_data self.now.pending added.now }
     {
         self.shown().has_data(added)
+    }
+
+    /// The pending set of an owner and type.
+    pub fn rrset_at<N: Labelled>(&self, owner: &N, rtype: Rtype) -> Option<&Rrset>
+        ensures { option_copied result ≡ option_map (typed rtype) (set_at self.now.pending (N.labels owner.now) rtype) }
+    {
+        self.shown().set_at(owner, rtype)
     }
 
     /// Takes what is pending out to be edited.
