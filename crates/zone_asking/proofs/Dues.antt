@@ -26,6 +26,7 @@ use Rattle.zone_sync.proofs.ReportLaw.{reports_so, ends_reported}
 use Rattle.zone_sync.proofs.Dues.{along, first_part, not_sink, with_nothing, wrote_nothing}
 use Rattle.zone_asking.specs.declared.errors.AskError.{AskError}
 use Rattle.zone_asking.specs.Answers.{sync_answer}
+use Rattle.zone_asking.specs.Limiting.{unlimited}
 use Rattle.zone_asking.specs.Exchanges.{Crossing, crossing}
 use Rattle.zone_asking.specs.Retries.{ExchangesByRule}
 use Rattle.zone_asking.specs.Running.{asking_at, IsDue, Ran, ReportsOn, Transferred, Tried, Untouched}
@@ -36,14 +37,14 @@ untouched = record { unread = refl; unwritten = refl }
 
 -- a transfer into a new list of handles
 pub transferred : (key : TsigKey) (mode : Mode) (at : ℕ) (opened base : Commit) (before handles : List Commit) (s : Session) (answer : Result SyncOk AskError) (x : Crossing) → opened ≡ base → before ≡ []
-    → ExchangesByRule (asks_with key mode at opened) x before handles s answer → ExchangesByRule (asks_with key mode at base) x [] handles s answer
+    → ExchangesByRule unlimited (asks_with key mode at opened) x before handles s answer → ExchangesByRule unlimited (asks_with key mode at base) x [] handles s answer
 transferred key mode at opened base before handles s answer x same none says =
-    subst (λ b. ExchangesByRule (asks_with key mode at b) x [] handles s answer) same
-    (subst (λ had. ExchangesByRule (asks_with key mode at opened) x had handles s answer) none says)
+    subst (λ b. ExchangesByRule unlimited (asks_with key mode at b) x [] handles s answer) same
+    (subst (λ had. ExchangesByRule unlimited (asks_with key mode at opened) x had handles s answer) none says)
 
 -- .. and its parts as one
 abbrev pub transfer_so : (key : TsigKey) (mode : Mode) (at : ℕ) (opened base : Commit) (before handles : List Commit) (s : Session) (answer : Result SyncOk AskError) (x : Crossing) → opened ≡ base → before ≡ []
-    → ExchangesByRule (asks_with key mode at opened) x before handles s answer → Transferred (asks_with key mode at base) x
+    → ExchangesByRule unlimited (asks_with key mode at opened) x before handles s answer → Transferred (asks_with key mode at base) x
 transfer_so key mode at opened base before handles s answer x same none says = record {
   answer = answer;
   handles = handles;

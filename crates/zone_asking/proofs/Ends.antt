@@ -16,8 +16,9 @@ use Rattle.zone_sync.specs.declared.outcome.SyncError.{SyncError}
 use Rattle.zone_sync.specs.declared.outcome.SyncError.TheVariants as why
 use Rattle.zone_sync.specs.declared.program.Status.{Status}
 use Rattle.zone_sync.specs.declared.program.Status.TheVariants as ends
+use Rattle.zone_asking.specs.declared.limits.Limits.{Limits}
 use Rattle.zone_asking.specs.declared.errors.AskError.{AskError}
-use Rattle.zone_asking.specs.declared.errors.AskError.TheVariants.{Transfer, Response, Cut, SourceFault, SinkFault}
+use Rattle.zone_asking.specs.declared.errors.AskError.TheVariants.{Transfer, Response, Cut, Limit, SourceFault, SinkFault}
 use Rattle.zone_asking.specs.Answers.{sync_answer}
 use Rattle.zone_asking.specs.Exchanges.{Crossing, ComesLater, IsUnmade, Asks, Exchanges}
 use Rattle.zone_asking.specs.Retries.{ExchangesByRule}
@@ -32,9 +33,9 @@ asks_no_link a replies x answer (inl k) e = subst (λ (r : Result SyncOk AskErro
 asks_no_link a replies x answer (inr (inl k)) e = cc (sym k.failed ∙ e)
 asks_no_link a replies x answer (inr (inr k)) e = subst (λ (r : Result SyncOk AskError). ComesLater r) e k.later
 
-pub no_link : (a : Asking) (x : Crossing) (before handles : List Commit) (s : Session) (answer : Result SyncOk AskError) → ExchangesByRule a x before handles s answer → answer ≢ by_link
-no_link a x before handles s answer (inl k) = asks_no_link a k.0.replies x answer k.0.asks
-no_link a x before handles s answer (inr k) = asks_no_link _ k.two.replies _ answer k.two.asks
+pub no_link : (limits : Limits) (a : Asking) (x : Crossing) (before handles : List Commit) (s : Session) (answer : Result SyncOk AskError) → ExchangesByRule limits a x before handles s answer → answer ≢ by_link
+no_link limits a x before handles s answer (inl k) = asks_no_link a k.0.replies x answer k.0.asks
+no_link limits a x before handles s answer (inr k) = asks_no_link _ k.two.replies _ answer k.two.asks
 
 -- ---- the faults of the streams
 
@@ -44,6 +45,7 @@ cause (Ok done) source sink unlinked f g h = cc
 cause (Err SourceFault) source sink unlinked f g h = inl (f refl)
 cause (Err SinkFault) source sink unlinked f g h = inr (g refl)
 cause (Err Cut) source sink unlinked f g h = cc
+cause (Err (Limit which)) source sink unlinked f g h = cc
 cause (Err (Response code)) source sink unlinked f g h = cc
 cause (Err (Transfer why.LinkFault)) source sink unlinked f g h = absurd (unlinked refl)
 cause (Err (Transfer why.Memory)) source sink unlinked f g h = cc
@@ -67,6 +69,7 @@ source_rose : (answer : Result SyncOk AskError) (old new : ℕ) → (answer ≢ 
 source_rose (Err SourceFault) old new steady rose = refl
 source_rose (Ok done) old new steady rose = absurd (not_steady old new rose (steady (λ e. cc)))
 source_rose (Err SinkFault) old new steady rose = refl
+source_rose (Err (Limit which)) old new steady rose = absurd (not_steady old new rose (steady (λ e. cc)))
 source_rose (Err Cut) old new steady rose = absurd (not_steady old new rose (steady (λ e. cc)))
 source_rose (Err (Response code)) old new steady rose = absurd (not_steady old new rose (steady (λ e. cc)))
 source_rose (Err (Transfer e)) old new steady rose = absurd (not_steady old new rose (steady (λ h. cc)))
@@ -75,6 +78,7 @@ sink_rose : (answer : Result SyncOk AskError) (old new : ℕ) → (answer ≢ Er
 sink_rose (Err SourceFault) old new steady rose = refl
 sink_rose (Ok done) old new steady rose = absurd (not_steady old new rose (steady (λ e. cc)))
 sink_rose (Err SinkFault) old new steady rose = refl
+sink_rose (Err (Limit which)) old new steady rose = absurd (not_steady old new rose (steady (λ e. cc)))
 sink_rose (Err Cut) old new steady rose = absurd (not_steady old new rose (steady (λ e. cc)))
 sink_rose (Err (Response code)) old new steady rose = absurd (not_steady old new rose (steady (λ e. cc)))
 sink_rose (Err (Transfer e)) old new steady rose = absurd (not_steady old new rose (steady (λ h. cc)))

@@ -1,3 +1,4 @@
+mod Limiting
 mod Streams
 mod Tellings
 mod Replies

@@ -1,5 +1,5 @@
 -- The replies of one exchange, as the secondary takes them of a source.
-use Rattle.std.proofs.Common.{◌≡◌, ◌≢◌, ℕ, ◌+◌, ◌<◌, ◌≤◌, Bool, true, false, ◌&&◌, ◌==◌, if◌then◌else◌, List, [], ◌∷◌, ◌++◌, length, length-append, refl, sym, ap, ◌∙◌, subst, arith, Option, Some, None, Result, Ok, Err}
+use Rattle.std.proofs.Common.{inl, inr, ◌≡◌, ◌≢◌, ℕ, ◌+◌, ◌<◌, ◌≤◌, Bool, true, false, ◌&&◌, ◌==◌, if◌then◌else◌, List, [], ◌∷◌, ◌++◌, length, length-append, refl, sym, ap, ◌∙◌, subst, arith, Option, Some, None, Result, Ok, Err}
 use Rattle.std.specs.Prelude.{IfSome}
 use Rattle.std.specs.List.{list_all}
 use Rattle.std.proofs.lemmas.List.Folds.{list_all-append}
@@ -8,7 +8,6 @@ use Rattle.zone_model.specs.Commits.{Commit}
 use Rattle.zone_model.specs.Session.{Session}
 use Rattle.xfr_course.specs.Courses.{has_header, most_replies}
 use Rattle.xfr_client.specs.declared.protocol.Error.TheVariants as message
-use Rattle.message_frames.specs.Passing.{Gives, IsCutOff, TakesAtMost, TakesWithinFrame}
 use Rattle.message_frames.specs.declared.reading.FrameError.{FrameError}
 use Rattle.message_frames.specs.declared.reading.FrameError.TheVariants as frame
 use Rattle.zone_sync.specs.SoFar.{Asking, client_so_far}
@@ -19,17 +18,19 @@ use Rattle.zone_sync.specs.declared.outcome.SyncOk.{SyncOk}
 use Rattle.zone_sync.specs.declared.outcome.SyncError.{SyncError}
 use Rattle.zone_sync.specs.declared.outcome.SyncError.TheVariants as why
 use Rattle.zone_sync.proofs.Replying.{no_end, no_link_fault, comes_later, refuses, finishes, link_fails, link_ends, memory_ends, too_many}
+use Rattle.zone_asking.specs.declared.limits.Limits.{Limits}
+use Rattle.zone_asking.specs.declared.limits.Limit as kinds
 use Rattle.zone_asking.specs.declared.errors.AskError.{AskError}
-use Rattle.zone_asking.specs.declared.errors.AskError.TheVariants.{Transfer, Response, Cut, SourceFault, SinkFault}
+use Rattle.zone_asking.specs.declared.errors.AskError.TheVariants.{Transfer, Response, Cut, Limit, SourceFault, SinkFault}
 use Rattle.zone_asking.specs.Answers.{sync_error, sync_answer, code_in, told_by, TellsCode}
-use Rattle.zone_asking.specs.Failures.{of_frame}
-use Rattle.zone_asking.specs.Streams.{GivesFrames, LeavesBy}
+use Rattle.zone_asking.specs.Failures.{of_frame, ComesOfReading}
+use Rattle.zone_asking.specs.Streams.{LeavesBy, Reads, ReadSoFar}
 use Rattle.zone_asking.specs.Exchanges.{ComesLater, EndsSo, TakenSoFar}
-use Rattle.zone_asking.proofs.Streams.{CutsAtFrames, gives_more, gives_none, ends_still, takes_none}
+use Rattle.zone_asking.proofs.Streams.{begins, reads_to, takes_none}
 use Rattle.zone_asking.proofs.Tellings.{last_one, told_code}
 
-pub starts : (a : Asking) (o : Option (List ℕ)) (c : ClientState) (s : Session) (before handles : List Commit) → Stands c s a [] before handles → TakenSoFar a o o c s before handles 0
-starts a o c s before handles st = record { taken = []; count = refl; frames = gives_none o; stands = st }
+pub starts : (limits : Limits) (over : Option ℕ) (a : Asking) (o : Option (List ℕ)) (c : ClientState) (s : Session) (before handles : List Commit) → Stands c s a [] before handles → TakenSoFar limits over a o o limits c s before handles 0
+starts limits over a o c s before handles st = record { taken = []; count = refl; reads = begins limits over o; stands = st }
 
 -- a client takes for what it asked with
 pub reply_takes : (a : Asking) (c d : ClientState) (s t : Session) (taken : List (List ℕ)) (before handles later : List Commit) (m : List ℕ) (r : Result (Option SyncOk) SyncError)
@@ -40,55 +41,50 @@ reply_takes a c d s t taken before handles later m r f st =
 
 -- ---- no reply comes
 
--- what the source leaves where it gave no frame
-pub record FailsToGive (x : FrameError) (mid new : Option (List ℕ)) : Type 0 where
-  pub cut : x ≡ frame.Cut → IfSome mid IsCutOff
-  pub ended : x ≡ frame.Cut → IfSome new (λ left. left ≡ [])
-  pub within : TakesWithinFrame mid new
+pub no_reply : (limits : Limits) (over : Option ℕ) (a : Asking) (old mid new : Option (List ℕ)) (left : Limits) (c : ClientState) (s : Session) (before handles : List Commit) (n : ℕ) (e : AskError) → (k : TakenSoFar limits over a old mid left c s before handles n) → n < most_replies
+    → ComesOfReading e → Reads limits over k.taken old new (Err e) → EndsSo limits over a old new before handles s (Err e)
+no_reply limits over a old mid new left c s before handles n e k few of reads = by of
+  where
+    room : length k.taken < most_replies
+    room = subst (λ l. l < most_replies) (sym k.count) few
 
-pub no_reply : (a : Asking) (old mid new : Option (List ℕ)) (c : ClientState) (s : Session) (before handles : List Commit) (n : ℕ) (x : FrameError) → TakenSoFar a old mid c s before handles n → n < most_replies → FailsToGive x mid new
-    → EndsSo a old new before handles s (Err (of_frame x))
-no_reply a old mid new c s before handles n frame.Cut t few f = record {
-  replies = t.taken;
-  reads = record { rest = mid; frames = t.frames; leaves = (f.cut refl, f.ended refl) };
-  transfers = link_ends a c s before handles t.taken t.stands (subst (λ k. k < most_replies) (sym t.count) few);
-  short = λ e h. absurd (cc h);
-  code = tt;
-  later = tt;
-}
-no_reply a old mid new c s before handles n frame.Fault t few f = record {
-  replies = t.taken;
-  reads = record { rest = mid; frames = t.frames; leaves = f.within };
-  transfers = link_fails a c s before handles t.taken t.stands (subst (λ k. k < most_replies) (sym t.count) few);
-  short = λ e h. absurd (cc h);
-  code = tt;
-  later = tt;
-}
-no_reply a old mid new c s before handles n frame.Memory t few f = record {
-  replies = t.taken;
-  reads = record { rest = mid; frames = t.frames; leaves = f.within };
-  transfers = memory_ends a c s before handles t.taken t.stands (subst (λ k. k < most_replies) (sym t.count) few);
-  short = λ e h. absurd (cc h);
-  code = tt;
-  later = tt;
-}
+    ends : (d : AskError) → e ≡ d → Transfers a k.taken before handles s (Err (sync_error d)) → ((x : ShortMessage) → ◌≡◌ {A = Result SyncOk AskError} (Err d) (Err (Transfer (why.Short x))) → HasShort k.taken) → TellsCode k.taken (Err d) → ComesLater (Err d)
+        → EndsSo limits over a old new before handles s (Err e)
+    ends d is t short code later = subst (λ (x : AskError). EndsSo limits over a old new before handles s (Err x)) (sym is) (record {
+      replies = k.taken;
+      reads = subst (λ (x : AskError). Reads limits over k.taken old new (Err x)) is reads;
+      transfers = t;
+      short = short;
+      code = code;
+      later = later;
+    })
 
-pub no_more : (a : Asking) (old mid new : Option (List ℕ)) (c : ClientState) (s : Session) (before handles : List Commit) (n : ℕ) → TakenSoFar a old mid c s before handles n → n < most_replies → IfSome mid (λ left. left ≡ []) → TakesAtMost 65537 mid new
-    → EndsSo a old new before handles s (Err (Transfer why.Ended))
-no_more a old mid new c s before handles n t few none most = record {
-  replies = t.taken;
-  reads = record { rest = mid; frames = t.frames; leaves = (none, ends_still mid new none most) };
-  transfers = link_ends a c s before handles t.taken t.stands (subst (λ k. k < most_replies) (sym t.count) few);
+    of_source : (x : FrameError) → e ≡ of_frame x → EndsSo limits over a old new before handles s (Err e)
+    of_source frame.Cut is = ends Cut is (link_ends a c s before handles k.taken k.stands room) (λ x h. absurd (cc h)) tt tt
+    of_source frame.Fault is = ends SourceFault is (link_fails a c s before handles k.taken k.stands room) (λ x h. absurd (cc h)) tt tt
+    of_source frame.Memory is = ends (Transfer why.Memory) is (memory_ends a c s before handles k.taken k.stands room) (λ x h. absurd (cc h)) tt tt
+
+    by : ComesOfReading e → EndsSo limits over a old new before handles s (Err e)
+    by (inl x) = of_source x.0 x.1
+    by (inr x) = ends (Limit x.0) x.1 (link_ends a c s before handles k.taken k.stands room) (λ y h. absurd (cc h)) tt tt
+
+pub no_more : (limits : Limits) (over : Option ℕ) (a : Asking) (old mid new : Option (List ℕ)) (left : Limits) (c : ClientState) (s : Session) (before handles : List Commit) (n : ℕ) → (k : TakenSoFar limits over a old mid left c s before handles n) → n < most_replies
+    → Reads limits over k.taken old new (Err (Transfer why.Ended)) → EndsSo limits over a old new before handles s (Err (Transfer why.Ended))
+no_more limits over a old mid new left c s before handles n k few reads = record {
+  replies = k.taken;
+  reads = reads;
+  transfers = link_ends a c s before handles k.taken k.stands (subst (λ l. l < most_replies) (sym k.count) few);
   short = λ e h. absurd (cc h);
   code = tt;
   later = tt;
 }
 
-pub all_came : (a : Asking) (old new : Option (List ℕ)) (c : ClientState) (s : Session) (before handles : List Commit) (n : ℕ) → TakenSoFar a old new c s before handles n → n ≡ most_replies → EndsSo a old new before handles s (Err (Transfer why.TooManyMessages))
-all_came a old new c s before handles n t many = record {
-  replies = t.taken;
-  reads = record { rest = new; frames = t.frames; leaves = refl };
-  transfers = too_many a c s before handles t.taken t.stands (t.count ∙ many);
+pub all_came : (limits : Limits) (over : Option ℕ) (a : Asking) (old new : Option (List ℕ)) (left : Limits) (c : ClientState) (s : Session) (before handles : List Commit) (n : ℕ) → TakenSoFar limits over a old new left c s before handles n → n ≡ most_replies
+    → EndsSo limits over a old new before handles s (Err (Transfer why.TooManyMessages))
+all_came limits over a old new left c s before handles n k many = record {
+  replies = k.taken;
+  reads = reads_to limits over k.taken old new new left (Err (Transfer why.TooManyMessages)) k.reads refl;
+  transfers = too_many a c s before handles k.taken k.stands (k.count ∙ many);
   short = λ e h. absurd (cc h);
   code = tt;
   later = tt;
@@ -127,28 +123,28 @@ told_same why.VersionsExhausted code = refl
 told_same why.Memory code = refl
 
 -- a source that stays where it is
-choice_leaves : (b : Bool) (code : ℕ) (mid : Option (List ℕ)) → LeavesBy (Err (if b then Transfer (why.Xfr message.NotValidXfrResponse) else Response code)) mid mid
-choice_leaves true code mid = refl
-choice_leaves false code mid = refl
+choice_leaves : (limits : Limits) (read : List (List ℕ)) (b : Bool) (code : ℕ) (mid : Option (List ℕ)) → LeavesBy limits read (Err (if b then Transfer (why.Xfr message.NotValidXfrResponse) else Response code)) mid mid
+choice_leaves limits read true code mid = refl
+choice_leaves limits read false code mid = refl
 
-told_leaves : (e : SyncError) (code : ℕ) (mid : Option (List ℕ)) → (e ≡ why.Ended → ⊥) → LeavesBy (Err (told_by e code)) mid mid
-told_leaves (why.Xfr message.NotValidXfrResponse) code mid h = choice_leaves (code == 0) code mid
-told_leaves (why.Xfr message.ParseError) code mid h = refl
-told_leaves (why.Xfr message.Malformed) code mid h = refl
-told_leaves (why.Xfr message.Finished) code mid h = refl
-told_leaves why.NoSoa code mid h = refl
-told_leaves (why.Request x) code mid h = refl
-told_leaves why.LinkFault code mid h = refl
-told_leaves why.Ended code mid h = absurd (h refl)
-told_leaves (why.Short x) code mid h = refl
-told_leaves (why.Primary x) code mid h = refl
-told_leaves why.TooManyMessages code mid h = refl
-told_leaves (why.Tsig x) code mid h = refl
-told_leaves why.OtherAnswer code mid h = refl
-told_leaves (why.Iteration x) code mid h = refl
-told_leaves (why.Update x) code mid h = refl
-told_leaves why.VersionsExhausted code mid h = refl
-told_leaves why.Memory code mid h = takes_none mid
+told_leaves : (limits : Limits) (read : List (List ℕ)) (e : SyncError) (code : ℕ) (mid : Option (List ℕ)) → (e ≡ why.Ended → ⊥) → LeavesBy limits read (Err (told_by e code)) mid mid
+told_leaves limits read (why.Xfr message.NotValidXfrResponse) code mid h = choice_leaves limits read (code == 0) code mid
+told_leaves limits read (why.Xfr message.ParseError) code mid h = refl
+told_leaves limits read (why.Xfr message.Malformed) code mid h = refl
+told_leaves limits read (why.Xfr message.Finished) code mid h = refl
+told_leaves limits read why.NoSoa code mid h = refl
+told_leaves limits read (why.Request x) code mid h = refl
+told_leaves limits read why.LinkFault code mid h = refl
+told_leaves limits read why.Ended code mid h = absurd (h refl)
+told_leaves limits read (why.Short x) code mid h = refl
+told_leaves limits read (why.Primary x) code mid h = refl
+told_leaves limits read why.TooManyMessages code mid h = refl
+told_leaves limits read (why.Tsig x) code mid h = refl
+told_leaves limits read why.OtherAnswer code mid h = refl
+told_leaves limits read (why.Iteration x) code mid h = refl
+told_leaves limits read (why.Update x) code mid h = refl
+told_leaves limits read why.VersionsExhausted code mid h = refl
+told_leaves limits read why.Memory code mid h = takes_none mid
 
 -- such an answer comes later
 choice_later : (b : Bool) (code : ℕ) → ComesLater (Err (if b then Transfer (why.Xfr message.NotValidXfrResponse) else Response code))
@@ -185,15 +181,11 @@ same_error e f h = ap (λ r. err_of r e) h
 is_short : (e : SyncError) (code : ℕ) (x : ShortMessage) → ◌≡◌ {A = Result SyncOk AskError} (Err (told_by e code)) (Err (Transfer (why.Short x))) → e ≡ why.Short x
 is_short e code x h = sym (told_same e code) ∙ ap sync_error (same_error (told_by e code) (Transfer (why.Short x)) h)
 
-pub ends_refused : (a : Asking) (old mid new : Option (List ℕ)) (c : ClientState) (s t : Session) (before handles later : List Commit) (n : ℕ) (m : List ℕ) (e : SyncError) (code : ℕ) → CutsAtFrames → (k : TakenSoFar a old mid c s before handles n) → n < most_replies
-    → Gives m mid new → code ≡ code_in m → RefusesReply a t before later k.taken m e → EndsSo a old new before later t (Err (told_by e code))
-ends_refused a old mid new c s t before handles later n m e code cuts k few g is r = record {
+pub ends_refused : (limits : Limits) (over : Option ℕ) (a : Asking) (old mid new : Option (List ℕ)) (left rest : Limits) (c : ClientState) (s t : Session) (before handles later : List Commit) (n : ℕ) (m : List ℕ) (e : SyncError) (code : ℕ)
+    → (k : TakenSoFar limits over a old mid left c s before handles n) → n < most_replies → ReadSoFar limits over (k.taken ++ m ∷ []) old new rest → code ≡ code_in m → RefusesReply a t before later k.taken m e → EndsSo limits over a old new before later t (Err (told_by e code))
+ends_refused limits over a old mid new left rest c s t before handles later n m e code k few reads is r = record {
   replies = k.taken ++ m ∷ [];
-  reads = record {
-    rest = new;
-    frames = gives_more k.taken old mid new m cuts k.frames g;
-    leaves = told_leaves e code new (no_end a t before later k.taken m e k.stands.stands.unmet r);
-  };
+  reads = reads_to limits over (k.taken ++ m ∷ []) old new new rest (Err (told_by e code)) reads (told_leaves limits reads.read e code new (no_end a t before later k.taken m e k.stands.stands.unmet r));
   transfers =
       subst (λ (x : SyncError). Transfers a (k.taken ++ m ∷ []) before later t (Err x)) (sym (told_same e code))
       (refuses a t before later k.taken m e k.stands.stands.passed k.stands.stands.unmet (one_more k.taken m n k.count few) r);
@@ -202,11 +194,11 @@ ends_refused a old mid new c s t before handles later n m e code cuts k few g is
   later = told_later e code (comes_later a t before later k.taken m e k.stands.stands.unmet r) (no_link_fault a t before later k.taken m e k.stands.stands.unmet r);
 }
 
-pub ends_well : (a : Asking) (old mid new : Option (List ℕ)) (c d : ClientState) (s t : Session) (before handles later : List Commit) (n : ℕ) (m : List ℕ) (done : SyncOk) → CutsAtFrames → (k : TakenSoFar a old mid c s before handles n) → n < most_replies
-    → Gives m mid new → TakesReply a d t before later k.taken m (Ok (Some done)) → EndsSo a old new before later t (Ok done)
-ends_well a old mid new c d s t before handles later n m done cuts k few g r = record {
+pub ends_well : (limits : Limits) (over : Option ℕ) (a : Asking) (old mid new : Option (List ℕ)) (left rest : Limits) (c d : ClientState) (s t : Session) (before handles later : List Commit) (n : ℕ) (m : List ℕ) (done : SyncOk)
+    → (k : TakenSoFar limits over a old mid left c s before handles n) → n < most_replies → ReadSoFar limits over (k.taken ++ m ∷ []) old new rest → TakesReply a d t before later k.taken m (Ok (Some done)) → EndsSo limits over a old new before later t (Ok done)
+ends_well limits over a old mid new left rest c d s t before handles later n m done k few reads r = record {
   replies = k.taken ++ m ∷ [];
-  reads = record { rest = new; frames = gives_more k.taken old mid new m cuts k.frames g; leaves = refl };
+  reads = reads_to limits over (k.taken ++ m ∷ []) old new new rest (Ok done) reads refl;
   transfers = finishes a d t before later k.taken m done k.stands.stands.passed (one_more k.taken m n k.count few) r;
   short = λ x h. absurd (cc h);
   code = tt;
@@ -215,11 +207,11 @@ ends_well a old mid new c d s t before handles later n m done cuts k few g r = r
 
 -- ---- or it goes on
 
-pub takes_on : (a : Asking) (old mid new : Option (List ℕ)) (c d : ClientState) (s t : Session) (before handles later : List Commit) (n : ℕ) (m : List ℕ) → CutsAtFrames → (k : TakenSoFar a old mid c s before handles n)
-    → Gives m mid new → TakesReply a d t before later k.taken m (Ok None) → TakenSoFar a old new d t before later (n + 1)
-takes_on a old mid new c d s t before handles later n m cuts k g r = record {
+pub takes_on : (limits : Limits) (over : Option ℕ) (a : Asking) (old mid new : Option (List ℕ)) (left rest : Limits) (c d : ClientState) (s t : Session) (before handles later : List Commit) (n : ℕ) (m : List ℕ)
+    → (k : TakenSoFar limits over a old mid left c s before handles n) → ReadSoFar limits over (k.taken ++ m ∷ []) old new rest → TakesReply a d t before later k.taken m (Ok None) → TakenSoFar limits over a old new rest d t before later (n + 1)
+takes_on limits over a old mid new left rest c d s t before handles later n m k reads r = record {
   taken = k.taken ++ m ∷ [];
   count = length-append k.taken (m ∷ []) ∙ ap (λ l. l + 1) k.count;
-  frames = gives_more k.taken old mid new m cuts k.frames g;
+  reads = reads;
   stands = r;
 }

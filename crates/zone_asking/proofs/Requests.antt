@@ -12,72 +12,73 @@ use Rattle.zone_sync.specs.declared.outcome.SyncError.{SyncError}
 use Rattle.zone_sync.specs.declared.outcome.SyncError.TheVariants as why
 use Rattle.zone_sync.proofs.Clients.{made_rolled}
 use Rattle.zone_sync.proofs.Exchanges.{ends_before, at_rest}
+use Rattle.zone_asking.specs.declared.limits.Limits.{Limits}
 use Rattle.zone_asking.specs.declared.errors.AskError.{AskError}
 use Rattle.zone_asking.specs.declared.errors.AskError.TheVariants.{Transfer, SinkFault}
 use Rattle.zone_asking.specs.Exchanges.{crossing, EndsSo, Crossing, Exchanges}
-use Rattle.zone_asking.proofs.Streams.{gives_none, takes_none}
+use Rattle.zone_asking.proofs.Streams.{begins, reads_to, takes_none}
 
 -- it can't be made
-pub not_made : (a : Asking) (left sink : Option (List ℕ)) (before : List Commit) (s : Session) (e : SyncError) → CantAsk a 65535 e → s.current ≡ a.base → Exchanges a (crossing left left sink sink) before before s (Err (Transfer e))
-not_made a left sink before s why.NoSoa h c = record {
+pub not_made : (limits : Limits) (over : Option ℕ) (a : Asking) (left sink : Option (List ℕ)) (before : List Commit) (s : Session) (e : SyncError) → CantAsk a 65535 e → s.current ≡ a.base → Exchanges limits over a (crossing left left sink sink) before before s (Err (Transfer e))
+not_made limits over a left sink before s why.NoSoa h c = record {
   replies = [];
   asks = inl (record { cause = h; unread = refl; unwritten = refl; none = refl });
-  reads = record { rest = left; frames = gives_none left; leaves = refl };
+  reads = reads_to limits over [] left left left limits (Err (Transfer why.NoSoa)) (begins limits over left) refl;
   transfers = ends_before a s before before why.NoSoa tt (at_rest a s before c);
   short = λ x k. absurd (cc k);
   code = tt;
 }
-not_made a left sink before s (why.Request push.ShortBuf) h c = record {
+not_made limits over a left sink before s (why.Request push.ShortBuf) h c = record {
   replies = [];
   asks = inl (record { cause = h; unread = refl; unwritten = refl; none = refl });
-  reads = record { rest = left; frames = gives_none left; leaves = refl };
+  reads = reads_to limits over [] left left left limits (Err (Transfer (why.Request push.ShortBuf))) (begins limits over left) refl;
   transfers = ends_before a s before before (why.Request push.ShortBuf) tt (at_rest a s before c);
   short = λ x k. absurd (cc k);
   code = tt;
 }
-not_made a left sink before s why.Memory h c = record {
+not_made limits over a left sink before s why.Memory h c = record {
   replies = [];
   asks = inl (record { cause = h; unread = refl; unwritten = refl; none = refl });
-  reads = record { rest = left; frames = gives_none left; leaves = takes_none left };
+  reads = reads_to limits over [] left left left limits (Err (Transfer why.Memory)) (begins limits over left) (takes_none left);
   transfers = ends_before a s before before why.Memory tt (at_rest a s before c);
   short = λ x k. absurd (cc k);
   code = tt;
 }
-not_made a left sink before s (why.Request push.CountOverflow) h c = absurd h
-not_made a left sink before s (why.Request push.Memory) h c = absurd h
-not_made a left sink before s why.LinkFault h c = absurd h
-not_made a left sink before s why.Ended h c = absurd h
-not_made a left sink before s (why.Short x) h c = absurd h
-not_made a left sink before s (why.Primary x) h c = absurd h
-not_made a left sink before s why.TooManyMessages h c = absurd h
-not_made a left sink before s (why.Tsig x) h c = absurd h
-not_made a left sink before s why.OtherAnswer h c = absurd h
-not_made a left sink before s (why.Xfr x) h c = absurd h
-not_made a left sink before s (why.Iteration x) h c = absurd h
-not_made a left sink before s (why.Update x) h c = absurd h
-not_made a left sink before s why.VersionsExhausted h c = absurd h
+not_made limits over a left sink before s (why.Request push.CountOverflow) h c = absurd h
+not_made limits over a left sink before s (why.Request push.Memory) h c = absurd h
+not_made limits over a left sink before s why.LinkFault h c = absurd h
+not_made limits over a left sink before s why.Ended h c = absurd h
+not_made limits over a left sink before s (why.Short x) h c = absurd h
+not_made limits over a left sink before s (why.Primary x) h c = absurd h
+not_made limits over a left sink before s why.TooManyMessages h c = absurd h
+not_made limits over a left sink before s (why.Tsig x) h c = absurd h
+not_made limits over a left sink before s why.OtherAnswer h c = absurd h
+not_made limits over a left sink before s (why.Xfr x) h c = absurd h
+not_made limits over a left sink before s (why.Iteration x) h c = absurd h
+not_made limits over a left sink before s (why.Update x) h c = absurd h
+not_made limits over a left sink before s why.VersionsExhausted h c = absurd h
 
 -- the sink fails
-not_sent_so : (a : Asking) (left old new : Option (List ℕ)) (before : List Commit) (s : Session) (m : List ℕ) (n : ℕ) → CanAsk a 65535 → m ≡ asked_octets a → new ≡ with_more (take n (frame_of m)) old → s.current ≡ a.base
-    → Exchanges a (crossing left left old new) before before s (Err SinkFault)
-not_sent_so a left old new before s m n can is part c = record {
+not_sent_so : (limits : Limits) (over : Option ℕ) (a : Asking) (left old new : Option (List ℕ)) (before : List Commit) (s : Session) (m : List ℕ) (n : ℕ) → CanAsk a 65535 → m ≡ asked_octets a → new ≡ with_more (take n (frame_of m)) old → s.current ≡ a.base
+    → Exchanges limits over a (crossing left left old new) before before s (Err SinkFault)
+not_sent_so limits over a left old new before s m n can is part c = record {
   replies = [];
   asks = inr (inl (record { can = can; failed = refl; unread = refl; count = n; part = part ∙ ap (λ l. with_more (take n (frame_of l)) old) is; none = refl }));
-  reads = record { rest = left; frames = gives_none left; leaves = refl };
+  reads = reads_to limits over [] left left left limits (Err SinkFault) (begins limits over left) refl;
   transfers = ends_before a s before before why.LinkFault tt (at_rest a s before c);
   short = λ x k. absurd (cc k);
   code = tt;
 }
 
-pub not_sent : (a : Asking) (left old new : Option (List ℕ)) (before : List Commit) (s : Session) (m : List ℕ) (n : ℕ) (e : AskError) → CanAsk a 65535 → m ≡ asked_octets a → new ≡ with_more (take n (frame_of m)) old → s.current ≡ a.base → e ≡ SinkFault
-    → Exchanges a (crossing left left old new) before before s (Err e)
-not_sent a left old new before s m n e can is part c fault =
-    subst (λ (x : AskError). Exchanges a (crossing left left old new) before before s (Err x)) (sym fault) (not_sent_so a left old new before s m n can is part c)
+pub not_sent : (limits : Limits) (over : Option ℕ) (a : Asking) (left old new : Option (List ℕ)) (before : List Commit) (s : Session) (m : List ℕ) (n : ℕ) (e : AskError) → CanAsk a 65535 → m ≡ asked_octets a → new ≡ with_more (take n (frame_of m)) old → s.current ≡ a.base → e ≡ SinkFault
+    → Exchanges limits over a (crossing left left old new) before before s (Err e)
+not_sent limits over a left old new before s m n e can is part c fault =
+    subst (λ (x : AskError). Exchanges limits over a (crossing left left old new) before before s (Err x)) (sym fault) (not_sent_so limits over a left old new before s m n can is part c)
 
 -- the replies come
-pub replied : (a : Asking) (left later old new : Option (List ℕ)) (before handles : List Commit) (s : Session) (m : List ℕ) (answer : Result SyncOk AskError) → CanAsk a 65535 → m ≡ asked_octets a → new ≡ with_more (frame_of m) old
-    → EndsSo a left later before handles s answer → Exchanges a (crossing left later old new) before handles s answer
-replied a left later old new before handles s m answer can is took k = record {
+pub replied : (limits : Limits) (over : Option ℕ) (a : Asking) (left later old new : Option (List ℕ)) (before handles : List Commit) (s : Session) (m : List ℕ) (answer : Result SyncOk AskError) → CanAsk a 65535 → m ≡ asked_octets a → new ≡ with_more (frame_of m) old
+    → EndsSo limits over a left later before handles s answer → Exchanges limits over a (crossing left later old new) before handles s answer
+replied limits over a left later old new before handles s m answer can is took k = record {
   replies = k.replies;
   asks = inr (inr (record { can = can; later = k.later; frame = took ∙ ap (λ l. with_more (frame_of l) old) is }));
   reads = k.reads;
@@ -87,8 +88,8 @@ replied a left later old new before handles s m answer can is took k = record {
 }
 
 -- a rollback at the end changes nothing of it
-pub rolled_exchanges : (a : Asking) (x : Crossing) (before handles : List Commit) (s t : Session) (answer : Result SyncOk AskError) → s ≡ rolled_back t → Exchanges a x before handles t answer → Exchanges a x before handles s answer
-rolled_exchanges a x before handles s t answer e k = record {
+pub rolled_exchanges : (limits : Limits) (over : Option ℕ) (a : Asking) (x : Crossing) (before handles : List Commit) (s t : Session) (answer : Result SyncOk AskError) → s ≡ rolled_back t → Exchanges limits over a x before handles t answer → Exchanges limits over a x before handles s answer
+rolled_exchanges limits over a x before handles s t answer e k = record {
   replies = k.replies;
   asks = k.asks;
   reads = k.reads;

@@ -1,15 +1,27 @@
 -- Frames read of a source, one after the other.
-use Rattle.std.proofs.Common.{◌≡◌, ℕ, suc, ◌+◌, ◌≤◌, Bool, true, false, List, [], ◌∷◌, ◌++◌, length, take, drop, nat_le, cond, refl, sym, ap, ◌∙◌, subst, arith, append_assoc, append-nil, leb-true, length-append, drop-drop, Option, Some, None, Result, Ok, Err}
+use Rattle.std.proofs.Common.{◌≡◌, ℕ, suc, ◌+◌, ◌≤◌, Bool, true, false, not, filter, List, [], ◌∷◌, ◌++◌, length, take, drop, nat_le, cond, refl, sym, ap, ◌∙◌, subst, arith, append_assoc, append-nil, leb-true, length-append, drop-drop, Option, Some, None, Result, Ok, Err}
 use Rattle.std.specs.Prelude.{option_map, IfSome}
 use Rattle.std.specs.Int.{w16, from_be_bytes, to_be_bytes}
 use Rattle.std.proofs.lemmas.List.{length-take-le}
 use Rattle.std.proofs.lemmas.List.Concat.{flat_map-cons}
+use Rattle.std.proofs.lemmas.List.Elements.{filter-append}
 use Rattle.std.proofs.lemmas.Grind.{flat_map-append}
 use Rattle.dns_name.specs.Octets.{u16_octets}
 use Rattle.zone_devices.specs.Streams.{with_first}
 use Rattle.message_frames.specs.Frames.{frame_of, frames_of, first_frame, frame_size, Cut, with_message, cut_frames}
 use Rattle.message_frames.specs.Passing.{Gives, TakesAtMost, IsCutOff, TakesWithinFrame}
-use Rattle.zone_asking.specs.Streams.{BeginsWith, GivesFrames}
+use Rattle.message_frames.specs.declared.reading.FrameError.{FrameError}
+use Rattle.message_frames.specs.declared.reading.FrameError.TheVariants as frame
+use Rattle.zone_sync.specs.declared.outcome.SyncOk.{SyncOk}
+use Rattle.zone_sync.specs.declared.outcome.SyncError.TheVariants.{Ended}
+use Rattle.zone_asking.specs.declared.limits.Limits.{Limits}
+use Rattle.zone_asking.specs.declared.limits.Limit as kinds
+use Rattle.zone_asking.specs.declared.errors.AskError.{AskError}
+use Rattle.zone_asking.specs.declared.errors.AskError.TheVariants.{Transfer, Limit}
+use Rattle.zone_asking.specs.Limiting.{passed, IsLeft}
+use Rattle.zone_asking.specs.Failures.{of_frame}
+use Rattle.zone_asking.specs.Streams.{BeginsWith, GivesFrames, has_id, replies_among, LeavesBy, Reads, ReadSoFar}
+use Rattle.zone_asking.proofs.Limiting.{none_read, left_behind, within, passed_left}
 
 -- the law by which octets are cut at a frame
 abbrev pub CutsAtFrames : Type 0
@@ -106,3 +118,69 @@ ends_still (Some octets) new h t =
 pub takes_none : (old : Option (List ℕ)) → TakesWithinFrame old old
 takes_none None = tt
 takes_none (Some octets) = ([], omega arith, refl)
+
+-- ---- what was read
+
+pub begins : (limits : Limits) (over : Option ℕ) (old : Option (List ℕ)) → ReadSoFar limits over [] old old limits
+begins limits over old = record { read = []; among = refl; spent = none_read limits; frames = gives_none old }
+
+-- a reply more, or a message that is passed over
+one_among : (over : Option ℕ) (read : List (List ℕ)) (m : List ℕ) (b : Bool) → has_id over m ≡ b → replies_among over (read ++ m ∷ []) ≡ replies_among over read ++ cond (not b) (m ∷ []) []
+one_among over read m b e =
+    let kept : List ℕ → Bool = λ x. not (has_id over x) in
+    filter-append kept read (m ∷ []) ∙ ap (λ x. filter kept read ++ cond (not x) (m ∷ []) []) e
+
+pub reads_reply : (limits : Limits) (over : Option ℕ) (replies : List (List ℕ)) (old mid new : Option (List ℕ)) (left rest : Limits) (m : List ℕ) → CutsAtFrames → ReadSoFar limits over replies old mid left → Gives m mid new
+    → IsLeft left (m ∷ []) rest → has_id over m ≡ false → ReadSoFar limits over (replies ++ m ∷ []) old new rest
+reads_reply limits over replies old mid new left rest m cuts k g one mine = record {
+  read = k.read ++ m ∷ [];
+  among = ap (λ l. l ++ m ∷ []) k.among ∙ sym (one_among over k.read m false mine);
+  spent = left_behind limits left rest k.read m k.spent one;
+  frames = gives_more k.read old mid new m cuts k.frames g;
+}
+
+pub reads_over : (limits : Limits) (over : Option ℕ) (replies : List (List ℕ)) (old mid new : Option (List ℕ)) (left rest : Limits) (m : List ℕ) → CutsAtFrames → ReadSoFar limits over replies old mid left → Gives m mid new
+    → IsLeft left (m ∷ []) rest → has_id over m ≡ true → ReadSoFar limits over replies old new rest
+reads_over limits over replies old mid new left rest m cuts k g one other = record {
+  read = k.read ++ m ∷ [];
+  among = k.among ∙ sym (one_among over k.read m true other ∙ append-nil (replies_among over k.read));
+  spent = left_behind limits left rest k.read m k.spent one;
+  frames = gives_more k.read old mid new m cuts k.frames g;
+}
+
+-- no more is read
+pub reads_to : (limits : Limits) (over : Option ℕ) (replies : List (List ℕ)) (old rest new : Option (List ℕ)) (left : Limits) (answer : Result SyncOk AskError) → (k : ReadSoFar limits over replies old rest left)
+    → LeavesBy limits k.read answer rest new → Reads limits over replies old new answer
+reads_to limits over replies old rest new left answer k leaves = record {
+  read = k.read;
+  among = k.among;
+  within = within limits left k.read k.spent;
+  rest = rest;
+  frames = k.frames;
+  leaves = leaves;
+}
+
+pub reads_ended : (limits : Limits) (over : Option ℕ) (replies : List (List ℕ)) (old mid new : Option (List ℕ)) (left : Limits) → ReadSoFar limits over replies old mid left → IfSome mid (λ octets. octets ≡ []) → TakesAtMost 65537 mid new
+    → Reads limits over replies old new (Err (Transfer Ended))
+reads_ended limits over replies old mid new left k none most = reads_to limits over replies old mid new left (Err (Transfer Ended)) k (none, ends_still mid new none most)
+
+-- what the source leaves where it gave no frame
+pub record FailsToGive (x : FrameError) (mid new : Option (List ℕ)) : Type 0 where
+  pub cut : x ≡ frame.Cut → IfSome mid IsCutOff
+  pub ended : x ≡ frame.Cut → IfSome new (λ octets. octets ≡ [])
+  pub within : TakesWithinFrame mid new
+
+pub reads_failed : (limits : Limits) (over : Option ℕ) (replies : List (List ℕ)) (old mid new : Option (List ℕ)) (left : Limits) (x : FrameError) → ReadSoFar limits over replies old mid left → FailsToGive x mid new
+    → Reads limits over replies old new (Err (of_frame x))
+reads_failed limits over replies old mid new left frame.Cut k f = reads_to limits over replies old mid new left (Err (of_frame frame.Cut)) k (f.cut refl, f.ended refl)
+reads_failed limits over replies old mid new left frame.Fault k f = reads_to limits over replies old mid new left (Err (of_frame frame.Fault)) k f.within
+reads_failed limits over replies old mid new left frame.Memory k f = reads_to limits over replies old mid new left (Err (of_frame frame.Memory)) k f.within
+
+pub reads_past : (limits : Limits) (over : Option ℕ) (replies : List (List ℕ)) (old mid new : Option (List ℕ)) (left : Limits) (m : List ℕ) (which : kinds.Limit) → CutsAtFrames → ReadSoFar limits over replies old mid left → Gives m mid new
+    → passed left [] m ≡ Some which → Reads limits over replies old new (Err (Limit which))
+reads_past limits over replies old mid new left m which cuts k g over_left =
+    reads_to limits over replies old mid new left (Err (Limit which)) k (record {
+      message = m;
+      frame = gives_more [] mid mid new m cuts (gives_none mid) g;
+      passes = passed_left limits left k.read m k.spent ∙ over_left;
+    })

@@ -1,19 +1,20 @@
 -- Two exchanges, one after the other.
-use Rattle.std.proofs.Common.{◌≡◌, ◌≢◌, ℕ, ◌+◌, true, false, Bool, List, [], ◌∷◌, ◌++◌, append_assoc, refl, sym, ap, ◌∙◌, subst, inl, inr, Option, Result, Ok, Err}
+use Rattle.std.proofs.Common.{◌≡◌, ◌≢◌, ℕ, ◌+◌, true, false, Bool, List, [], ◌∷◌, ◌++◌, append_assoc, refl, sym, ap, ◌∙◌, subst, inl, inr, Option, Some, None, Result, Ok, Err}
 use Rattle.zone_model.specs.TransferText.{Mode, Axfr, Ixfr}
 use Rattle.zone_model.specs.Version.{Version}
 use Rattle.zone_model.specs.Commits.{Commit}
 use Rattle.zone_model.specs.Session.{Session, commits_after}
 use Rattle.zone_devices.specs.Calls.{Rose}
-use Rattle.zone_sync.specs.SoFar.{Asking, asks_with}
+use Rattle.zone_sync.specs.SoFar.{Asking, asks_with, asked_id}
 use Rattle.zone_sync.specs.Steps.{HasMade, commit_after}
 use Rattle.zone_sync.specs.Handles.{KeepsHandles}
 use Rattle.zone_sync.proofs.Handles.{keeps_handles}
 use Rattle.zone_sync.specs.declared.outcome.SyncOk.{SyncOk}
+use Rattle.zone_asking.specs.declared.limits.Limits.{Limits}
 use Rattle.zone_asking.specs.declared.errors.AskError.{AskError}
 use Rattle.zone_asking.specs.declared.errors.AskError.TheVariants.{SourceFault, SinkFault}
 use Rattle.zone_asking.specs.Exchanges.{Crossing, crossing, Exchanges}
-use Rattle.zone_asking.specs.Retries.{asks_again, ExchangesByRule}
+use Rattle.zone_asking.specs.Retries.{asks_again, next_moment, ExchangesByRule}
 
 -- versions in two lots
 commits_joined : (base : Commit) (vs more : List Version) → commits_after base (vs ++ more) ≡ commits_after base vs ++ commits_after (commit_after base vs) more
@@ -33,18 +34,18 @@ made_joined base before mid later s t vs more m n = record {
 }
 
 -- the handles of both
-pub keeps_both : (a : Asking) (b : Asking) (x y : Crossing) (before mid later : List Commit) (s t : Session) (first second : Result SyncOk AskError) → b.base ≡ s.current
-    → Exchanges a x before mid s first → Exchanges b y mid later t second → KeepsHandles a.base before later
-keeps_both a b x y before mid later s t first second e k l =
+pub keeps_both : (limits : Limits) (over : Option ℕ) (a : Asking) (b : Asking) (x y : Crossing) (before mid later : List Commit) (s t : Session) (first second : Result SyncOk AskError) → b.base ≡ s.current
+    → Exchanges limits None a x before mid s first → Exchanges limits over b y mid later t second → KeepsHandles a.base before later
+keeps_both limits over a b x y before mid later s t first second e k l =
     let m = subst (λ c. HasMade c mid t later l.transfers.versions) e l.transfers.made in
     keeps_handles a.base before later t (k.transfers.versions ++ l.transfers.versions) (made_joined a.base before mid later s t k.transfers.versions l.transfers.versions k.transfers.made m)
 
 -- two exchanges by the rule
-pub twice : (a : Asking) (left mid_left left_new taken mid_taken taken_new : Option (List ℕ)) (before mid later : List Commit) (s t : Session) (first second : Result SyncOk AskError)
-    → Exchanges a (crossing left mid_left taken mid_taken) before mid s first → asks_again a.mode first ≡ true → s.pending ≡ s.current.version
-    → Exchanges (asks_with a.key Axfr a.at s.current) (crossing mid_left left_new mid_taken taken_new) mid later t second
-    → ExchangesByRule a (crossing left left_new taken taken_new) before later t second
-twice a left mid_left left_new taken mid_taken taken_new before mid later s t first second k again settled l = inr (record {
+pub twice : (limits : Limits) (a : Asking) (left mid_left left_new taken mid_taken taken_new : Option (List ℕ)) (before mid later : List Commit) (s t : Session) (first second : Result SyncOk AskError)
+    → Exchanges limits None a (crossing left mid_left taken mid_taken) before mid s first → asks_again a.mode first ≡ true → s.pending ≡ s.current.version
+    → Exchanges limits (Some (asked_id a)) (asks_with a.key Axfr (next_moment a.at) s.current) (crossing mid_left left_new mid_taken taken_new) mid later t second
+    → ExchangesByRule limits a (crossing left left_new taken taken_new) before later t second
+twice limits a left mid_left left_new taken mid_taken taken_new before mid later s t first second k again settled l = inr (record {
   first = first;
   left = mid_left;
   taken = mid_taken;

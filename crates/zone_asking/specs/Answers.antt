@@ -7,13 +7,15 @@ use Rattle.zone_sync.specs.declared.outcome.SyncOk.{SyncOk}
 use Rattle.zone_sync.specs.declared.outcome.SyncError.{SyncError}
 use Rattle.zone_sync.specs.declared.outcome.SyncError.TheVariants as why
 use Rattle.zone_asking.specs.declared.errors.AskError.{AskError}
-use Rattle.zone_asking.specs.declared.errors.AskError.TheVariants.{Transfer, Response, Cut, SourceFault, SinkFault}
+use Rattle.zone_asking.specs.declared.errors.AskError.TheVariants.{Transfer, Response, Cut, Limit, SourceFault, SinkFault}
 
--- the error of a transfer that an error over streams is: a stream that ends within a frame ends, and a fault of either stream is one of the link
+-- the error of a transfer that an error over streams is: a stream that ends within a frame, or isn't read on, ends, and a fault of either stream is one of
+-- the link
 abbrev pub sync_error : AskError → SyncError
 sync_error (Transfer e) = e
 sync_error (Response code) = why.Xfr NotValidXfrResponse
 sync_error Cut = why.Ended
+sync_error (Limit which) = why.Ended
 sync_error SourceFault = why.LinkFault
 sync_error SinkFault = why.LinkFault
 

@@ -10,10 +10,11 @@ use Rattle.zone_sync.specs.Standing.{ClientState, Stands}
 use Rattle.zone_sync.specs.Transfers.{HasShort, Transfers}
 use Rattle.zone_sync.specs.declared.outcome.SyncOk.{SyncOk}
 use Rattle.zone_sync.specs.declared.outcome.SyncError.TheVariants as why
+use Rattle.zone_asking.specs.declared.limits.Limits.{Limits}
 use Rattle.zone_asking.specs.declared.errors.AskError.{AskError}
 use Rattle.zone_asking.specs.declared.errors.AskError.TheVariants.{Transfer, SinkFault}
 use Rattle.zone_asking.specs.Answers.{sync_answer, TellsCode}
-use Rattle.zone_asking.specs.Streams.{GivesFrames, Reads}
+use Rattle.zone_asking.specs.Streams.{Reads, ReadSoFar}
 
 -- what a source has left and a sink took, where they tell it, before and after
 pub record Crossing : Type 0 where
@@ -69,29 +70,29 @@ Asks a replies x answer = Unmade a replies x answer ⊎ (Unsent a replies x answ
 -- ---- the replies
 
 -- they were read of a source until the outcome was met
-pub record EndsSo (a : Asking) (old new : Option (List ℕ)) (before handles : List Commit) (s : Session) (answer : Result SyncOk AskError) : Type 0 where
+pub record EndsSo (limits : Limits) (over : Option ℕ) (a : Asking) (old new : Option (List ℕ)) (before handles : List Commit) (s : Session) (answer : Result SyncOk AskError) : Type 0 where
   pub replies : List (List ℕ)
-  pub reads : Reads replies old new answer
+  pub reads : Reads limits over replies old new answer
   pub transfers : Transfers a replies before handles s (sync_answer answer)
   pub short : (e : ShortMessage) → answer ≡ Err (Transfer (why.Short e)) → HasShort replies
   pub code : TellsCode replies answer
   pub later : ComesLater answer
 
 -- .. and so far
-pub record TakenSoFar (a : Asking) (old new : Option (List ℕ)) (c : ClientState) (s : Session) (before handles : List Commit) (n : ℕ) : Type 0 where
+pub record TakenSoFar (limits : Limits) (over : Option ℕ) (a : Asking) (old new : Option (List ℕ)) (left : Limits) (c : ClientState) (s : Session) (before handles : List Commit) (n : ℕ) : Type 0 where
   pub taken : List (List ℕ)
   pub count : length taken ≡ n
-  pub frames : GivesFrames taken old new
+  pub reads : ReadSoFar limits over taken old new left
   pub stands : Stands c s a taken before handles
 
 -- ---- one exchange
 
--- What an exchange does, whatever octets the source gives: the frame of the signed request goes out, replies come in as frames, exactly the versions that
--- the checked ones spell are committed, in order, with a handle each, and the answer is the outcome.
-pub record Exchanges (a : Asking) (x : Crossing) (before handles : List Commit) (s : Session) (answer : Result SyncOk AskError) : Type 0 where
+-- What an exchange does within limits, whatever octets the source gives: the frame of the signed request goes out, replies come in as frames, but for those
+-- that are passed over, exactly the versions that the checked ones spell are committed, in order, with a handle each, and the answer is the outcome.
+pub record Exchanges (limits : Limits) (over : Option ℕ) (a : Asking) (x : Crossing) (before handles : List Commit) (s : Session) (answer : Result SyncOk AskError) : Type 0 where
   pub replies : List (List ℕ)
   pub asks : Asks a replies x answer
-  pub reads : Reads replies x.left_old x.left_new answer
+  pub reads : Reads limits over replies x.left_old x.left_new answer
   pub transfers : Transfers a replies before handles s (sync_answer answer)
   -- the causes of what comes in place of a reply
   pub short : (e : ShortMessage) → answer ≡ Err (Transfer (why.Short e)) → HasShort replies

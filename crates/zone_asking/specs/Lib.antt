@@ -1,5 +1,6 @@
 pub mod Answers
 pub mod Failures
+pub mod Limiting
 pub mod Streams
 pub mod Exchanges
 pub mod Retries

@@ -1,12 +1,13 @@
 -- When a zone is asked for once again, whole (RFC 1995, 4; RFC 5936, 2.2).
-use Rattle.std.specs.Prelude.{◌≡◌, ◌⊎◌, ◌||◌, ◌==◌, ℕ, Bool, true, false, List, Option, Result, Ok, Err}
+use Rattle.std.specs.Prelude.{◌≡◌, ◌⊎◌, ◌||◌, ◌==◌, ◌+◌, ◌-◌, ◌^◌, ℕ, Bool, true, false, if◌then◌else◌, List, Option, Some, None, Result, Ok, Err}
 use Rattle.zone_model.specs.Commits.{Commit}
 use Rattle.zone_model.specs.Session.{Session}
 use Rattle.zone_model.specs.TransferText.{Mode, Axfr, Ixfr}
 use Rattle.xfr_client.specs.declared.protocol.IterationError.TheVariants.{SingleSoaIxfrTcpRetrySignal}
-use Rattle.zone_sync.specs.SoFar.{Asking, asks_with}
+use Rattle.zone_sync.specs.SoFar.{Asking, asks_with, asked_id}
 use Rattle.zone_sync.specs.declared.outcome.SyncOk.{SyncOk}
 use Rattle.zone_sync.specs.declared.outcome.SyncError.TheVariants.{Iteration}
+use Rattle.zone_asking.specs.declared.limits.Limits.{Limits}
 use Rattle.zone_asking.specs.declared.errors.AskError.{AskError}
 use Rattle.zone_asking.specs.declared.errors.AskError.TheVariants.{Transfer, Response}
 use Rattle.zone_asking.specs.Exchanges.{Crossing, crossing, Exchanges}
@@ -21,18 +22,23 @@ asks_again Ixfr (Err (Transfer (Iteration SingleSoaIxfrTcpRetrySignal))) = true
 asks_again Ixfr (Err (Response code)) = refuses_ixfr code
 asks_again mode answer = false
 
--- two exchanges over the same streams: the second one asks for the whole zone, with nothing pending, and goes on where the first one ended
-pub record ExchangesTwice (a : Asking) (x : Crossing) (before handles : List Commit) (s : Session) (answer : Result SyncOk AskError) : Type 0 where
+-- the moment of a second exchange, so that its request has another id: a second later, or a second earlier where 48 bits tell no later one
+abbrev pub next_moment : ℕ → ℕ
+next_moment at = if at == 2 ^ 48 - 1 then at - 1 else at + 1
+
+-- Two exchanges over the same streams: the second one asks for the whole zone, with nothing pending, goes on where the first one ended, and passes over what
+-- has the first one's id. Each has the limits for itself.
+pub record ExchangesTwice (limits : Limits) (a : Asking) (x : Crossing) (before handles : List Commit) (s : Session) (answer : Result SyncOk AskError) : Type 0 where
   pub first : Result SyncOk AskError
   pub left : Option (List ℕ)
   pub taken : Option (List ℕ)
   pub made : List Commit
   pub between : Session
-  pub one : Exchanges a (crossing x.left_old left x.taken_old taken) before made between first
+  pub one : Exchanges limits None a (crossing x.left_old left x.taken_old taken) before made between first
   pub again : asks_again a.mode first ≡ true
   pub settled : between.pending ≡ between.current.version
-  pub two : Exchanges (asks_with a.key Axfr a.at between.current) (crossing left x.left_new taken x.taken_new) made handles s answer
+  pub two : Exchanges limits (Some (asked_id a)) (asks_with a.key Axfr (next_moment a.at) between.current) (crossing left x.left_new taken x.taken_new) made handles s answer
 
 -- one exchange, or two exactly where the rule says so
-abbrev pub ExchangesByRule : Asking → Crossing → List Commit → List Commit → Session → Result SyncOk AskError → Type 0
-ExchangesByRule a x before handles s answer = (Exchanges a x before handles s answer × (asks_again a.mode answer ≡ false)) ⊎ ExchangesTwice a x before handles s answer
+abbrev pub ExchangesByRule : Limits → Asking → Crossing → List Commit → List Commit → Session → Result SyncOk AskError → Type 0
+ExchangesByRule limits a x before handles s answer = (Exchanges limits None a x before handles s answer × (asks_again a.mode answer ≡ false)) ⊎ ExchangesTwice limits a x before handles s answer

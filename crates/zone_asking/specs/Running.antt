@@ -18,6 +18,7 @@ use Rattle.zone_sync.specs.declared.program.Status.{Status}
 use Rattle.zone_sync.specs.declared.program.Status.TheVariants as ends
 use Rattle.zone_asking.specs.declared.errors.AskError.{AskError}
 use Rattle.zone_asking.specs.Answers.{sync_answer}
+use Rattle.zone_asking.specs.Limiting.{unlimited}
 use Rattle.zone_asking.specs.Exchanges.{Crossing}
 use Rattle.zone_asking.specs.Retries.{ExchangesByRule}
 
@@ -35,12 +36,12 @@ pub record Untouched (x : Crossing) : Type 0 where
   pub unread : x.left_new ≡ x.left_old
   pub unwritten : x.taken_new ≡ x.taken_old
 
--- one transfer was made over them, to a secondary without handles yet: its answer, the versions that it made, and the session that it left
+-- one transfer was made over them without limits, to a secondary without handles yet: its answer, the versions that it made, and the session that it left
 pub record Transferred (a : Asking) (x : Crossing) : Type 0 where
   pub answer : Result SyncOk AskError
   pub handles : List Commit
   pub session : Session
-  pub says : ExchangesByRule a x [] handles session answer
+  pub says : ExchangesByRule unlimited a x [] handles session answer
 
 -- the secondary of a script asks with the script's key and its own zone, whose number is 0, at a moment that is given
 abbrev pub asking_at : ℕ → Mode → scripts.Script TsigKey → TsigKey → Asking

@@ -1,5 +1,5 @@
 //! One exchange over a source and a sink.
-ghost use Rattle.std.specs.Prelude.{◌≡◌, ◌≢◌, ◌≤◌, ℕ, List, [], false, take, length, IsSome, IfErr, OnOk, OnErr, Err};
+ghost use Rattle.std.specs.Prelude.{◌≡◌, ◌≢◌, ◌≤◌, ◌×◌, ℕ, List, [], ◌∷◌, ◌++◌, false, take, length, Option, IsSome, IfOk, IfErr, IfSome, OnOk, OnErr, Ok, Err, None};
 ghost use Rattle.zone_model.specs.Commits.{Commit};
 ghost use Rattle.zone_model.specs.Session.{rolled_back};
 ghost use Rattle.zone_devices.specs.Calls.{Rose};
@@ -9,10 +9,16 @@ ghost use Rattle.zone_sync.specs.Modes.{mode_of};
 ghost use Rattle.zone_sync.specs.SoFar.{Asking, asks_with};
 ghost use Rattle.zone_sync.specs.Standing.{asking_of, Stands};
 ghost use Rattle.zone_sync.specs.Handles.{KeepsHandles};
+ghost use Rattle.zone_sync.specs.declared.outcome.SyncError.TheVariants.{Ended};
+ghost use Rattle.zone_asking.specs.declared.limits.Limits.{Limits};
+ghost use Rattle.zone_asking.specs.declared.errors.AskError.TheVariants.{Transfer};
 ghost use Rattle.zone_asking.specs.Answers.{code_in};
+ghost use Rattle.zone_asking.specs.Failures.{ComesOfReading};
+ghost use Rattle.zone_asking.specs.Streams.{has_id, Reads, ReadSoFar};
 ghost use Rattle.zone_asking.specs.Exchanges.{crossing, EndsSo, Exchanges};
 
 use crate::errors::{AskError, refusal};
+use crate::limits::Limits;
 use dns_name::Rcode;
 use dns_wire::Message;
 use message_frames::laws::octets_are_cut_frame_by_frame;
@@ -32,8 +38,8 @@ const MOST_OCTETS: usize = 65_535;
 
 /// Brings a zone up to date over a stream each way (RFC 5936, 4.2): what was pending is dropped, the signed request goes to the sink
 /// after its length, and replies are read of the source, each after its length, checked and applied before the next, until the
-/// outcome is met. `made` gains a handle of each version that is committed, as they come, whatever the answer is; nothing is
-/// pending afterwards. Nothing waits, so nothing is asked of `rt`; a source or a sink may.
+/// outcome is met, or a further one would pass a limit. `made` gains a handle of each version that is committed, as they come,
+/// whatever the answer is; nothing is pending afterwards. Nothing waits, so nothing is asked of `rt`; a source or a sink may.
 ///
 /// For what is newer alone the request has the first apex SOA of the current version; `Transfer(NoSoa)` where there is none, before
 /// anything is written. `UpToDate` says that the primary has nothing newer. Which answer comes for what is told in docs/ERRORS.md.
@@ -44,13 +50,14 @@ pub fn ask_zone<R, S: Source, K: Sink>(
     key: &Key,
     mode: XfrMode,
     at: Time48,
+    limits: &Limits,
     src: &mut S,
     sink: &mut K,
     made: &mut Vec<ReadZone>,
 ) -> Result<SyncOk, AskError>
-    // Whatever octets the source gives, exactly the versions that the checked text of its frames spells are committed, in order, and
+    // Whatever octets the source gives, replies are taken within the limits, exactly the versions that the checked text of its frames spells are committed, in order, and
     // the answer is the outcome. The sink takes the frame of the request, and nothing else.
-    ensures exchanges { Exchanges (asks_with key.now (mode_of mode) at session.old.current)
+    ensures exchanges { Exchanges limits.now None (asks_with key.now (mode_of mode) at session.old.current)
         (crossing (S.remaining src.old) (S.remaining src.new) (K.taken sink.old) (K.taken sink.new)) made.old.items made.new.items session.new result }
     // Nothing is pending, and no difference is wanted of the next commit.
     ensures settled { session.new.pending ≡ session.new.current.version }
@@ -63,8 +70,48 @@ pub fn ask_zone<R, S: Source, K: Sink>(
     ensures sink_failed { result ≡ Err AskError.SinkFault → Rose (K.faults sink.old) (K.faults sink.new) }
     ensures sink_steady { result ≢ Err AskError.SinkFault → K.faults sink.new ≡ K.faults sink.old }
 {
+    ask_passing_over(
+        rt, alloc, session, key, mode, at, limits, None, src, sink, made,
+    )
+}
+
+/// The same, where replies with this id, of an exchange before, are passed over: they aren't checked, and nothing of them is taken.
+/// They count for the limits.
+pub(crate) fn ask_passing_over<R, S: Source, K: Sink>(
+    rt: &R,
+    alloc: Global,
+    session: &mut WriteZone<'_>,
+    key: &Key,
+    mode: XfrMode,
+    at: Time48,
+    limits: &Limits,
+    over: Option<u16>,
+    src: &mut S,
+    sink: &mut K,
+    made: &mut Vec<ReadZone>,
+) -> Result<SyncOk, AskError>
+    ensures exchanges { Exchanges limits.now over (asks_with key.now (mode_of mode) at session.old.current)
+        (crossing (S.remaining src.old) (S.remaining src.new) (K.taken sink.old) (K.taken sink.new)) made.old.items made.new.items session.new result }
+    ensures settled { session.new.pending ≡ session.new.current.version }
+    ensures wish { session.new.compares ≡ false }
+    ensures handles { KeepsHandles session.old.current made.old.items made.new.items }
+    ensures source_failed { result ≡ Err AskError.SourceFault → Rose (S.faults src.old) (S.faults src.new) }
+    ensures source_steady { result ≢ Err AskError.SourceFault → S.faults src.new ≡ S.faults src.old }
+    ensures sink_failed { result ≡ Err AskError.SinkFault → Rose (K.faults sink.old) (K.faults sink.new) }
+    ensures sink_steady { result ≢ Err AskError.SinkFault → K.faults sink.new ≡ K.faults sink.old }
+{
     let mut client = XfrClient::new(alloc, key, mode, at);
-    let answer = exchange(rt, alloc, &mut client, session, src, sink, made);
+    let answer = exchange(
+        rt,
+        alloc,
+        &mut client,
+        session,
+        limits,
+        over,
+        src,
+        sink,
+        made,
+    );
     drop_pending(session);
     answer
 }
@@ -82,11 +129,13 @@ fn exchange<R, S: Source, K: Sink>(
     alloc: Global,
     client: &mut XfrClient,
     session: &mut WriteZone<'_>,
+    limits: &Limits,
+    over: Option<u16>,
     src: &mut S,
     sink: &mut K,
     made: &mut Vec<ReadZone>,
 ) -> Result<SyncOk, AskError>
-    ensures exchanges { Exchanges (asking_of client.old session.old.current)
+    ensures exchanges { Exchanges limits.now over (asking_of client.old session.old.current)
         (crossing (S.remaining src.old) (S.remaining src.new) (K.taken sink.old) (K.taken sink.new)) made.old.items made.new.items session.new result }
     ensures source_failed { result ≡ Err AskError.SourceFault → Rose (S.faults src.old) (S.faults src.new) }
     ensures source_steady { result ≢ Err AskError.SourceFault → S.faults src.new ≡ S.faults src.old }
@@ -95,7 +144,7 @@ fn exchange<R, S: Source, K: Sink>(
 {
     let request = client.request(session, MOST_OCTETS)?;
     send_request(sink, request.as_slice())?;
-    take_replies(rt, alloc, client, session, src, made)
+    take_replies(rt, alloc, client, session, limits, over, src, made)
 }
 
 /// Writes a request's frame.
@@ -120,21 +169,22 @@ fn take_replies<R, S: Source>(
     alloc: Global,
     client: &mut XfrClient,
     session: &mut WriteZone<'_>,
+    limits: &Limits,
+    over: Option<u16>,
     src: &mut S,
     made: &mut Vec<ReadZone>,
 ) -> Result<SyncOk, AskError>
     requires { IsSome client.old.exchange }
-    ensures ends { (a : Asking) (before : List Commit) → Stands client.old session.old a [] before made.old.items → EndsSo a (S.remaining src.old) (S.remaining src.new) before made.new.items session.new result }
+    ensures ends { (a : Asking) (before : List Commit) → Stands client.old session.old a [] before made.old.items → EndsSo limits.now over a (S.remaining src.old) (S.remaining src.new) before made.new.items session.new result }
     ensures failed { result ≡ Err AskError.SourceFault → Rose (S.faults src.old) (S.faults src.new) }
     ensures steady { result ≢ Err AskError.SourceFault → S.faults src.new ≡ S.faults src.old }
     ensures others { result ≢ Err AskError.SinkFault }
 {
-    // For the proof: a frame is cut off the front.
-    octets_are_cut_frame_by_frame();
+    let mut left = *limits;
     let mut count = 0u32;
     'taking: while count < MOST_REPLIES {
         count += 1;
-        let Some(reply) = read_frame(alloc, src)? else {
+        let Some(reply) = next_reply(alloc, src, over, &mut left)? else {
             return Err(AskError::Transfer(SyncError::Ended));
         };
         let code = rcode_of(reply.as_slice());
@@ -145,6 +195,46 @@ fn take_replies<R, S: Source>(
         }
     }
     Err(AskError::Transfer(SyncError::TooManyMessages))
+}
+
+/// The next reply of a source, behind messages that are passed over; none where the source is at its end. Each message is read within
+/// what is left of the limits.
+fn next_reply<S: Source>(
+    alloc: Global,
+    src: &mut S,
+    over: Option<u16>,
+    left: &mut Limits,
+) -> Result<Option<Vec<u8>>, AskError>
+    ensures reply { IfOk result (λ found. IfSome found (λ m. (limits : Limits) (replies : List (List ℕ)) (old : Option (List ℕ))
+        → ReadSoFar limits over replies old (S.remaining src.old) left.old → ReadSoFar limits over (replies ++ m.items ∷ []) old (S.remaining src.new) left.new)) }
+    ensures none { result ≡ Ok None → (limits : Limits) (replies : List (List ℕ)) (old : Option (List ℕ))
+        → ReadSoFar limits over replies old (S.remaining src.old) left.old → Reads limits over replies old (S.remaining src.new) (Err (Transfer Ended)) }
+    ensures error { IfErr result (λ e. ComesOfReading e × ((limits : Limits) (replies : List (List ℕ)) (old : Option (List ℕ))
+        → ReadSoFar limits over replies old (S.remaining src.old) left.old → Reads limits over replies old (S.remaining src.new) (Err e))) }
+    ensures failed { result ≡ Err AskError.SourceFault → Rose (S.faults src.old) (S.faults src.new) }
+    ensures steady { result ≢ Err AskError.SourceFault → S.faults src.new ≡ S.faults src.old }
+{
+    // For the proof: a frame is cut off the front.
+    octets_are_cut_frame_by_frame();
+    'passing: loop {
+        let Some(message) = read_frame(alloc, src)? else {
+            return Ok(None);
+        };
+        *left = left.behind(message.as_slice())?;
+        if !has_id(over, message.as_slice()) {
+            return Ok(Some(message));
+        }
+    }
+}
+
+/// Whether a message has this id, where one is given; no octets that are no header do.
+fn has_id(over: Option<u16>, octets: &[u8]) -> bool
+    ensures { result ≡ has_id over octets.now }
+{
+    match (over, Message::from_octets(octets)) {
+        (Some(id), Ok(message)) => message.header().id == id,
+        _ => false,
+    }
 }
 
 /// The response code of a message; NOERROR of octets that are no header.

@@ -2,6 +2,7 @@
 ghost use Rattle.std.specs.Prelude.{◌≡◌};
 ghost use Rattle.zone_asking.specs.Answers.{sync_error, sync_answer, told_by};
 
+use crate::limits::Limit;
 use dns_name::Rcode;
 use message_frames::reading::FrameError;
 use message_frames::writing::WriteFrameError;
@@ -22,6 +23,9 @@ pub enum AskError {
     /// The source ended within a frame.
     #[error("the stream ended within a message")]
     Cut,
+    /// A further reply would pass a limit. It was read, and nothing of it was taken.
+    #[error("the replies pass a limit")]
+    Limit(Limit),
     /// The source failed, and its count of faults rose.
     #[error("reading failed")]
     SourceFault,
@@ -38,7 +42,7 @@ impl AskError {
         match self {
             AskError::Transfer(error) => error,
             AskError::Response(_) => SyncError::Xfr(protocol::Error::NotValidXfrResponse),
-            AskError::Cut => SyncError::Ended,
+            AskError::Cut | AskError::Limit(_) => SyncError::Ended,
             AskError::SourceFault | AskError::SinkFault => SyncError::LinkFault,
         }
     }
@@ -67,6 +71,17 @@ impl From<FrameError> for AskError {
             FrameError::Fault => AskError::SourceFault,
             FrameError::Memory => AskError::Transfer(SyncError::Memory),
         }
+    }
+}
+
+impl From<Limit> for AskError {
+    ghost use Rattle.std.specs.Prelude.{◌≡◌};
+    ghost use Rattle.zone_asking.specs.declared.errors.AskError.{AskError};
+
+    ghost from_gives = { λ l e. e ≡ AskError.Limit l };
+
+    fn from(limit: Limit) -> AskError {
+        AskError::Limit(limit)
     }
 }
 

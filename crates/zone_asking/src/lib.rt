@@ -4,10 +4,13 @@
 
 pub mod asking;
 pub mod errors;
+pub mod laws;
+pub mod limits;
 pub mod program;
 pub mod retrying;
 
 pub use asking::ask_zone;
 pub use errors::AskError;
+pub use limits::{Limit, Limits};
 pub use program::{mode_asked, run_secondary};
 pub use retrying::transfer_zone;

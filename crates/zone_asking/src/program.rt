@@ -16,6 +16,7 @@ ghost use Rattle.zone_asking.specs.Exchanges.{Crossing, crossing};
 ghost use Rattle.zone_asking.specs.Running.{AsksFor, IsDue, ReportsOn, TellsScript, TellsStreams, Transferred, Untouched};
 
 use crate::errors::AskError;
+use crate::limits::Limits;
 use crate::retrying::transfer_zone;
 use std::alloc::{AllocError, Global};
 use tsig_port::Time48;
@@ -248,6 +249,7 @@ fn transfer<R, S: Source, K: Sink>(
         &key,
         mode,
         at,
+        &Limits::none(),
         src,
         sink,
         &mut made,

@@ -1,15 +1,16 @@
 //! A zone is asked for again, whole, where what is newer alone isn't to be had.
-ghost use Rattle.std.specs.Prelude.{◌≡◌, ◌≢◌, false, Err};
+ghost use Rattle.std.specs.Prelude.{◌≡◌, ◌≢◌, ◌%◌, ◌^◌, false, Err};
 ghost use Rattle.zone_devices.specs.Calls.{Rose};
 ghost use Rattle.zone_sync.specs.Modes.{mode_of};
 ghost use Rattle.zone_model.specs.TransferText.{Ixfr};
 ghost use Rattle.zone_sync.specs.SoFar.{asks_with};
 ghost use Rattle.zone_sync.specs.Handles.{KeepsHandles};
 ghost use Rattle.zone_asking.specs.Exchanges.{crossing};
-ghost use Rattle.zone_asking.specs.Retries.{asks_again, refuses_ixfr, ExchangesByRule};
+ghost use Rattle.zone_asking.specs.Retries.{asks_again, refuses_ixfr, next_moment, ExchangesByRule};
 
-use crate::asking::ask_zone;
+use crate::asking::{ask_passing_over, ask_zone};
 use crate::errors::AskError;
+use crate::limits::Limits;
 use dns_name::Rcode;
 use std::alloc::Global;
 use tsig_port::{Key, Time48};
@@ -23,7 +24,8 @@ use zone_sync::{SyncError, SyncOk};
 
 /// Brings a zone up to date over a stream each way, as `ask_zone`. Where what is newer was asked for, and the primary answered by its SOA
 /// record alone with another serial (RFC 1995, 4), or by FORMERR, NOTIMP or REFUSED in a signed reply, the whole zone is asked for
-/// over the same streams, in a second exchange that begins with nothing pending. What the first one committed stays.
+/// over the same streams, in a second exchange that begins with nothing pending. It is signed for the next moment, so that its request
+/// has another id, and passes over what comes with the first one's. What the first one committed stays; each has the limits for itself.
 pub fn transfer_zone<R, S: Source, K: Sink>(
     rt: &R,
     alloc: Global,
@@ -31,13 +33,14 @@ pub fn transfer_zone<R, S: Source, K: Sink>(
     key: &Key,
     mode: XfrMode,
     at: Time48,
+    limits: &Limits,
     src: &mut S,
     sink: &mut K,
     made: &mut Vec<ReadZone>,
 ) -> Result<SyncOk, AskError>
     // What is committed is what the replies of the one exchange spell, or of the two, one after the other; a second one is made exactly
     // where the rule says so.
-    ensures exchanges { ExchangesByRule (asks_with key.now (mode_of mode) at session.old.current)
+    ensures exchanges { ExchangesByRule limits.now (asks_with key.now (mode_of mode) at session.old.current)
         (crossing (S.remaining src.old) (S.remaining src.new) (K.taken sink.old) (K.taken sink.new)) made.old.items made.new.items session.new result }
     // Nothing is pending, and no difference is wanted of the next commit.
     ensures settled { session.new.pending ≡ session.new.current.version }
@@ -50,11 +53,43 @@ pub fn transfer_zone<R, S: Source, K: Sink>(
     ensures sink_failed { result ≡ Err AskError.SinkFault → Rose (K.faults sink.old) (K.faults sink.new) }
     ensures sink_steady { result ≢ Err AskError.SinkFault → K.faults sink.new ≡ K.faults sink.old }
 {
-    let first = ask_zone(rt, alloc, session, key, mode, at, src, sink, made);
+    let first = ask_zone(rt, alloc, session, key, mode, at, limits, src, sink, made);
     if asks_again(mode, &first) {
-        return ask_zone(rt, alloc, session, key, XfrMode::Axfr, at, src, sink, made);
+        let next = next_moment(at);
+        let over = Some(id_at(at));
+        return ask_passing_over(
+            rt,
+            alloc,
+            session,
+            key,
+            XfrMode::Axfr,
+            next,
+            limits,
+            over,
+            src,
+            sink,
+            made,
+        );
     }
     first
+}
+
+/// The moment of a second exchange: a second later, or a second earlier where 48 bits tell no later one.
+fn next_moment(at: Time48) -> Time48
+    ensures { result ≡ next_moment at }
+{
+    let seconds = u64::from(at);
+    if seconds == (1 << 48) - 1 {
+        return Time48::from_u64(seconds - 1);
+    }
+    Time48::from_u64(seconds + 1)
+}
+
+/// The id of a request that is signed for a moment.
+fn id_at(at: Time48) -> u16
+    ensures { result ≡ at % 2 ^ 16 }
+{
+    (u64::from(at) % 65_536) as u16
 }
 
 /// Whether the whole zone is to be asked for after an exchange that was answered so.

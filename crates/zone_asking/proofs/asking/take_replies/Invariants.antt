@@ -6,11 +6,13 @@ use Rattle.zone_asking.specs.Exchanges.{TakenSoFar}
 use Rattle.zone_asking.proofs.asking.take_replies.Given as goal
 
 abbrev pub invariant-taking : goal.invariant-taking
-invariant-taking g l =
-    (g.S.Source.faults l.src ≡ g.S.Source.faults l.initial.src)
-    × (l.count ≤ 65536)
-    × IsSome l.client.exchange
-    × ((a : Asking) (before : List Commit) → Stands l.initial.client l.initial.session a [] before l.initial.made.items → TakenSoFar a (g.S.Source.remaining l.initial.src) (g.S.Source.remaining l.src) l.client l.session before l.made.items l.count)
+invariant-taking g l = record {
+  faults : g.S.Source.faults l.src ≡ g.S.Source.faults l.initial.src;
+  few : l.count ≤ 65536;
+  open : IsSome l.client.exchange;
+  taken : (a : Asking) (before : List Commit) → Stands l.initial.client l.initial.session a [] before l.initial.made.items
+  → TakenSoFar l.limits.now l.over a (g.S.Source.remaining l.initial.src) (g.S.Source.remaining l.src) l.left l.client l.session before l.made.items l.count;
+}
 
 abbrev pub decreases-taking : goal.decreases-taking
 decreases-taking g l = 65536 - l.count

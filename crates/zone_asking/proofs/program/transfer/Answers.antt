@@ -19,7 +19,7 @@ returns-clause-others g c = (returns-clause-report g c).known
 pub returns-clause-stream_faults : goal.returns-clause-stream_faults
 returns-clause-stream_faults g c =
     let e = c.transfer_zone-answer.ensures in
-    tells_answer c.transfer_zone-answer.result c.outcome_of-outcome.result c.status_of-status.result _ _ _ _ c.status_of-status.ensures c.outcome_of-outcome.ensures (no_link _ _ _ _ _ c.transfer_zone-answer.result e.exchanges) e.source_failed e.source_steady e.sink_failed e.sink_steady
+    tells_answer c.transfer_zone-answer.result c.outcome_of-outcome.result c.status_of-status.result _ _ _ _ c.status_of-status.ensures c.outcome_of-outcome.ensures (no_link _ _ _ _ _ _ c.transfer_zone-answer.result e.exchanges) e.source_failed e.source_steady e.sink_failed e.sink_steady
 
 pub returns-clause-over_streams : goal.returns-clause-over_streams
 returns-clause-over_streams g c =

@@ -5,13 +5,13 @@ use Rattle.zone_sync.proofs.Clients.{nothing_pending}
 use Rattle.zone_sync.proofs.Handles.{keeps_handles}
 use Rattle.zone_asking.specs.Exchanges.{crossing}
 use Rattle.zone_asking.proofs.Requests.{rolled_exchanges}
-use Rattle.zone_asking.proofs.asking.ask_zone.Goals as goal
+use Rattle.zone_asking.proofs.asking.ask_passing_over.Goals as goal
 
 pub returns-clause-exchanges : goal.returns-clause-exchanges
 returns-clause-exchanges g c =
     let a = asks_with c.args.key.now (mode_of c.args.mode) c.args.at c.args.session.now.current in
     let x = crossing (g.S.Source.remaining c.args.src.now) (g.S.Source.remaining c.exchange-answer.new.src) (g.K.Sink.taken c.args.sink.now) (g.K.Sink.taken c.exchange-answer.new.sink) in
-    rolled_exchanges a x c.args.made.now.items c.exchange-answer.new.made.items c.drop_pending.new.session c.exchange-answer.new.session c.exchange-answer.result c.drop_pending.ensures (rw c.new-client.ensures at c.exchange-answer.ensures.exchanges)
+    rolled_exchanges c.args.limits.now c.args.over a x c.args.made.now.items c.exchange-answer.new.made.items c.drop_pending.new.session c.exchange-answer.new.session c.exchange-answer.result c.drop_pending.ensures (rw c.new-client.ensures at c.exchange-answer.ensures.exchanges)
 
 pub returns-clause-settled : goal.returns-clause-settled
 returns-clause-settled g c = nothing_pending c.drop_pending.new.session c.exchange-answer.new.session c.drop_pending.ensures

@@ -1,0 +1,38 @@
+-- What is left of limits, message by message.
+use Rattle.std.proofs.Common.{◌≡◌, ℕ, zero, suc, ◌+◌, ◌≤◌, nat_lt, if◌then◌else◌, List, [], ◌∷◌, ◌++◌, length, length-append, sum_by, refl, sym, ap, ◌∙◌, arith, Option, Some, None}
+use Rattle.std.proofs.lemmas.List.Sums.{sum_by_push}
+use Rattle.zone_asking.specs.declared.limits.Limits.{Limits}
+use Rattle.zone_asking.specs.declared.limits.Limit.{Limit}
+use Rattle.zone_asking.specs.declared.limits.Limit.TheVariants.{Replies, Octets, Records}
+use Rattle.zone_asking.specs.Limiting.{octets_of, records_in, records_of, Within, passed, IsLeft}
+
+pub none_read : (limits : Limits) → IsLeft limits [] limits
+none_read limits = record { replies = omega arith; octets = omega arith; records = omega arith }
+
+one_behind : (a b c d x y z : ℕ) → x ≡ a + b → a + c ≡ z → y + d ≡ c → y ≡ b → x + d ≡ z
+one_behind a b c d x y z e f g h = omega (arith, e, f, g, h)
+
+pub left_behind : (limits left rest : Limits) (read : List (List ℕ)) (m : List ℕ) → IsLeft limits read left → IsLeft left (m ∷ []) rest → IsLeft limits (read ++ m ∷ []) rest
+left_behind limits left rest read m k one = record {
+  replies = one_behind (length read) 1 left.replies rest.replies (length (read ++ m ∷ [])) (length (m ∷ [])) limits.replies (length-append read (m ∷ [])) k.replies one.replies refl;
+  octets = one_behind (octets_of read) (length m) left.octets rest.octets (octets_of (read ++ m ∷ [])) (octets_of (m ∷ [])) limits.octets (sum_by_push length read m) k.octets one.octets (omega arith);
+  records = one_behind (records_of read) (records_in m) left.records rest.records (records_of (read ++ m ∷ [])) (records_of (m ∷ [])) limits.records (sum_by_push records_in read m) k.records one.records (omega arith);
+}
+
+pub within : (limits left : Limits) (read : List (List ℕ)) → IsLeft limits read left → Within limits read
+within limits left read k = record { replies = omega (arith, k.replies); octets = omega (arith, k.octets); records = omega (arith, k.records) }
+
+-- what passes what is left passes the limits
+same_test : (n a x : ℕ) → nat_lt (n + a) (n + x) ≡ nat_lt a x
+same_test zero a x = refl
+same_test (suc n) a x = same_test n a x
+
+test_left : (n a l x y : ℕ) → n + a ≡ l → y ≡ x → nat_lt l (n + x) ≡ nat_lt a y
+test_left n a l x y e h = ap (λ k. nat_lt k (n + x)) (sym e) ∙ same_test n a x ∙ ap (nat_lt a) (sym h)
+
+pub passed_left : (limits left : Limits) (read : List (List ℕ)) (m : List ℕ) → IsLeft limits read left → passed limits read m ≡ passed left [] m
+passed_left limits left read m k =
+    let replies = test_left (length read) left.replies limits.replies 1 (length {A = List ℕ} [] + 1) k.replies refl in
+    let octets = test_left (octets_of read) left.octets limits.octets (length m) (octets_of [] + length m) k.octets (omega arith) in
+    let records = test_left (records_of read) left.records limits.records (records_in m) (records_of [] + records_in m) k.records (omega arith) in
+    λ i. if replies i then Some Replies else if octets i then Some Octets else if records i then Some Records else None

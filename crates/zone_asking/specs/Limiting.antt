@@ -1,0 +1,43 @@
+-- How much a peer may send in one exchange: limits that the caller gives.
+use Rattle.std.specs.Prelude.{◌≡◌, ◌≤◌, ◌+◌, ◌-◌, ◌^◌, nat_lt, ℕ, List, length, sum_by, Option, Some, None, if◌then◌else◌}
+use Rattle.dns_wire.specs.Wire.{ancount_in}
+use Rattle.xfr_course.specs.Courses.{has_header}
+use Rattle.zone_asking.specs.declared.limits.Limits.{Limits}
+use Rattle.zone_asking.specs.declared.limits.Limit.{Limit}
+use Rattle.zone_asking.specs.declared.limits.Limit.TheVariants.{Replies, Octets, Records}
+
+-- the greatest numbers
+abbrev pub unlimited : Limits
+unlimited = record { replies = 2 ^ 32 - 1; octets = 2 ^ 64 - 1; records = 2 ^ 64 - 1 }
+
+-- how many octets messages have together, without the two of length before each
+abbrev pub octets_of : List (List ℕ) → ℕ
+octets_of messages = sum_by length messages
+
+-- how many records a message's header counts in its answer section (RFC 1035, 4.1.1); none in octets that are no header
+abbrev pub records_in : List ℕ → ℕ
+records_in m = if has_header m then ancount_in m else 0
+
+-- .. and those of messages together
+abbrev pub records_of : List (List ℕ) → ℕ
+records_of messages = sum_by records_in messages
+
+-- messages that pass no limit
+pub record Within (limits : Limits) (messages : List (List ℕ)) : Type 0 where
+  pub replies : length messages ≤ limits.replies
+  pub octets : octets_of messages ≤ limits.octets
+  pub records : records_of messages ≤ limits.records
+
+-- the first limit that one message more would pass behind these
+abbrev pub passed : Limits → List (List ℕ) → List ℕ → Option Limit
+passed limits before m =
+    if nat_lt limits.replies (length before + 1) then Some Replies
+    else if nat_lt limits.octets (octets_of before + length m) then Some Octets
+    else if nat_lt limits.records (records_of before + records_in m) then Some Records
+    else None
+
+-- what is left of limits behind some messages
+pub record IsLeft (limits : Limits) (messages : List (List ℕ)) (left : Limits) : Type 0 where
+  pub replies : length messages + left.replies ≡ limits.replies
+  pub octets : octets_of messages + left.octets ≡ limits.octets
+  pub records : records_of messages + left.records ≡ limits.records
