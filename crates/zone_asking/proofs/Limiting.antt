@@ -1,5 +1,5 @@
 -- What is left of limits, message by message.
-use Rattle.std.proofs.Common.{◌≡◌, ℕ, zero, suc, ◌+◌, ◌≤◌, nat_lt, if◌then◌else◌, List, [], ◌∷◌, ◌++◌, length, length-append, sum_by, refl, sym, ap, ◌∙◌, arith, Option, Some, None}
+use Rattle.std.proofs.Common.{◌≡◌, ℕ, ◌+◌, ◌≤◌, Bool, true, false, nat_lt, ltb-true, ltb-false, if◌then◌else◌, List, [], ◌∷◌, ◌++◌, length, length-append, sum_by, refl, sym, ap, ◌∙◌, arith, Option, Some, None}
 use Rattle.std.proofs.lemmas.List.Sums.{sum_by_push}
 use Rattle.zone_asking.specs.declared.limits.Limits.{Limits}
 use Rattle.zone_asking.specs.declared.limits.Limit.{Limit}
@@ -24,15 +24,20 @@ within limits left read k = record { replies = omega (arith, k.replies); octets 
 
 -- what passes what is left passes the limits
 same_test : (n a x : ℕ) → nat_lt (n + a) (n + x) ≡ nat_lt a x
-same_test zero a x = refl
-same_test (suc n) a x = same_test n a x
+same_test n a x = by (nat_lt (n + a) (n + x)) (nat_lt a x) refl refl
+  where
+    by : (b c : Bool) → nat_lt (n + a) (n + x) ≡ b → nat_lt a x ≡ c → b ≡ c
+    by true true h k = refl
+    by false false h k = refl
+    by true false h k = absurd (omega (arith, ltb-true (n + a) (n + x) h, ltb-false a x k))
+    by false true h k = absurd (omega (arith, ltb-false (n + a) (n + x) h, ltb-true a x k))
 
 test_left : (n a l x y : ℕ) → n + a ≡ l → y ≡ x → nat_lt l (n + x) ≡ nat_lt a y
 test_left n a l x y e h = ap (λ k. nat_lt k (n + x)) (sym e) ∙ same_test n a x ∙ ap (nat_lt a) (sym h)
 
 pub passed_left : (limits left : Limits) (read : List (List ℕ)) (m : List ℕ) → IsLeft limits read left → passed limits read m ≡ passed left [] m
 passed_left limits left read m k =
-    let replies = test_left (length read) left.replies limits.replies 1 (length {A = List ℕ} [] + 1) k.replies refl in
+    let replies = test_left (length read) left.replies limits.replies 1 (length {A = List ℕ} [] + 1) k.replies (omega arith) in
     let octets = test_left (octets_of read) left.octets limits.octets (length m) (octets_of [] + length m) k.octets (omega arith) in
     let records = test_left (records_of read) left.records limits.records (records_in m) (records_of [] + records_in m) k.records (omega arith) in
     λ i. if replies i then Some Replies else if octets i then Some Octets else if records i then Some Records else None
