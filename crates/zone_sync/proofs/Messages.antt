@@ -24,7 +24,7 @@ abbrev pub behind_one : Update → Rest → Rest
 behind_one u new = record { run = then_run (went new.run.place (u ∷ [])) new.run; retry = new.retry }
 
 -- one more was done
-pub led_on : (base : Commit) (before : List Commit) (u v : Updating) (s t : Session) (handles now : List Commit) (g : Progress) (all old new : Rest) (update : Update)
+abbrev pub led_on : (base : Commit) (before : List Commit) (u v : Updating) (s t : Session) (handles now : List Commit) (g : Progress) (all old new : Rest) (update : Update)
     → (l : LedOn base before u s handles g all old) → old ≡ behind_one update new → DoesOne base before v t now l.progress update → LedOn base before v t now g all new
 led_on base before u v s t handles now g all old new update l e d = record {
   progress = d.progress;

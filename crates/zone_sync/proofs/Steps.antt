@@ -32,10 +32,10 @@ all_after base [] w = refl
 all_after base (v ∷ more) w = let c : Commit = record { number = base.number + 1; version = v } in ap (λ l. c ∷ l) (all_after c more w)
 
 -- updates done, and one more
-pub led_none : (limit : ℕ) (g : Progress) (all : List Update) → Led limit g all g all
+abbrev pub led_none : (limit : ℕ) (g : Progress) (all : List Update) → Led limit g all g all
 led_none limit g all = record { done = []; joined = refl; led = refl }
 
-pub led_more : (limit : ℕ) (g p q : Progress) (all left : List Update) (u : Update) → Led limit g all p (u ∷ left) → within limit (apply_update p u) ≡ Ok q → Led limit g all q left
+abbrev pub led_more : (limit : ℕ) (g p q : Progress) (all left : List Update) (u : Update) → Led limit g all p (u ∷ left) → within limit (apply_update p u) ≡ Ok q → Led limit g all q left
 led_more limit g p q all left u l h = record {
   done = l.done ++ u ∷ [];
   joined = l.joined ∙ sym (append_assoc l.done (u ∷ []) left);

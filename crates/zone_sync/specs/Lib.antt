@@ -9,6 +9,7 @@ pub mod Ending
 pub mod Modes
 pub mod SoFar
 pub mod Steps
+pub mod Room
 pub mod Standing
 pub mod Replies
 pub mod Serving

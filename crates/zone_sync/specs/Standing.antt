@@ -1,5 +1,5 @@
 -- What a client of a transfer stands for: the replies that it has taken, one fact for each thing that it keeps.
-use Rattle.std.specs.Prelude.{◌≡◌, ◌⊎◌, ℕ, true, false, List, [], ◌∷◌, ◌++◌, Option, Some, None, Result, Ok, Err}
+use Rattle.std.specs.Prelude.{◌≡◌, ◌⊎◌, ℕ, Bool, true, false, List, [], ◌∷◌, ◌++◌, Option, Some, None, Result, Ok, Err}
 use Rattle.std.specs.List.{list_all}
 use Rattle.tsig_port.specs.Tsig.{TsigKey}
 use Rattle.tsig_port.specs.Checked.{passing, first_fault}
@@ -20,12 +20,15 @@ use Rattle.zone_sync.specs.declared.outcome.SyncOk.{SyncOk}
 use Rattle.zone_sync.specs.declared.outcome.SyncError.{SyncError}
 use Rattle.zone_sync.specs.declared.outcome.SyncError.TheVariants as why
 
--- what a client keeps: how it asks, and the exchange that is under way
+-- what a client keeps: how it asks, the exchange that is under way, how many records a set may get, and whether the last reply was
+-- refused since one has as many
 pub record ClientState : Type 0 where
   pub key : TsigKey
   pub mode : Mode
   pub at : ℕ
   pub exchange : Option Exchange
+  pub most : Option ℕ
+  pub full : Bool
 
 -- whether a request was made, and neither an outcome nor a refusal came since
 abbrev pub asking_of : ClientState → Commit → Asking

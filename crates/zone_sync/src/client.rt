@@ -1,5 +1,5 @@
 //! The secondary's half of a transfer.
-ghost use Rattle.std.specs.Prelude.{◌≡◌, ◌≢◌, ◌<◌, ◌⊎◌, [], ◌∷◌, ◌++◌, ℕ, Bool, false, List, IsSome, IfOk, IfErr, OnOk, OnErr, is_some, option_map, Some, None};
+ghost use Rattle.std.specs.Prelude.{◌≡◌, ◌≢◌, ◌<◌, ◌⊎◌, [], ◌∷◌, ◌++◌, ℕ, Bool, true, false, List, IsSome, IfOk, IfErr, OnOk, OnErr, is_some, option_map, Some, None};
 ghost use Rattle.dns_rdata.specs.Soa.{serial_of};
 ghost use Rattle.dns_wire.specs.Wire.{message_wire, same_question};
 ghost use Rattle.tsig_port.specs.States.{ClientStands};
@@ -11,6 +11,7 @@ ghost use Rattle.xfr_model.specs.Messages.{ReadMessage, type_of, message_of};
 ghost use Rattle.xfr_model.specs.Machine.{Place};
 ghost use Rattle.zone_model.specs.Updates.{Progress};
 ghost use Rattle.xfr_client.specs.Causes.{update_of};
+ghost use Rattle.xfr_client.specs.declared.update.Error.TheVariants.{Memory};
 ghost use Rattle.xfr_client.specs.Places.{first_serial};
 ghost use Rattle.xfr_course.specs.Client.{IsBetween};
 ghost use Rattle.zone_sync.specs.Modes.{mode_of};
@@ -18,6 +19,7 @@ ghost use Rattle.zone_sync.specs.SoFar.{Asking, asked_octets, asked_mac, asked_i
 ghost use Rattle.zone_sync.specs.Ending.{same_serial, settled};
 ghost use Rattle.zone_sync.specs.Standing.{asking_of, Stands, TakesReply, ExchangeStands, ReadsWhole};
 ghost use Rattle.zone_sync.specs.Replies.{AnswersReply, AnswersRequest, IsAnswerTo, TestsReply, TakesMessage};
+ghost use Rattle.zone_sync.specs.Room.{set_count, is_full, adds_to_full, KeepsAllRoom, StopsFull, ReplyKeepsRoom, ReplyStopsFull};
 ghost use Rattle.zone_sync.specs.Steps.{Ahead, KeepsWish, StaysStill, TakesOne, TakesAll};
 
 use crate::outcome::{SyncError, SyncOk};
@@ -58,6 +60,10 @@ pub struct XfrClient {
     mode: XfrMode,
     at: Time48,
     exchange: Option<Exchange>,
+    // How many records a set may get.
+    most: Option<usize>,
+    // The last reply was refused since a set has as many.
+    is_full: bool,
 }
 
 impl Model for XfrClient {
@@ -66,13 +72,13 @@ impl Model for XfrClient {
 
     ghost Value = { ClientState };
 
-    ghost view = { λ c. record { key = c.key; mode = mode_of c.mode; at = c.at; exchange = c.exchange } };
+    ghost view = { λ c. record { key = c.key; mode = mode_of c.mode; at = c.at; exchange = c.exchange; most = c.most; full = c.is_full } };
 }
 
 impl XfrClient {
     /// A client that made no request yet. It signs, and checks signatures, at this moment.
     pub fn new(alloc: Global, key: &Key, mode: XfrMode, at: Time48) -> XfrClient
-        ensures { result ≡ record { key = key.now; mode = mode_of mode; at = at; exchange = None } }
+        ensures { result ≡ record { key = key.now; mode = mode_of mode; at = at; exchange = None; most = None; full = false } }
     {
         XfrClient {
             alloc,
@@ -80,7 +86,24 @@ impl XfrClient {
             mode,
             at,
             exchange: None,
+            most: None,
+            is_full: false,
         }
+    }
+
+    /// Limits how many records an owner and type may get: a reply that adds one more is refused before it is added.
+    /// Without a limit there may be as many as come.
+    pub fn limit_sets(&mut self, most: usize)
+        ensures { self.new ≡ record self.old { most = Some most } }
+    {
+        self.most = Some(most);
+    }
+
+    /// Whether the last reply was answered by `Memory` since it adds a record to a set that has as many as it may.
+    pub fn has_full_set(&self) -> bool
+        ensures { result ≡ self.now.full }
+    {
+        self.is_full
     }
 
     /// Whether a request was made, and neither an outcome nor a refusal came since.
@@ -106,8 +129,10 @@ impl XfrClient {
         ensures session { session.new ≡ record (rolled_back session.old) { has_handle = session.new.has_handle } }
         ensures closed { OnErr result (self.new.exchange ≡ None) }
         ensures asks { asking_of self.new session.new.current ≡ asking_of self.old session.old.current }
+        ensures limit { (self.new.most ≡ self.old.most) × (self.new.full ≡ false) }
     {
         self.exchange = None;
+        self.is_full = false;
         session.rollback();
         let zone = session.handle()?;
         // For the proof: a version's number has 64 bits.
@@ -148,6 +173,9 @@ impl XfrClient {
     /// to a question for what is newer is one SOA record alone, with the serial that was asked with (RFC 1995, 2); with another serial
     /// that is `Iteration(SingleSoaIxfrTcpRetrySignal)`. Each version that is committed gives a handle at the end of `made`. Nothing
     /// waits, so nothing is asked of `rt`.
+    ///
+    /// `Memory` comes too where the reply adds a record to a set that has as many as it may, which `has_full_set` tells then; that
+    /// record isn't added, and what the updates before it committed stays.
     pub fn take<R>(
         &mut self,
         rt: &R,
@@ -169,11 +197,30 @@ impl XfrClient {
         // .. and by a reply after which the client is in a whole text none was.
         ensures still { (base : Commit) (taken : List (List ℕ)) (before : List Commit) → result ≡ Ok None → Stands self.old session.old (asking_of self.old base) taken before made.old.items
             → ReadsWhole (asking_of self.old base) (taken ++ octets.items ∷ []) → StaysStill session.old session.new }
+        // The updates that were done of it had room, so no version that was committed has more in a set for them ..
+        ensures room { (base : Commit) (taken : List (List ℕ)) (before : List Commit) → Stands self.old session.old (asking_of self.old base) taken before made.old.items
+            → ReplyKeepsRoom self.old.most (asking_of self.old base) session.new before made.new.items taken octets.items result }
+        // .. and the flag tells that the next one had none.
+        ensures full { self.new.full ≡ true → result ≡ Err SyncError.Memory }
+        ensures stops { (base : Commit) (taken : List (List ℕ)) (before : List Commit) → Stands self.old session.old (asking_of self.old base) taken before made.old.items
+            → self.new.full ≡ true → ReplyStopsFull self.old.most (asking_of self.old base) session.new before made.new.items taken octets.items }
+        ensures limit { self.new.most ≡ self.old.most }
     {
         let Some(mut exchange) = self.exchange.take() else {
             unreachable!()
         };
-        match exchange.take(rt, session, octets, self.at, made) {
+        let mut is_full = false;
+        let taken = exchange.take(
+            rt,
+            session,
+            octets,
+            self.at,
+            self.most,
+            &mut is_full,
+            made,
+        );
+        self.is_full = is_full;
+        match taken {
             Ok(None) => {
                 self.exchange = Some(exchange);
                 Ok(None)
@@ -198,15 +245,22 @@ impl Exchange {
         session: &mut WriteZone<'_>,
         octets: Vec<u8>,
         at: Time48,
+        most: Option<usize>,
+        full: &mut bool,
         made: &mut Vec<ReadZone>,
     ) -> Result<Option<SyncOk>, SyncError>
         ensures takes { (a : Asking) (taken : List (List ℕ)) (before : List Commit) → a.at ≡ at → ExchangeStands self.old session.old a taken before made.old.items
             → TakesMessage a self.new session.new before made.new.items taken octets.items result }
         ensures keeps { result ≡ Ok None → KeepsWish session.old session.new }
+        ensures room { (a : Asking) (taken : List (List ℕ)) (before : List Commit) → a.at ≡ at → ExchangeStands self.old session.old a taken before made.old.items
+            → ReplyKeepsRoom most a session.new before made.new.items taken octets.items result }
+        ensures full { full.old ≡ false → full.new ≡ true → result ≡ Err SyncError.Memory }
+        ensures stops { (a : Asking) (taken : List (List ℕ)) (before : List Commit) → a.at ≡ at → ExchangeStands self.old session.old a taken before made.old.items
+            → full.old ≡ false → full.new ≡ true → ReplyStopsFull most a session.new before made.new.items taken octets.items }
     {
         let message = self.checked(octets, at)?;
         let updates = self.read(&message)?;
-        if let Err(error) = apply_all(rt, session, &mut self.updater, updates, made) {
+        if let Err(error) = apply_all(rt, session, &mut self.updater, updates, most, full, made) {
             return self.settle(error);
         }
         if self.interpreter.is_finished() {
@@ -387,31 +441,48 @@ fn apply_all<R>(
     session: &mut WriteZone<'_>,
     updater: &mut ZoneUpdater,
     mut updates: XfrZoneUpdateIterator<'_>,
+    most: Option<usize>,
+    full: &mut bool,
     made: &mut Vec<ReadZone>,
 ) -> Result<(), SyncError>
     ensures takes { (base : Commit) (before : List Commit) (g : Progress) → Ahead base before updater.old session.old made.old.items g
         → TakesAll base before updater.new session.new made.new.items g updates.entry result }
     ensures keeps { OnOk result (KeepsWish session.old session.new) }
+    ensures room { (base : Commit) (before : List Commit) (g : Progress) → Ahead base before updater.old session.old made.old.items g
+        → KeepsAllRoom most base before session.new made.new.items g updates.entry.run.updates result }
+    ensures full { full.old ≡ false → full.new ≡ true → result ≡ Err SyncError.Memory }
+    ensures stops { (base : Commit) (before : List Commit) (g : Progress) → Ahead base before updater.old session.old made.old.items g
+        → full.old ≡ false → full.new ≡ true → StopsFull most base before session.new made.new.items g updates.entry.run.updates }
 {
     'updates: while let Some(update) = updates.next_update() {
-        apply_one(rt, session, updater, update?, made)?;
+        apply_one(rt, session, updater, update?, most, full, made)?;
     }
     Ok(())
 }
 
 /// Applies one update, and adds a handle for the version that it commits, for which there is room beforehand. What a commit tells isn't
-/// looked at.
+/// looked at. A record isn't added to a set that has as many as it may.
 fn apply_one<R>(
     rt: &R,
     session: &mut WriteZone<'_>,
     updater: &mut ZoneUpdater,
     update: ZoneUpdate<ReadRecord<'_>>,
+    most: Option<usize>,
+    full: &mut bool,
     made: &mut Vec<ReadZone>,
 ) -> Result<(), update::Error>
     ensures takes { (base : Commit) (before : List Commit) (g : Progress) → Ahead base before updater.old session.old made.old.items g
         → TakesOne base before updater.new session.new made.new.items g (update_of update.entry) result }
     ensures keeps { OnOk result (KeepsWish session.old session.new) }
+    ensures room { (result ≡ Err Memory) ⊎ (adds_to_full most session.old.pending (update_of update.entry) ≡ false) }
+    ensures same { OnOk result (full.new ≡ full.old) }
+    ensures full { full.old ≡ false → full.new ≡ true → (result ≡ Err Memory) × (adds_to_full most session.old.pending (update_of update.entry) ≡ true) }
 {
+    if adds_to_full(session, most, &update) {
+        *full = true;
+        drop(update);
+        return Err(update::Error::Memory);
+    }
     if made.reserve(1).is_err() {
         drop(update);
         return Err(update::Error::Memory);
@@ -428,4 +499,42 @@ fn apply_one<R>(
         };
     }
     Ok(())
+}
+
+/// Whether an update adds a record to a set that is full.
+fn adds_to_full(
+    session: &WriteZone<'_>,
+    most: Option<usize>,
+    update: &ZoneUpdate<ReadRecord<'_>>,
+) -> bool
+    ensures { result ≡ adds_to_full most session.now.pending (update_of update.now) }
+{
+    match update {
+        ZoneUpdate::AddRecord(added) => has_no_room(session, most, added),
+        ZoneUpdate::DeleteAllRecords
+        | ZoneUpdate::DeleteRecord(_)
+        | ZoneUpdate::BeginBatchDelete(_)
+        | ZoneUpdate::BeginBatchAdd(_)
+        | ZoneUpdate::Finished(_) => false,
+    }
+}
+
+/// Whether the set of a record is full. Without a limit it isn't looked up.
+fn has_no_room(session: &WriteZone<'_>, most: Option<usize>, added: &ReadRecord<'_>) -> bool
+    ensures { result ≡ is_full most (set_count session.now.pending added.now.owner added.now.rtype) }
+{
+    match most {
+        Some(most) => most <= set_count(session, added),
+        None => false,
+    }
+}
+
+/// How many records the pending set of a record's owner and type has.
+fn set_count(session: &WriteZone<'_>, added: &ReadRecord<'_>) -> usize
+    ensures { result ≡ set_count session.now.pending added.now.owner added.now.rtype }
+{
+    match session.rrset_at(added.owner(), added.rtype()) {
+        Some(found) => found.data().len(),
+        None => 0,
+    }
 }

@@ -1,14 +1,15 @@
-use Rattle.std.proofs.Common.{List, length}
+use Rattle.std.proofs.Common.{◌≡◌, List, length}
 use Rattle.zone_model.specs.Commits.{Commit}
 use Rattle.zone_model.specs.Updates.{Progress}
-use Rattle.zone_sync.specs.Steps.{Ahead, KeepsWish, LedOn}
+use Rattle.zone_sync.specs.Steps.{Ahead, KeepsWish}
+use Rattle.zone_sync.proofs.Room.{RoomOn}
 use Rattle.zone_sync.proofs.client.apply_all.Given as goal
 
 abbrev pub invariant-updates : goal.invariant-updates
 invariant-updates met l =
     ((base : Commit) (before : List Commit) (g : Progress) → Ahead base before l.initial.updater l.initial.session l.initial.made.items g
-    → LedOn base before l.updater l.session l.made.items g l.initial.updates l.updates)
-    × KeepsWish l.initial.session l.session
+    → RoomOn l.most base before l.updater l.session l.made.items g l.initial.updates l.updates)
+    × KeepsWish l.initial.session l.session × (l.full ≡ l.initial.full)
 
 abbrev pub decreases-updates : goal.decreases-updates
 decreases-updates met l = length l.updates.run.updates

@@ -2,10 +2,12 @@ use Rattle.std.proofs.Common.{◌≡◌, sym, ap, ◌∙◌, subst}
 use Rattle.std.proofs.lemmas.Result.{err_from_is_err_and}
 use Rattle.xfr_client.specs.Places.{first_serial}
 use Rattle.zone_sync.specs.SoFar.{client_so_far}
+use Rattle.zone_sync.specs.Ending.{settled}
 use Rattle.zone_sync.specs.Steps.{Ahead}
 use Rattle.zone_sync.specs.Replies.{ChecksReply}
 use Rattle.zone_sync.proofs.Standings.{between}
 use Rattle.zone_sync.proofs.Taking.{settled_ends, message_fails, message_reads, updates_stop, updates_done, text_ends, text_goes_on}
+use Rattle.zone_sync.proofs.Room.{none_done, reply_stops, reply_done, reply_full, sync_same}
 use Rattle.zone_sync.proofs.client.Exchange.take.Goals as goal
 
 pub returns-in_err-updates-clause-takes : goal.returns-in_err-updates-clause-takes
@@ -66,3 +68,66 @@ returns-in-Err-clause-keeps g c h = absurd (settled_ends (first_serial c.read.ne
 
 pub returns-clause-keeps : goal.returns-clause-keeps
 returns-clause-keeps g c h = rw c.in_default.is at c.apply_all.ensures.keeps
+
+pub returns-in_err-message-clause-room : goal.returns-in_err-message-clause-room
+returns-in_err-message-clause-room g c a taken before at x =
+    let p = err_from_is_err_and c.from_residual.result c.from_residual.ensures.1 in
+    rw (p.1, p.2) (none_done c.args.most a c.args.self.now c.args.session.now before c.args.made.now.items taken c.args.octets.items x)
+
+pub returns-in_err-updates-clause-room : goal.returns-in_err-updates-clause-room
+returns-in_err-updates-clause-room g c a taken before at x =
+    let p = err_from_is_err_and c.from_residual-in_err-updates.result c.from_residual-in_err-updates.ensures.1 in
+    rw (p.1, p.2) (none_done c.args.most a c.args.self.now c.args.session.now before c.args.made.now.items taken c.args.octets.items x)
+
+pub returns-in-Err-clause-room : goal.returns-in-Err-clause-room
+returns-in-Err-clause-room g c a taken before at x =
+    let cl = client_so_far a taken in
+    let o = c.checked.ensures.others in
+    let r = c.read.ensures.others in
+    let ck = c.in_ok-message.ensures.answers a taken at x.key x.sequence in
+    let tests = c.in_ok-updates.ensures.tests a cl.begun cl.place (ap (λ e. e.id) o ∙ x.id) (ap (λ e. e.question) o ∙ x.question) (ap (λ e. e.interpreter) o ∙ x.interpreter) (between a taken x.unmet).place in
+    let rd = message_reads a c.args.self.now c.args.session.now before c.args.made.now.items taken c.args.octets.items c.in_ok-message.message c.checked.new.self.sequence c.read.new.self.interpreter c.in_ok-updates.updates x ck tests in
+    let updater : c.read.new.self.updater ≡ c.args.self.now.updater = ap (λ e. e.updater) r ∙ ap (λ e. e.updater) o in
+    let ahead = subst (λ u. Ahead a.base before u c.args.session.now c.args.made.now.items cl.progress) (sym updater) x.ahead in
+    rw c.settle.ensures (reply_stops c.args.most a c.apply_all.new.session before c.apply_all.new.made.items taken c.args.octets.items c.in_ok-updates.updates.run (first_serial c.read.new.self.interpreter.place) c.read.new.self.serial c.in-Err.error
+    rd.run (rw c.in-Err.is at c.apply_all.ensures.room a.base before cl.progress ahead))
+
+pub returns-then-is_finished-clause-room : goal.returns-then-is_finished-clause-room
+returns-then-is_finished-clause-room g c a taken before at x =
+    let cl = client_so_far a taken in
+    let o = c.checked.ensures.others in
+    let r = c.read.ensures.others in
+    let ck = c.in_ok-message.ensures.answers a taken at x.key x.sequence in
+    let tests = c.in_ok-updates.ensures.tests a cl.begun cl.place (ap (λ e. e.id) o ∙ x.id) (ap (λ e. e.question) o ∙ x.question) (ap (λ e. e.interpreter) o ∙ x.interpreter) (between a taken x.unmet).place in
+    let rd = message_reads a c.args.self.now c.args.session.now before c.args.made.now.items taken c.args.octets.items c.in_ok-message.message c.checked.new.self.sequence c.read.new.self.interpreter c.in_ok-updates.updates x ck tests in
+    let updater : c.read.new.self.updater ≡ c.args.self.now.updater = ap (λ e. e.updater) r ∙ ap (λ e. e.updater) o in
+    let ahead = subst (λ u. Ahead a.base before u c.args.session.now c.args.made.now.items cl.progress) (sym updater) x.ahead in
+    reply_done c.args.most a c.apply_all.new.session before c.apply_all.new.made.items taken c.in_ok-updates.updates.run c.args.octets.items rd.run (rw c.in_default.is at c.apply_all.ensures.room a.base before cl.progress ahead)
+
+pub returns-clause-room : goal.returns-clause-room
+returns-clause-room g c a taken before at x =
+    let cl = client_so_far a taken in
+    let o = c.checked.ensures.others in
+    let r = c.read.ensures.others in
+    let ck = c.in_ok-message.ensures.answers a taken at x.key x.sequence in
+    let tests = c.in_ok-updates.ensures.tests a cl.begun cl.place (ap (λ e. e.id) o ∙ x.id) (ap (λ e. e.question) o ∙ x.question) (ap (λ e. e.interpreter) o ∙ x.interpreter) (between a taken x.unmet).place in
+    let rd = message_reads a c.args.self.now c.args.session.now before c.args.made.now.items taken c.args.octets.items c.in_ok-message.message c.checked.new.self.sequence c.read.new.self.interpreter c.in_ok-updates.updates x ck tests in
+    let updater : c.read.new.self.updater ≡ c.args.self.now.updater = ap (λ e. e.updater) r ∙ ap (λ e. e.updater) o in
+    let ahead = subst (λ u. Ahead a.base before u c.args.session.now c.args.made.now.items cl.progress) (sym updater) x.ahead in
+    reply_done c.args.most a c.apply_all.new.session before c.apply_all.new.made.items taken c.in_ok-updates.updates.run c.args.octets.items rd.run (rw c.in_default.is at c.apply_all.ensures.room a.base before cl.progress ahead)
+
+pub returns-in-Err-clause-full : goal.returns-in-Err-clause-full
+returns-in-Err-clause-full g c low raised =
+    c.settle.ensures ∙ ap (settled (first_serial c.read.new.self.interpreter.place) c.read.new.self.serial) (sync_same c.in-Err.error (sym c.in-Err.is ∙ c.apply_all.ensures.full low raised))
+
+pub returns-in-Err-clause-stops : goal.returns-in-Err-clause-stops
+returns-in-Err-clause-stops g c a taken before at x low raised =
+    let cl = client_so_far a taken in
+    let o = c.checked.ensures.others in
+    let r = c.read.ensures.others in
+    let ck = c.in_ok-message.ensures.answers a taken at x.key x.sequence in
+    let tests = c.in_ok-updates.ensures.tests a cl.begun cl.place (ap (λ e. e.id) o ∙ x.id) (ap (λ e. e.question) o ∙ x.question) (ap (λ e. e.interpreter) o ∙ x.interpreter) (between a taken x.unmet).place in
+    let rd = message_reads a c.args.self.now c.args.session.now before c.args.made.now.items taken c.args.octets.items c.in_ok-message.message c.checked.new.self.sequence c.read.new.self.interpreter c.in_ok-updates.updates x ck tests in
+    let updater : c.read.new.self.updater ≡ c.args.self.now.updater = ap (λ e. e.updater) r ∙ ap (λ e. e.updater) o in
+    let ahead = subst (λ u. Ahead a.base before u c.args.session.now c.args.made.now.items cl.progress) (sym updater) x.ahead in
+    reply_full c.args.most a c.apply_all.new.session before c.apply_all.new.made.items taken c.in_ok-updates.updates.run c.args.octets.items rd.run (c.apply_all.ensures.stops a.base before cl.progress ahead low raised)
