@@ -1,32 +1,11 @@
 // Messages after their length in two octets (RFC 1035, 4.2.2), as sources give them and sinks take them.
 
+use crate::common::{is, only, source};
 use message_frames::reading::{FrameError, read_frame};
 use message_frames::writing::{WriteFrameError, write_frame};
 use std::alloc::Global;
-use std::fmt::Debug;
-use std::process::Abort;
 use zone_devices::sinks::MemorySink;
 use zone_devices::sources::MemorySource;
-
-/// Asserts that a value is the one that is wanted.
-fn is<R: Abort, T: PartialEq + Debug + Drop>(rt: &R, found: T, wanted: T) {
-    assert_eq!(rt; found, wanted);
-    drop(wanted);
-    drop(found);
-}
-
-/// A source of the first octets of some.
-fn source<R: Abort>(
-    rt: &R,
-    alloc: Global,
-    octets: &[u8],
-    most: usize,
-    failing: Vec<u64>,
-) -> MemorySource {
-    let end = most.min(octets.len());
-    let first = octets[..end].to_vec(alloc).expect(rt, "memory");
-    MemorySource::new(first, failing)
-}
 
 /// How many messages a source gives before its end or an error, how many octets they have in all, and that error.
 fn read_all(alloc: Global, src: &mut MemorySource) -> (usize, usize, Option<FrameError>) {
@@ -91,9 +70,7 @@ fn messages_come_one_by_one(rt: HostRuntime) {
 fn failing_reads_are_faults(rt: HostRuntime) {
     let alloc = rt.alloc();
     for failing in 1..5u64 {
-        let mut calls = Vec::new(alloc);
-        calls.push(failing).expect(&rt, "memory");
-        let mut src = source(&rt, alloc, ROW, 10, calls);
+        let mut src = source(&rt, alloc, ROW, 10, only(&rt, alloc, failing));
         let (count, _, error) = read_all(alloc, &mut src);
         // A frame with octets takes two reads, one without takes one.
         let wanted = if failing < 3 {

@@ -1,5 +1,11 @@
-//! Tests of messages in streams: frames, whole and cut off.
+//! Tests of messages in streams: frames, whole and cut off, requests that are served, and a transfer that is asked for.
 #![tactic(auto)]
 
 #[cfg(test)]
+mod asking_tests;
+#[cfg(test)]
+mod common;
+#[cfg(test)]
 mod frame_tests;
+#[cfg(test)]
+mod serving_tests;

@@ -161,16 +161,16 @@ some_distinct (x ∷ xs) d = omega arith
 
 -- ---- a record put
 
-abbrev key_of : Record → Key
+abbrev pub key_of : Record → Key
 key_of r = (names.fold r.owner, r.rtype)
 
-abbrev set_with : Record → Option RecordSet → RecordSet
+abbrev pub set_with : Record → Option RecordSet → RecordSet
 set_with r o = record { ttl = lowest_ttl r o; items = distinct (items_of o ++ r.fields ∷ []) }
 
 abbrev pub put_to : Sets → Record → Sets
 put_to es r = insert_entry key_cmp es (key_of r) (set_with r (set_in es (key_of r)))
 
-opened_puts : (v : Version) (r : Record) → opened_with v r ≡ with_sets v (put_to v.sets r)
+pub opened_puts : (v : Version) (r : Record) → opened_with v r ≡ with_sets v (put_to v.sets r)
 opened_puts v r =
     ap (λ b. if b then remove_set v r.owner r.rtype else with_sets v (put_to v.sets r))
     (ne_eqb (length (set_with r (set_in v.sets (key_of r))).items) 0 (λ z. omega (arith, z, some_distinct (items_of (set_in v.sets (key_of r))) r.fields)))

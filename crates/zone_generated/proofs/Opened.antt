@@ -1,5 +1,5 @@
 -- The zone takes its records one by one, and keeps them all as it opens.
-use Rattle.std.proofs.Common.{◌≡◌, ℕ, suc, ◌==◌, Bool, true, false, ◌&&◌, not, cond, if◌then◌else◌, List, [], ◌∷◌, ◌++◌, length, map, filter, fold, refl, sym, ap, ◌∙◌, is_some}
+use Rattle.std.proofs.Common.{◌≡◌, ℕ, suc, ◌+◌, ◌<◌, ◌≤◌, ◌==◌, Bool, true, false, ◌&&◌, not, cond, if◌then◌else◌, List, [], ◌∷◌, ◌++◌, length, get_or, drop, drop-cons, drop_of_length-le, map, filter, fold, refl, sym, ap, ◌∙◌, is_some, arith}
 use Rattle.std.specs.List.{AllByRecursion}
 use Rattle.std.specs.BTreeMap.{insert_entry}
 use Rattle.std.specs.Map.{keys_of}
@@ -20,14 +20,19 @@ use Rattle.zone_generated.specs.Generated.{next_draw, draws, zone_name, soa_reco
 abbrev pub with_hosts : ℕ → Version → List ℕ → Version
 with_hosts n v xs = fold opened_with v (map (host_record n) xs)
 
+-- the next draw, and those after it
+drop_first : (xs : List ℕ) (i : ℕ) → i < length xs → drop i xs ≡ get_or xs i 0 ∷ drop (i + 1) xs
+drop_first xs i h =
+    let next : suc i ≡ i + 1 = omega arith in
+    drop-cons xs i 0 h ∙ ap (λ j. get_or xs i 0 ∷ drop j xs) next
+
 -- the host of the next draw is put, and fewer are left
-pub host_put : (n left fewer x y : ℕ) (v w z : Version) → left ≡ suc fewer → y ≡ next_draw x → w ≡ opened_with v (host_record n (next_draw x)) → with_hosts n v (draws left x) ≡ z
-    → with_hosts n w (draws fewer y) ≡ z
-host_put n left fewer x y v w z el ey ew e = (λ i. with_hosts n (ew i) (draws fewer (ey i))) ∙ sym (ap (λ m. with_hosts n v (draws m x)) el) ∙ e
+pub host_put : (n i : ℕ) (xs : List ℕ) (v w z : Version) → i < length xs → w ≡ opened_with v (host_record n (get_or xs i 0)) → with_hosts n v (drop i xs) ≡ z → with_hosts n w (drop (i + 1) xs) ≡ z
+host_put n i xs v w z h ew e = ap (λ u. with_hosts n u (drop (i + 1) xs)) ew ∙ sym (ap (with_hosts n v) (drop_first xs i h)) ∙ e
 
 -- no host is left
-pub all_put : (n left x : ℕ) (v z : Version) → left ≡ 0 → with_hosts n v (draws left x) ≡ z → v ≡ z
-all_put n left x v z el e = sym (ap (λ m. with_hosts n v (draws m x)) el) ∙ e
+pub all_put : (n i : ℕ) (xs : List ℕ) (v z : Version) → length xs ≤ i → with_hosts n v (drop i xs) ≡ z → v ≡ z
+all_put n i xs v z h e = sym (ap (with_hosts n v) (drop_of_length-le xs h)) ∙ e
 
 -- ---- nothing of them goes
 

@@ -1,2 +1,3 @@
 pub mod Generated
+pub mod Ranks
 pub mod ShortTexts

@@ -2,6 +2,7 @@
 ghost use Rattle.std.specs.Prelude.{◌≡◌, [], ◌∷◌, length, replicate, codes};
 ghost use Rattle.dns_name.specs.Records.{Octets, DomainName};
 ghost use Rattle.zone_generated.specs.Generated as generated;
+ghost use Rattle.zone_generated.specs.Ranks.{rank};
 
 /// Two hosts that are drawn from 0: 20.5.123.126 at `h1` and 26.8.238.17 at `h0`.
 pub fn two_row()
@@ -27,4 +28,14 @@ pub fn one_row()
           ∷ ((codes "h0" ∷ codes "example" ∷ [], 1), record { ttl = 3600; items = (Octets (20 ∷ 5 ∷ 123 ∷ 126 ∷ []) ∷ []) ∷ [] })
           ∷ [];
     } }
+{}
+
+/// Numbers in the order of their digits: 0, 1, 10, 2 and the largest.
+#[tactic(auto, unfolding(crate::specs::Ranks::moved_up))]
+pub fn rank_row()
+    ensures zero { rank 0 ≡ 0 }
+    ensures one { rank 1 ≡ 10000000000 }
+    ensures ten { rank 10 ≡ 10000000001 }
+    ensures two { rank 2 ≡ 20000000000 }
+    ensures last { rank 4294967295 ≡ 42949672959 }
 {}

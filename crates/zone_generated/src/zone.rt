@@ -6,7 +6,7 @@ ghost use Rattle.zone_model.specs.Classify.{opened_with};
 ghost use Rattle.zone_generated.specs.Generated as generated;
 ghost use Rattle.zone_generated.specs.Generated.{zone_name};
 
-use crate::draws::next_draw;
+use crate::draws::draws_by_owner;
 use crate::records::{apex, host_record, ns, soa};
 use dns_name::Class;
 use dns_rdata::StoredRecord;
@@ -29,37 +29,18 @@ fn put(builder: &mut ZoneBuilder, added: StoredRecord) -> Result<(), AllocError>
     }
 }
 
-/// Puts the host of the next draw, one of `count`, and gives that draw.
-fn put_next(
-    builder: &mut ZoneBuilder,
-    alloc: Global,
-    count: u32,
-    draw: u64,
-) -> Result<u64, AllocError>
-    requires some { 0 < count }
-    requires apex { builder.old.apex ≡ zone_name }
-    ensures drawn { IfOk result (λ d. d ≡ generated.next_draw draw) }
-    ensures put { OnOk result
-        (builder.new ≡ opened_with builder.old (generated.host_record count (generated.next_draw draw))) }
-    ensures apex { OnOk result (builder.new.apex ≡ zone_name) }
-{
-    let drawn = next_draw(draw);
-    put(builder, host_record(alloc, count, drawn)?)?;
-    Ok(drawn)
-}
-
 /// The zone `example.` of so many draws after the seed, its version numbered 0: an SOA and an NS record at the apex, and the A record of each draw's
-/// host. Equal records count once.
+/// host. Equal records count once. The hosts are put in the order of their owners.
 pub fn generated(alloc: Global, count: u32, seed: u64) -> Result<ZoneApex, AllocError>
     requires { 1 ≤ count }
     ensures { IfOk result (λ z. z ≡ record { number = 0; version = generated.generated count seed }) }
 {
+    let drawn = draws_by_owner(alloc, count, seed)?;
     let mut builder = ZoneBuilder::new(alloc, apex(alloc)?, Class::IN);
     put(&mut builder, soa(alloc)?)?;
     put(&mut builder, ns(alloc)?)?;
-    let mut draw = seed;
-    for number in 0..count {
-        draw = put_next(&mut builder, alloc, count, draw)?;
+    for draw in drawn.iter() {
+        put(&mut builder, host_record(alloc, count, *draw)?)?;
     }
     builder.build()
 }

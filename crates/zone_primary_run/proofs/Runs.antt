@@ -1,13 +1,15 @@
 -- A primary's run, by what its parts answer.
-use Rattle.std.proofs.Common.{◌≡◌, ℕ, List, sym, subst, inr, Option, Some, None, IfSome, Result, Ok, Err}
+use Rattle.std.proofs.Common.{◌≡◌, ℕ, ◌<◌, ◌≤◌, List, length, refl, sym, ap, subst, arith, inl, inr, Option, Some, None, IfSome, Result, Ok, Err}
 use Rattle.xfr_services.specs.Items.{Sending}
+use Rattle.zone_devices.specs.declared.read_to_end.ReadError.{ReadError}
+use Rattle.zone_devices.specs.declared.read_to_end.ReadError.TheVariants as read
 use Rattle.zone_serving.specs.StreamServing.{ServesStream}
 use Rattle.zone_serving.specs.declared.errors.ServeError.{ServeError}
 use Rattle.zone_serving.specs.declared.errors.ServeError.TheVariants as stream
 use Rattle.zone_serving.specs.declared.serving.Served.{Served}
-use Rattle.zone_primary_run.specs.PrimaryStatuses.{of_serve}
+use Rattle.zone_primary_run.specs.PrimaryStatuses.{of_read, of_serve}
 use Rattle.zone_primary_run.specs.ScriptPrimaries.{PrimaryParts}
-use Rattle.zone_primary_run.specs.PrimaryRuns.{Stream, SpellsPrimary, ServesScript, RunsText, ReadsScript, RunsPrimary}
+use Rattle.zone_primary_run.specs.PrimaryRuns.{Stream, SpellsPrimary, ServesScript, RunsText, ReadsScript, RunsPrimary, IsRefusedAsLong}
 use Rattle.zone_primary_run.specs.declared.errors.PrimaryError.{PrimaryError}
 use Rattle.zone_primary_run.specs.declared.errors.PrimaryError.TheVariants as why
 
@@ -26,20 +28,33 @@ not_served SendsOf text p s stream.Short spelt k = (serves_script SendsOf text p
 not_served SendsOf text p s stream.NoReply spelt k = (serves_script SendsOf text p s (Err stream.NoReply) spelt k, λ h. cc)
 not_served SendsOf text p s stream.TooMany spelt k = (serves_script SendsOf text p s (Err stream.TooMany) spelt k, λ h. cc)
 
-reads_script : (Runs : List ℕ → Type 0) (script : Option (List ℕ)) (text : List ℕ) → IfSome script (λ octets. text ≡ octets) → Runs text → ReadsScript Runs script
-reads_script Runs None text told r = record { text = text; told = tt; runs = r }
-reads_script Runs (Some octets) text told r = record { text = text; told = sym told; runs = r }
+reads_script : (Runs : List ℕ → Type 0) (script : Option (List ℕ)) (text : List ℕ) → IfSome script (λ octets. text ≡ octets) → length text ≤ 16777216 → Runs text → ReadsScript Runs script
+reads_script Runs None text told fits r = record { text = text; told = tt; fits = fits; runs = r }
+reads_script Runs (Some octets) text told fits r = record { text = text; told = sym told; fits = fits; runs = r }
 
 is_read : (SendsOf : PrimaryParts → List ℕ → Option (List Sending) → Type 0) (script : Option (List ℕ)) (text : List ℕ) (s : Stream) (answer : Result Served PrimaryError)
-    → IfSome script (λ octets. text ≡ octets) → RunsText SendsOf text s answer → RunsPrimary SendsOf script s answer
-is_read SendsOf script text s (Ok done) told r = reads_script (λ t. RunsText SendsOf t s (Ok done)) script text told r
-is_read SendsOf script text s (Err (why.Stream e)) told r = reads_script (λ t. RunsText SendsOf t s (Err (why.Stream e))) script text told r
-is_read SendsOf script text s (Err (why.Line n)) told r = reads_script (λ t. RunsText SendsOf t s (Err (why.Line n))) script text told r
-is_read SendsOf script text s (Err why.Memory) told r = inr (reads_script (λ t. RunsText SendsOf t s (Err why.Memory)) script text told r)
-is_read SendsOf script text s (Err why.ScriptFault) told r = absurd r
-is_read SendsOf script text s (Err why.ScriptTooLong) told r = absurd r
+    → IfSome script (λ octets. text ≡ octets) → length text ≤ 16777216 → RunsText SendsOf text s answer → RunsPrimary SendsOf script s answer
+is_read SendsOf script text s (Ok done) told fits r = reads_script (λ t. RunsText SendsOf t s (Ok done)) script text told fits r
+is_read SendsOf script text s (Err (why.Stream e)) told fits r = reads_script (λ t. RunsText SendsOf t s (Err (why.Stream e))) script text told fits r
+is_read SendsOf script text s (Err (why.Line n)) told fits r = reads_script (λ t. RunsText SendsOf t s (Err (why.Line n))) script text told fits r
+is_read SendsOf script text s (Err why.Memory) told fits r = inr (reads_script (λ t. RunsText SendsOf t s (Err why.Memory)) script text told fits r)
+is_read SendsOf script text s (Err why.ScriptFault) told fits r = absurd r
+is_read SendsOf script text s (Err why.ScriptTooLong) told fits r = absurd r
 
 -- the script is read, and its text is served
 pub is_read_as : (SendsOf : PrimaryParts → List ℕ → Option (List Sending) → Type 0) (script : Option (List ℕ)) (items text : List ℕ) (s : Stream) (answer : Result Served PrimaryError)
-    → IfSome script (λ octets. items ≡ octets) → text ≡ items → RunsText SendsOf text s answer → RunsPrimary SendsOf script s answer
-is_read_as SendsOf script items text s answer told same r = is_read SendsOf script items s answer told (subst (λ t. RunsText SendsOf t s answer) same r)
+    → IfSome script (λ octets. items ≡ octets) → length items ≤ 16777216 → text ≡ items → RunsText SendsOf text s answer → RunsPrimary SendsOf script s answer
+is_read_as SendsOf script items text s answer told fits same r = is_read SendsOf script items s answer told fits (subst (λ t. RunsText SendsOf t s answer) same r)
+
+-- a script that is too long isn't read
+pub not_read : (script : Option (List ℕ)) (items text : List ℕ) → script ≡ Some text → IfSome script (λ octets. items ≡ octets) → length items ≤ 16777216 → 16777216 < length text → ⊥
+not_read script items text had told fits long =
+    let same : items ≡ text = subst (λ (left : Option (List ℕ)). IfSome left (λ octets. items ≡ octets)) had told in
+    let lengths = ap length same in
+    omega arith
+
+-- .. and what comes of that
+pub refused_as_long : (e : ReadError) → IsRefusedAsLong (Err (of_read e))
+refused_as_long read.TooLong = inl refl
+refused_as_long read.Failed = inr (inl refl)
+refused_as_long read.Memory = inr (inr refl)

@@ -1,5 +1,5 @@
 -- A primary's run: the script that is read, and the stream that is served.
-use Rattle.std.specs.Prelude.{◌≡◌, ◌≢◌, ◌⊎◌, ℕ, ◌<◌, List, length, Option, Some, IfSome, Result, Ok, Err}
+use Rattle.std.specs.Prelude.{◌≡◌, ◌≢◌, ◌⊎◌, ℕ, ◌<◌, ◌≤◌, List, length, Option, Some, IfSome, Result, Ok, Err}
 use Rattle.tsig_port.specs.Tsig.{TsigKey}
 use Rattle.xfr_services.specs.Items.{Sending}
 use Rattle.zone_script.specs.Script.{Script, script_of}
@@ -58,10 +58,11 @@ RunsText SendsOf text s (Err why.Memory) = IsUnserved s ⊎ ServesScript SendsOf
 RunsText SendsOf text s (Err why.ScriptFault) = ⊥
 RunsText SendsOf text s (Err why.ScriptTooLong) = ⊥
 
--- the source of a script, where it tells its octets, had this text
+-- the source of a script, where it tells its octets, had this text, which isn't too long
 pub record ReadsScript (Runs : List ℕ → Type 0) (script : Option (List ℕ)) : Type 0 where
   pub text : List ℕ
   pub told : IfSome script (λ octets. octets ≡ text)
+  pub fits : length text ≤ 16777216
   pub runs : Runs text
 
 -- One case for each answer of a run.
@@ -70,3 +71,7 @@ RunsPrimary SendsOf script s (Err why.ScriptFault) = IsUnserved s
 RunsPrimary SendsOf script s (Err why.ScriptTooLong) = IfSome script (λ octets. 16777216 < length octets) × IsUnserved s
 RunsPrimary SendsOf script s (Err why.Memory) = IsUnserved s ⊎ ReadsScript (λ text. RunsText SendsOf text s (Err why.Memory)) script
 RunsPrimary SendsOf script s answer = ReadsScript (λ text. RunsText SendsOf text s answer) script
+
+-- a script that is too long is refused as that, unless a fault or want of memory hides it
+abbrev pub IsRefusedAsLong : Result Served PrimaryError → Type 0
+IsRefusedAsLong answer = (answer ≡ Err why.ScriptTooLong) ⊎ ((answer ≡ Err why.ScriptFault) ⊎ (answer ≡ Err why.Memory))

@@ -1,9 +1,9 @@
 //! A script's primary, which serves a stream.
-ghost use Rattle.std.specs.Prelude.{◌≡◌, ◌≢◌, Err, IfOk};
+ghost use Rattle.std.specs.Prelude.{◌≡◌, ◌≢◌, ◌<◌, ℕ, List, length, Some, Err, IfOk};
 ghost use Rattle.zone_devices.specs.Calls.{Rose};
 ghost use Rattle.zone_serving.specs.StreamServing.{request_at};
 ghost use Rattle.zone_primary_run.specs.ScriptPrimaries.{AreTold, primary_with, provider_of, versions_of};
-ghost use Rattle.zone_primary_run.specs.PrimaryRuns.{MakesPrimary, RunsPrimary, RunsText, stream_of};
+ghost use Rattle.zone_primary_run.specs.PrimaryRuns.{IsRefusedAsLong, MakesPrimary, RunsPrimary, RunsText, stream_of};
 
 use crate::errors::PrimaryError;
 use crate::making::{Primary, primary_of};
@@ -29,6 +29,8 @@ pub fn run_primary<R, F: Source, S: Source, K: Sink>(
     // What was served, by the answer: the stream by the script's primary; or nothing, where there is no such script.
     ensures runs { RunsPrimary (λ p m. ⟦<Primary as Service<()>>⟧.Sends p (request_at m at)) (F.remaining script.old)
         (stream_of (S.remaining src.old) (S.remaining src.new) (K.taken sink.old) (K.taken sink.new)) result }
+    // A script that is too long.
+    ensures too_long { (text : List ℕ) → F.remaining script.old ≡ Some text → 16777216 < length text → IsRefusedAsLong result }
     // The faults.
     ensures script_failed { result ≡ Err PrimaryError.ScriptFault → Rose (F.faults script.old) (F.faults script.new) }
     ensures script_steady { result ≢ Err PrimaryError.ScriptFault → F.faults script.new ≡ F.faults script.old }

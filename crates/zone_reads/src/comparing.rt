@@ -14,7 +14,8 @@ use name_keys::NameKeyRef;
 use zone_nodes::{TreeSet, TreeSets};
 
 /// Whether two versions have sets of the same owners, types and TTLs with the same data, but for the order of a set's data and the case of
-/// letters in names (RFC 2181, 5; RFC 4343). Apex and class aren't looked at. Within a set each datum is compared with each of the other's.
+/// letters in names (RFC 2181, 5; RFC 4343). Apex and class aren't looked at. Two sets are compared
+/// datum by datum in their order, and each datum with each of the other's only where that fails.
 #[tactic(auto, using(crate::proofs::Walks::same_sets))]
 pub fn is_same(one: &ReadZone, other: &ReadZone) -> bool
     ensures { result ≡ same_version one.now.version other.now.version }

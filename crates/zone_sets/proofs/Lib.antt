@@ -4,3 +4,4 @@ pub mod SetWrites
 pub mod Thinning
 mod Retained
 mod Telling
+mod Siblings

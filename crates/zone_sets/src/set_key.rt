@@ -1,6 +1,6 @@
 // Where a record set stands in a version.
 ghost use Rattle.std.specs.Prelude.{◌≡◌};
-ghost use Rattle.dns_name.specs.Names.{fold};
+ghost use Rattle.dns_name.specs.Names.{fold, spelling_cmp};
 ghost use Rattle.zone_model.specs.Version.{key_cmp};
 
 use dns_name::{KeyName, Labelled, Rtype, compare_spelling};
@@ -122,6 +122,20 @@ impl Ord for SetKey {
     ghost matches_eq = { λ k l. refl };
 
     fn cmp(&self, other: &SetKey) -> Ordering {
-        compare_spelling(&self.owner, &other.owner).then(self.rtype.cmp(&other.rtype))
+        compare_owners(&self.owner, &other.owner).then(self.rtype.cmp(&other.rtype))
     }
+}
+
+/// The order of two names as they are spelled. The first labels alone are compared where all others are the same, as in one zone they often are.
+fn compare_owners(a: &KeyName, b: &KeyName) -> Ordering
+    ensures { result ≡ spelling_cmp a.now b.now }
+{
+    let (left, right) = (a.borrowed(), b.borrowed());
+    if let Some((x, left_tail)) = left.split_first()
+        && let Some((y, right_tail)) = right.split_first()
+        && left_tail.as_slice() == right_tail.as_slice()
+    {
+        return x.as_slice().cmp(y.as_slice());
+    }
+    compare_spelling(a, b)
 }
