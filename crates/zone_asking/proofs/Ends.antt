@@ -18,7 +18,7 @@ use Rattle.zone_sync.specs.declared.program.Status.{Status}
 use Rattle.zone_sync.specs.declared.program.Status.TheVariants as ends
 use Rattle.zone_asking.specs.declared.limits.Limits.{Limits}
 use Rattle.zone_asking.specs.declared.errors.AskError.{AskError}
-use Rattle.zone_asking.specs.declared.errors.AskError.TheVariants.{Transfer, Response, Cut, Limit, SourceFault, SinkFault}
+use Rattle.zone_asking.specs.declared.errors.AskError.TheVariants.{Transfer, Response, Cut, Limit, FullSet, SourceFault, SinkFault}
 use Rattle.zone_asking.specs.Answers.{sync_answer}
 use Rattle.zone_asking.specs.Exchanges.{Crossing, ComesLater, IsUnmade, Asks, Exchanges}
 use Rattle.zone_asking.specs.Retries.{ExchangesByRule}
@@ -46,6 +46,7 @@ cause (Err SourceFault) source sink unlinked f g h = inl (f refl)
 cause (Err SinkFault) source sink unlinked f g h = inr (g refl)
 cause (Err Cut) source sink unlinked f g h = cc
 cause (Err (Limit which)) source sink unlinked f g h = cc
+cause (Err FullSet) source sink unlinked f g h = cc
 cause (Err (Response code)) source sink unlinked f g h = cc
 cause (Err (Transfer why.LinkFault)) source sink unlinked f g h = absurd (unlinked refl)
 cause (Err (Transfer why.Memory)) source sink unlinked f g h = cc
@@ -70,6 +71,7 @@ source_rose (Err SourceFault) old new steady rose = refl
 source_rose (Ok done) old new steady rose = absurd (not_steady old new rose (steady (λ e. cc)))
 source_rose (Err SinkFault) old new steady rose = refl
 source_rose (Err (Limit which)) old new steady rose = absurd (not_steady old new rose (steady (λ e. cc)))
+source_rose (Err FullSet) old new steady rose = absurd (not_steady old new rose (steady (λ e. cc)))
 source_rose (Err Cut) old new steady rose = absurd (not_steady old new rose (steady (λ e. cc)))
 source_rose (Err (Response code)) old new steady rose = absurd (not_steady old new rose (steady (λ e. cc)))
 source_rose (Err (Transfer e)) old new steady rose = absurd (not_steady old new rose (steady (λ h. cc)))
@@ -79,6 +81,7 @@ sink_rose (Err SourceFault) old new steady rose = refl
 sink_rose (Ok done) old new steady rose = absurd (not_steady old new rose (steady (λ e. cc)))
 sink_rose (Err SinkFault) old new steady rose = refl
 sink_rose (Err (Limit which)) old new steady rose = absurd (not_steady old new rose (steady (λ e. cc)))
+sink_rose (Err FullSet) old new steady rose = absurd (not_steady old new rose (steady (λ e. cc)))
 sink_rose (Err Cut) old new steady rose = absurd (not_steady old new rose (steady (λ e. cc)))
 sink_rose (Err (Response code)) old new steady rose = absurd (not_steady old new rose (steady (λ e. cc)))
 sink_rose (Err (Transfer e)) old new steady rose = absurd (not_steady old new rose (steady (λ h. cc)))

@@ -1,6 +1,7 @@
 mod Limiting
 mod Streams
 mod Tellings
+mod Rooms
 mod Replies
 mod Requests
 mod TwoExchanges

@@ -12,6 +12,8 @@ use Rattle.message_frames.specs.declared.reading.FrameError.{FrameError}
 use Rattle.message_frames.specs.declared.reading.FrameError.TheVariants as frame
 use Rattle.zone_sync.specs.SoFar.{Asking, client_so_far}
 use Rattle.zone_sync.specs.Standing.{ClientState, asking_of, Stands, RefusesReply, TakesReply}
+use Rattle.zone_sync.specs.Steps.{numbers_left}
+use Rattle.zone_sync.specs.Room.{AllHaveRoom, KeepsRoom, reply_updates, ReplyStopsFull}
 use Rattle.zone_sync.specs.Transfers.{HasShort, Transfers}
 use Rattle.zone_sync.specs.Transfers as over_link
 use Rattle.zone_sync.specs.declared.outcome.SyncOk.{SyncOk}
@@ -21,16 +23,17 @@ use Rattle.zone_sync.proofs.Replying.{no_end, no_link_fault, comes_later, refuse
 use Rattle.zone_asking.specs.declared.limits.Limits.{Limits}
 use Rattle.zone_asking.specs.declared.limits.Limit as kinds
 use Rattle.zone_asking.specs.declared.errors.AskError.{AskError}
-use Rattle.zone_asking.specs.declared.errors.AskError.TheVariants.{Transfer, Response, Cut, Limit, SourceFault, SinkFault}
-use Rattle.zone_asking.specs.Answers.{sync_error, sync_answer, code_in, told_by, TellsCode}
+use Rattle.zone_asking.specs.declared.errors.AskError.TheVariants.{Transfer, Response, Cut, Limit, FullSet, SourceFault, SinkFault}
+use Rattle.zone_asking.specs.Answers.{sync_error, sync_answer, code_in, told_by, told_of, TellsCode}
 use Rattle.zone_asking.specs.Failures.{of_frame, ComesOfReading}
 use Rattle.zone_asking.specs.Streams.{LeavesBy, Reads, ReadSoFar}
 use Rattle.zone_asking.specs.Exchanges.{ComesLater, EndsSo, TakenSoFar}
 use Rattle.zone_asking.proofs.Streams.{begins, reads_to, takes_none}
 use Rattle.zone_asking.proofs.Tellings.{last_one, told_code}
+use Rattle.zone_asking.proofs.Rooms.{one_behind}
 
 pub starts : (limits : Limits) (over : Option ℕ) (a : Asking) (o : Option (List ℕ)) (c : ClientState) (s : Session) (before handles : List Commit) → Stands c s a [] before handles → TakenSoFar limits over a o o limits c s before handles 0
-starts limits over a o c s before handles st = record { taken = []; count = refl; reads = begins limits over o; stands = st }
+starts limits over a o c s before handles st = record { taken = []; count = refl; reads = begins limits over o; room = tt; stands = st }
 
 -- a client takes for what it asked with
 pub reply_takes : (a : Asking) (c d : ClientState) (s t : Session) (taken : List (List ℕ)) (before handles later : List Commit) (m : List ℕ) (r : Result (Option SyncOk) SyncError)
@@ -49,24 +52,26 @@ no_reply limits over a old mid new left c s before handles n e k few of reads = 
     room = subst (λ l. l < most_replies) (sym k.count) few
 
     ends : (d : AskError) → e ≡ d → Transfers a k.taken before handles s (Err (sync_error d)) → ((x : ShortMessage) → ◌≡◌ {A = Result SyncOk AskError} (Err d) (Err (Transfer (why.Short x))) → HasShort k.taken) → TellsCode k.taken (Err d) → ComesLater (Err d)
-        → EndsSo limits over a old new before handles s (Err e)
-    ends d is t short code later = subst (λ (x : AskError). EndsSo limits over a old new before handles s (Err x)) (sym is) (record {
+        → (◌≡◌ {A = Result SyncOk AskError} (Err d) (Err FullSet) → ⊥) → EndsSo limits over a old new before handles s (Err e)
+    ends d is t short code later other = subst (λ (x : AskError). EndsSo limits over a old new before handles s (Err x)) (sym is) (record {
       replies = k.taken;
       reads = subst (λ (x : AskError). Reads limits over k.taken old new (Err x)) is reads;
       transfers = t;
+      sets = inl k.room;
+      full = λ h. absurd (other h);
       short = short;
       code = code;
       later = later;
     })
 
     of_source : (x : FrameError) → e ≡ of_frame x → EndsSo limits over a old new before handles s (Err e)
-    of_source frame.Cut is = ends Cut is (link_ends a c s before handles k.taken k.stands room) (λ x h. absurd (cc h)) tt tt
-    of_source frame.Fault is = ends SourceFault is (link_fails a c s before handles k.taken k.stands room) (λ x h. absurd (cc h)) tt tt
-    of_source frame.Memory is = ends (Transfer why.Memory) is (memory_ends a c s before handles k.taken k.stands room) (λ x h. absurd (cc h)) tt tt
+    of_source frame.Cut is = ends Cut is (link_ends a c s before handles k.taken k.stands room) (λ x h. absurd (cc h)) tt tt (λ h. cc h)
+    of_source frame.Fault is = ends SourceFault is (link_fails a c s before handles k.taken k.stands room) (λ x h. absurd (cc h)) tt tt (λ h. cc h)
+    of_source frame.Memory is = ends (Transfer why.Memory) is (memory_ends a c s before handles k.taken k.stands room) (λ x h. absurd (cc h)) tt tt (λ h. cc h)
 
     by : ComesOfReading e → EndsSo limits over a old new before handles s (Err e)
     by (inl x) = of_source x.0 x.1
-    by (inr x) = ends (Limit x.0) x.1 (link_ends a c s before handles k.taken k.stands room) (λ y h. absurd (cc h)) tt tt
+    by (inr x) = ends (Limit x.0) x.1 (link_ends a c s before handles k.taken k.stands room) (λ y h. absurd (cc h)) tt tt (λ h. cc h)
 
 pub no_more : (limits : Limits) (over : Option ℕ) (a : Asking) (old mid new : Option (List ℕ)) (left : Limits) (c : ClientState) (s : Session) (before handles : List Commit) (n : ℕ) → (k : TakenSoFar limits over a old mid left c s before handles n) → n < most_replies
     → Reads limits over k.taken old new (Err (Transfer why.Ended)) → EndsSo limits over a old new before handles s (Err (Transfer why.Ended))
@@ -74,6 +79,8 @@ no_more limits over a old mid new left c s before handles n k few reads = record
   replies = k.taken;
   reads = reads;
   transfers = link_ends a c s before handles k.taken k.stands (subst (λ l. l < most_replies) (sym k.count) few);
+  sets = inl k.room;
+  full = λ h. absurd (cc h);
   short = λ e h. absurd (cc h);
   code = tt;
   later = tt;
@@ -85,6 +92,8 @@ all_came limits over a old new left c s before handles n k many = record {
   replies = k.taken;
   reads = reads_to limits over k.taken old new new left (Err (Transfer why.TooManyMessages)) k.reads refl;
   transfers = too_many a c s before handles k.taken k.stands (k.count ∙ many);
+  sets = inl k.room;
+  full = λ h. absurd (cc h);
   short = λ e h. absurd (cc h);
   code = tt;
   later = tt;
@@ -181,25 +190,86 @@ same_error e f h = ap (λ r. err_of r e) h
 is_short : (e : SyncError) (code : ℕ) (x : ShortMessage) → ◌≡◌ {A = Result SyncOk AskError} (Err (told_by e code)) (Err (Transfer (why.Short x))) → e ≡ why.Short x
 is_short e code x h = sym (told_same e code) ∙ ap sync_error (same_error (told_by e code) (Transfer (why.Short x)) h)
 
+-- no such error tells of a full set
+choice_other : (b : Bool) (code : ℕ) → ◌≡◌ {A = Result SyncOk AskError} (Err (if b then Transfer (why.Xfr message.NotValidXfrResponse) else Response code)) (Err FullSet) → ⊥
+choice_other true code h = cc h
+choice_other false code h = cc h
+
+told_other : (e : SyncError) (code : ℕ) → ◌≡◌ {A = Result SyncOk AskError} (Err (told_by e code)) (Err FullSet) → ⊥
+told_other (why.Xfr message.NotValidXfrResponse) code h = choice_other (code == 0) code h
+told_other (why.Xfr message.ParseError) code h = cc h
+told_other (why.Xfr message.Malformed) code h = cc h
+told_other (why.Xfr message.Finished) code h = cc h
+told_other why.NoSoa code h = cc h
+told_other (why.Request x) code h = cc h
+told_other why.LinkFault code h = cc h
+told_other why.Ended code h = cc h
+told_other (why.Short x) code h = cc h
+told_other (why.Primary x) code h = cc h
+told_other why.TooManyMessages code h = cc h
+told_other (why.Tsig x) code h = cc h
+told_other why.OtherAnswer code h = cc h
+told_other (why.Iteration x) code h = cc h
+told_other (why.Update x) code h = cc h
+told_other why.VersionsExhausted code h = cc h
+told_other why.Memory code h = cc h
+
 pub ends_refused : (limits : Limits) (over : Option ℕ) (a : Asking) (old mid new : Option (List ℕ)) (left rest : Limits) (c : ClientState) (s t : Session) (before handles later : List Commit) (n : ℕ) (m : List ℕ) (e : SyncError) (code : ℕ)
-    → (k : TakenSoFar limits over a old mid left c s before handles n) → n < most_replies → ReadSoFar limits over (k.taken ++ m ∷ []) old new rest → code ≡ code_in m → RefusesReply a t before later k.taken m e → EndsSo limits over a old new before later t (Err (told_by e code))
-ends_refused limits over a old mid new left rest c s t before handles later n m e code k few reads is r = record {
+    → (k : TakenSoFar limits over a old mid left c s before handles n) → n < most_replies → ReadSoFar limits over (k.taken ++ m ∷ []) old new rest → code ≡ code_in m → RefusesReply a t before later k.taken m e
+    → KeepsRoom limits.set_records a.base before t later (client_so_far a k.taken).progress (reply_updates a k.taken m) → EndsSo limits over a old new before later t (Err (told_by e code))
+ends_refused limits over a old mid new left rest c s t before handles later n m e code k few reads is r kept = record {
   replies = k.taken ++ m ∷ [];
   reads = reads_to limits over (k.taken ++ m ∷ []) old new new rest (Err (told_by e code)) reads (told_leaves limits reads.read e code new (no_end a t before later k.taken m e k.stands.stands.unmet r));
   transfers =
       subst (λ (x : SyncError). Transfers a (k.taken ++ m ∷ []) before later t (Err x)) (sym (told_same e code))
       (refuses a t before later k.taken m e k.stands.stands.passed k.stands.stands.unmet (one_more k.taken m n k.count few) r);
+  sets = inr (record { taken = k.taken; last = m; all = refl; room = k.room; kept = kept });
+  full = λ h. absurd (told_other e code h);
   short = λ x h. has_short k.taken m k.stands.stands.passed.headed (subst (λ (y : SyncError). RefusesReply a t before later k.taken m y) (is_short e code x h) r).0;
   code = told_code (k.taken ++ m ∷ []) e code (last_one k.taken m ∙ sym is);
   later = told_later e code (comes_later a t before later k.taken m e k.stands.stands.unmet r) (no_link_fault a t before later k.taken m e k.stands.stands.unmet r);
 }
 
+-- .. since it would add to a full set
+ends_full : (limits : Limits) (over : Option ℕ) (a : Asking) (old mid new : Option (List ℕ)) (left rest : Limits) (c : ClientState) (s t : Session) (before handles later : List Commit) (n : ℕ) (m : List ℕ)
+    → (k : TakenSoFar limits over a old mid left c s before handles n) → n < most_replies → ReadSoFar limits over (k.taken ++ m ∷ []) old new rest → RefusesReply a t before later k.taken m why.Memory
+    → ReplyStopsFull limits.set_records a t before later k.taken m → EndsSo limits over a old new before later t (Err FullSet)
+ends_full limits over a old mid new left rest c s t before handles later n m k few reads r stops = record {
+  replies = k.taken ++ m ∷ [];
+  reads = reads_to limits over (k.taken ++ m ∷ []) old new new rest (Err FullSet) reads refl;
+  transfers = refuses a t before later k.taken m why.Memory k.stands.stands.passed k.stands.stands.unmet (one_more k.taken m n k.count few) r;
+  sets = inr (record { taken = k.taken; last = m; all = refl; room = k.room; kept = stops.kept });
+  full = λ h. record { taken = k.taken; last = m; all = refl; stops = stops };
+  short = λ x h. absurd (cc h);
+  code = tt;
+  later = tt;
+}
+
+refused_as : (e : SyncError) → ◌≡◌ {A = Result (Option SyncOk) SyncError} (Err e) (Err why.Memory) → e ≡ why.Memory
+refused_as e h = ap (λ (r : Result (Option SyncOk) SyncError). of_err r e) h
+  where
+    of_err : Result (Option SyncOk) SyncError → SyncError → SyncError
+    of_err (Ok x) d = d
+    of_err (Err x) d = x
+
+pub ends_told : (full : Bool) (limits : Limits) (over : Option ℕ) (a : Asking) (old mid new : Option (List ℕ)) (left rest : Limits) (c : ClientState) (s t : Session) (before handles later : List Commit) (n : ℕ) (m : List ℕ) (e : SyncError) (code : ℕ)
+    → (k : TakenSoFar limits over a old mid left c s before handles n) → n < most_replies → ReadSoFar limits over (k.taken ++ m ∷ []) old new rest → code ≡ code_in m → RefusesReply a t before later k.taken m e
+    → KeepsRoom limits.set_records a.base before t later (client_so_far a k.taken).progress (reply_updates a k.taken m)
+    → (full ≡ true → ◌≡◌ {A = Result (Option SyncOk) SyncError} (Err e) (Err why.Memory)) → (full ≡ true → ReplyStopsFull limits.set_records a t before later k.taken m) → EndsSo limits over a old new before later t (Err (told_of full e code))
+ends_told true limits over a old mid new left rest c s t before handles later n m e code k few reads is r kept memory stops =
+    ends_full limits over a old mid new left rest c s t before handles later n m k few reads (subst (λ (x : SyncError). RefusesReply a t before later k.taken m x) (refused_as e (memory refl)) r) (stops refl)
+ends_told false limits over a old mid new left rest c s t before handles later n m e code k few reads is r kept memory stops =
+    ends_refused limits over a old mid new left rest c s t before handles later n m e code k few reads is r kept
+
 pub ends_well : (limits : Limits) (over : Option ℕ) (a : Asking) (old mid new : Option (List ℕ)) (left rest : Limits) (c d : ClientState) (s t : Session) (before handles later : List Commit) (n : ℕ) (m : List ℕ) (done : SyncOk)
-    → (k : TakenSoFar limits over a old mid left c s before handles n) → n < most_replies → ReadSoFar limits over (k.taken ++ m ∷ []) old new rest → TakesReply a d t before later k.taken m (Ok (Some done)) → EndsSo limits over a old new before later t (Ok done)
-ends_well limits over a old mid new left rest c d s t before handles later n m done k few reads r = record {
+    → (k : TakenSoFar limits over a old mid left c s before handles n) → n < most_replies → ReadSoFar limits over (k.taken ++ m ∷ []) old new rest → TakesReply a d t before later k.taken m (Ok (Some done))
+    → AllHaveRoom limits.set_records (numbers_left a.base) (client_so_far a k.taken).progress (reply_updates a k.taken m) → EndsSo limits over a old new before later t (Ok done)
+ends_well limits over a old mid new left rest c d s t before handles later n m done k few reads r room = record {
   replies = k.taken ++ m ∷ [];
   reads = reads_to limits over (k.taken ++ m ∷ []) old new new rest (Ok done) reads refl;
   transfers = finishes a d t before later k.taken m done k.stands.stands.passed (one_more k.taken m n k.count few) r;
+  sets = inl (one_behind limits.set_records a [] k.taken m k.room room);
+  full = λ h. absurd (cc h);
   short = λ x h. absurd (cc h);
   code = tt;
   later = tt;
@@ -208,10 +278,12 @@ ends_well limits over a old mid new left rest c d s t before handles later n m d
 -- ---- or it goes on
 
 pub takes_on : (limits : Limits) (over : Option ℕ) (a : Asking) (old mid new : Option (List ℕ)) (left rest : Limits) (c d : ClientState) (s t : Session) (before handles later : List Commit) (n : ℕ) (m : List ℕ)
-    → (k : TakenSoFar limits over a old mid left c s before handles n) → ReadSoFar limits over (k.taken ++ m ∷ []) old new rest → TakesReply a d t before later k.taken m (Ok None) → TakenSoFar limits over a old new rest d t before later (n + 1)
-takes_on limits over a old mid new left rest c d s t before handles later n m k reads r = record {
+    → (k : TakenSoFar limits over a old mid left c s before handles n) → ReadSoFar limits over (k.taken ++ m ∷ []) old new rest → TakesReply a d t before later k.taken m (Ok None)
+    → AllHaveRoom limits.set_records (numbers_left a.base) (client_so_far a k.taken).progress (reply_updates a k.taken m) → TakenSoFar limits over a old new rest d t before later (n + 1)
+takes_on limits over a old mid new left rest c d s t before handles later n m k reads r room = record {
   taken = k.taken ++ m ∷ [];
   count = length-append k.taken (m ∷ []) ∙ ap (λ l. l + 1) k.count;
   reads = reads;
+  room = one_behind limits.set_records a [] k.taken m k.room room;
   stands = r;
 }

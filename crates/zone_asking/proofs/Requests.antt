@@ -17,6 +17,7 @@ use Rattle.zone_asking.specs.declared.errors.AskError.{AskError}
 use Rattle.zone_asking.specs.declared.errors.AskError.TheVariants.{Transfer, SinkFault}
 use Rattle.zone_asking.specs.Exchanges.{crossing, EndsSo, Crossing, Exchanges}
 use Rattle.zone_asking.proofs.Streams.{begins, reads_to, takes_none}
+use Rattle.zone_asking.proofs.Rooms.{sets_rolled, full_rolled}
 
 -- it can't be made
 pub not_made : (limits : Limits) (over : Option ℕ) (a : Asking) (left sink : Option (List ℕ)) (before : List Commit) (s : Session) (e : SyncError) → CantAsk a 65535 e → s.current ≡ a.base → Exchanges limits over a (crossing left left sink sink) before before s (Err (Transfer e))
@@ -25,6 +26,8 @@ not_made limits over a left sink before s why.NoSoa h c = record {
   asks = inl (record { cause = h; unread = refl; unwritten = refl; none = refl });
   reads = reads_to limits over [] left left left limits (Err (Transfer why.NoSoa)) (begins limits over left) refl;
   transfers = ends_before a s before before why.NoSoa tt (at_rest a s before c);
+  sets = inl tt;
+  full = λ k. absurd (cc k);
   short = λ x k. absurd (cc k);
   code = tt;
 }
@@ -33,6 +36,8 @@ not_made limits over a left sink before s (why.Request push.ShortBuf) h c = reco
   asks = inl (record { cause = h; unread = refl; unwritten = refl; none = refl });
   reads = reads_to limits over [] left left left limits (Err (Transfer (why.Request push.ShortBuf))) (begins limits over left) refl;
   transfers = ends_before a s before before (why.Request push.ShortBuf) tt (at_rest a s before c);
+  sets = inl tt;
+  full = λ k. absurd (cc k);
   short = λ x k. absurd (cc k);
   code = tt;
 }
@@ -41,6 +46,8 @@ not_made limits over a left sink before s why.Memory h c = record {
   asks = inl (record { cause = h; unread = refl; unwritten = refl; none = refl });
   reads = reads_to limits over [] left left left limits (Err (Transfer why.Memory)) (begins limits over left) (takes_none left);
   transfers = ends_before a s before before why.Memory tt (at_rest a s before c);
+  sets = inl tt;
+  full = λ k. absurd (cc k);
   short = λ x k. absurd (cc k);
   code = tt;
 }
@@ -66,6 +73,8 @@ not_sent_so limits over a left old new before s m n can is part c = record {
   asks = inr (inl (record { can = can; failed = refl; unread = refl; count = n; part = part ∙ ap (λ l. with_more (take n (frame_of l)) old) is; none = refl }));
   reads = reads_to limits over [] left left left limits (Err SinkFault) (begins limits over left) refl;
   transfers = ends_before a s before before why.LinkFault tt (at_rest a s before c);
+  sets = inl tt;
+  full = λ k. absurd (cc k);
   short = λ x k. absurd (cc k);
   code = tt;
 }
@@ -83,6 +92,8 @@ replied limits over a left later old new before handles s m answer can is took k
   asks = inr (inr (record { can = can; later = k.later; frame = took ∙ ap (λ l. with_more (frame_of l) old) is }));
   reads = k.reads;
   transfers = k.transfers;
+  sets = k.sets;
+  full = k.full;
   short = k.short;
   code = k.code;
 }
@@ -94,6 +105,8 @@ rolled_exchanges limits over a x before handles s t answer e k = record {
   asks = k.asks;
   reads = k.reads;
   transfers = record { versions = k.transfers.versions; spelt = k.transfers.spelt; made = made_rolled a.base before handles s t k.transfers.versions e k.transfers.made; answers = k.transfers.answers };
+  sets = sets_rolled limits.set_records a k.replies before handles s t e k.sets;
+  full = λ h. full_rolled limits.set_records a k.replies before handles s t e (k.full h);
   short = k.short;
   code = k.code;
 }

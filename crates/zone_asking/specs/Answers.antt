@@ -1,5 +1,5 @@
 -- The answers of a transfer over streams, as those of a transfer over a link.
-use Rattle.std.specs.Prelude.{◌≡◌, ◌≢◌, ℕ, ◌==◌, if◌then◌else◌, List, [], ◌∷◌, Result, Ok, Err}
+use Rattle.std.specs.Prelude.{◌≡◌, ◌≢◌, Bool, true, false, ℕ, ◌==◌, if◌then◌else◌, List, [], ◌∷◌, Result, Ok, Err}
 use Rattle.dns_wire.specs.Wire.{header_in}
 use Rattle.xfr_course.specs.Courses.{has_header}
 use Rattle.xfr_client.specs.declared.protocol.Error.TheVariants.{NotValidXfrResponse}
@@ -7,15 +7,16 @@ use Rattle.zone_sync.specs.declared.outcome.SyncOk.{SyncOk}
 use Rattle.zone_sync.specs.declared.outcome.SyncError.{SyncError}
 use Rattle.zone_sync.specs.declared.outcome.SyncError.TheVariants as why
 use Rattle.zone_asking.specs.declared.errors.AskError.{AskError}
-use Rattle.zone_asking.specs.declared.errors.AskError.TheVariants.{Transfer, Response, Cut, Limit, SourceFault, SinkFault}
+use Rattle.zone_asking.specs.declared.errors.AskError.TheVariants.{Transfer, Response, Cut, Limit, FullSet, SourceFault, SinkFault}
 
--- the error of a transfer that an error over streams is: a stream that ends within a frame, or isn't read on, ends, and a fault of either stream is one of
--- the link
+-- the error of a transfer that an error over streams is: a stream that ends within a frame, or isn't read on, ends; a reply that would add to a full set
+-- ends where memory would run out; and a fault of either stream is one of the link
 abbrev pub sync_error : AskError → SyncError
 sync_error (Transfer e) = e
 sync_error (Response code) = why.Xfr NotValidXfrResponse
 sync_error Cut = why.Ended
 sync_error (Limit which) = why.Ended
+sync_error FullSet = why.Memory
 sync_error SourceFault = why.LinkFault
 sync_error SinkFault = why.LinkFault
 
@@ -39,6 +40,11 @@ last_code (m ∷ n ∷ more) = last_code (n ∷ more)
 abbrev pub told_by : SyncError → ℕ → AskError
 told_by (why.Xfr NotValidXfrResponse) code = if code == 0 then Transfer (why.Xfr NotValidXfrResponse) else Response code
 told_by e code = Transfer e
+
+-- .. and one that would add to a full set is told as that
+abbrev pub told_of : Bool → SyncError → ℕ → AskError
+told_of true e code = FullSet
+told_of false e code = told_by e code
 
 -- .. and so the answer after some replies: the code is that of the last one
 abbrev pub TellsCode : List (List ℕ) → Result SyncOk AskError → Type 0

@@ -12,8 +12,9 @@ use Rattle.zone_sync.specs.declared.outcome.SyncOk.{SyncOk}
 use Rattle.zone_sync.specs.declared.outcome.SyncError.TheVariants as why
 use Rattle.zone_asking.specs.declared.limits.Limits.{Limits}
 use Rattle.zone_asking.specs.declared.errors.AskError.{AskError}
-use Rattle.zone_asking.specs.declared.errors.AskError.TheVariants.{Transfer, SinkFault}
+use Rattle.zone_asking.specs.declared.errors.AskError.TheVariants.{Transfer, FullSet, SinkFault}
 use Rattle.zone_asking.specs.Answers.{sync_answer, TellsCode}
+use Rattle.zone_asking.specs.Limiting.{RepliesHaveRoom, KeepsSets, AddsToFull}
 use Rattle.zone_asking.specs.Streams.{Reads, ReadSoFar}
 
 -- what a source has left and a sink took, where they tell it, before and after
@@ -74,6 +75,8 @@ pub record EndsSo (limits : Limits) (over : Option ℕ) (a : Asking) (old new : 
   pub replies : List (List ℕ)
   pub reads : Reads limits over replies old new answer
   pub transfers : Transfers a replies before handles s (sync_answer answer)
+  pub sets : KeepsSets limits.set_records a replies before handles s
+  pub full : answer ≡ Err FullSet → AddsToFull limits.set_records a replies before handles s
   pub short : (e : ShortMessage) → answer ≡ Err (Transfer (why.Short e)) → HasShort replies
   pub code : TellsCode replies answer
   pub later : ComesLater answer
@@ -83,6 +86,7 @@ pub record TakenSoFar (limits : Limits) (over : Option ℕ) (a : Asking) (old ne
   pub taken : List (List ℕ)
   pub count : length taken ≡ n
   pub reads : ReadSoFar limits over taken old new left
+  pub room : RepliesHaveRoom limits.set_records a [] taken
   pub stands : Stands c s a taken before handles
 
 -- ---- one exchange
@@ -94,6 +98,9 @@ pub record Exchanges (limits : Limits) (over : Option ℕ) (a : Asking) (x : Cro
   pub asks : Asks a replies x answer
   pub reads : Reads limits over replies x.left_old x.left_new answer
   pub transfers : Transfers a replies before handles s (sync_answer answer)
+  -- no update adds to a full set, and the answer tells of the first that would
+  pub sets : KeepsSets limits.set_records a replies before handles s
+  pub full : answer ≡ Err FullSet → AddsToFull limits.set_records a replies before handles s
   -- the causes of what comes in place of a reply
   pub short : (e : ShortMessage) → answer ≡ Err (Transfer (why.Short e)) → HasShort replies
   pub code : TellsCode replies answer

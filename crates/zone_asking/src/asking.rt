@@ -12,7 +12,7 @@ ghost use Rattle.zone_sync.specs.Handles.{KeepsHandles};
 ghost use Rattle.zone_sync.specs.declared.outcome.SyncError.TheVariants.{Ended};
 ghost use Rattle.zone_asking.specs.declared.limits.Limits.{Limits};
 ghost use Rattle.zone_asking.specs.declared.errors.AskError.TheVariants.{Transfer};
-ghost use Rattle.zone_asking.specs.Answers.{code_in};
+ghost use Rattle.zone_asking.specs.Answers.{code_in, told_of};
 ghost use Rattle.zone_asking.specs.Failures.{ComesOfReading};
 ghost use Rattle.zone_asking.specs.Streams.{has_id, Reads, ReadSoFar};
 ghost use Rattle.zone_asking.specs.Exchanges.{crossing, EndsSo, Exchanges};
@@ -100,7 +100,7 @@ pub(crate) fn ask_passing_over<R, S: Source, K: Sink>(
     ensures sink_failed { result ≡ Err AskError.SinkFault → Rose (K.faults sink.old) (K.faults sink.new) }
     ensures sink_steady { result ≢ Err AskError.SinkFault → K.faults sink.new ≡ K.faults sink.old }
 {
-    let mut client = XfrClient::new(alloc, key, mode, at);
+    let mut client = client_within(alloc, key, mode, at, limits);
     let answer = exchange(
         rt,
         alloc,
@@ -114,6 +114,17 @@ pub(crate) fn ask_passing_over<R, S: Source, K: Sink>(
     );
     drop_pending(session);
     answer
+}
+
+/// A client that made no request yet, and bounds sets as the limits do.
+fn client_within(alloc: Global, key: &Key, mode: XfrMode, at: Time48, limits: &Limits) -> XfrClient
+    ensures { result ≡ record { key = key.now; mode = mode_of mode; at = at; exchange = None; most = limits.now.set_records; full = false } }
+{
+    let mut client = XfrClient::new(alloc, key, mode, at);
+    if let Some(most) = limits.set_records {
+        client.limit_sets(most);
+    }
+    client
 }
 
 /// Drops what an exchange left pending.
@@ -135,6 +146,7 @@ fn exchange<R, S: Source, K: Sink>(
     sink: &mut K,
     made: &mut Vec<ReadZone>,
 ) -> Result<SyncOk, AskError>
+    requires { client.old.most ≡ limits.now.set_records }
     ensures exchanges { Exchanges limits.now over (asking_of client.old session.old.current)
         (crossing (S.remaining src.old) (S.remaining src.new) (K.taken sink.old) (K.taken sink.new)) made.old.items made.new.items session.new result }
     ensures source_failed { result ≡ Err AskError.SourceFault → Rose (S.faults src.old) (S.faults src.new) }
@@ -174,7 +186,8 @@ fn take_replies<R, S: Source>(
     src: &mut S,
     made: &mut Vec<ReadZone>,
 ) -> Result<SyncOk, AskError>
-    requires { IsSome client.old.exchange }
+    requires open { IsSome client.old.exchange }
+    requires most { client.old.most ≡ limits.now.set_records }
     ensures ends { (a : Asking) (before : List Commit) → Stands client.old session.old a [] before made.old.items → EndsSo limits.now over a (S.remaining src.old) (S.remaining src.new) before made.new.items session.new result }
     ensures failed { result ≡ Err AskError.SourceFault → Rose (S.faults src.old) (S.faults src.new) }
     ensures steady { result ≢ Err AskError.SourceFault → S.faults src.new ≡ S.faults src.old }
@@ -191,10 +204,20 @@ fn take_replies<R, S: Source>(
         match client.take(rt, session, reply, made) {
             Ok(None) => {}
             Ok(Some(outcome)) => return Ok(outcome),
-            Err(error) => return Err(refusal(error, code)),
+            Err(error) => return Err(refused(client, error, code)),
         }
     }
     Err(AskError::Transfer(SyncError::TooManyMessages))
+}
+
+/// The error of a reply that a client refused.
+fn refused(client: &XfrClient, error: SyncError, code: Rcode) -> AskError
+    ensures { result ≡ told_of client.now.full error code }
+{
+    if client.has_full_set() {
+        return AskError::FullSet;
+    }
+    refusal(error, code)
 }
 
 /// The next reply of a source, behind messages that are passed over; none where the source is at its end. Each message is read within

@@ -26,6 +26,9 @@ pub enum AskError {
     /// A further reply would pass a limit. It was read, and nothing of it was taken.
     #[error("the replies pass a limit")]
     Limit(Limit),
+    /// A reply adds a record to a set that has as many as the limits allow. It wasn't added; what the updates before it committed stays.
+    #[error("a set has too many records")]
+    FullSet,
     /// The source failed, and its count of faults rose.
     #[error("reading failed")]
     SourceFault,
@@ -43,6 +46,7 @@ impl AskError {
             AskError::Transfer(error) => error,
             AskError::Response(_) => SyncError::Xfr(protocol::Error::NotValidXfrResponse),
             AskError::Cut | AskError::Limit(_) => SyncError::Ended,
+            AskError::FullSet => SyncError::Memory,
             AskError::SourceFault | AskError::SinkFault => SyncError::LinkFault,
         }
     }

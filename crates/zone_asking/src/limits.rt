@@ -13,6 +13,8 @@ pub struct Limits {
     pub octets: u64,
     /// The records that their headers count in their answer sections together.
     pub records: u64,
+    /// The records of one set, an owner's of one type; None for as many as come.
+    pub set_records: Option<usize>,
 }
 
 /// Which limit a further reply would pass.
@@ -35,6 +37,7 @@ impl Limits {
             replies: u32::MAX,
             octets: u64::MAX,
             records: u64::MAX,
+            set_records: None,
         }
     }
 
@@ -58,6 +61,7 @@ impl Limits {
             replies: self.replies - 1,
             octets: self.octets - octets,
             records: self.records - records,
+            set_records: self.set_records,
         })
     }
 }

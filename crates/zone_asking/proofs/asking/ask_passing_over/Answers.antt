@@ -11,12 +11,12 @@ pub returns-clause-exchanges : goal.returns-clause-exchanges
 returns-clause-exchanges g c =
     let a = asks_with c.args.key.now (mode_of c.args.mode) c.args.at c.args.session.now.current in
     let x = crossing (g.S.Source.remaining c.args.src.now) (g.S.Source.remaining c.exchange-answer.new.src) (g.K.Sink.taken c.args.sink.now) (g.K.Sink.taken c.exchange-answer.new.sink) in
-    rolled_exchanges c.args.limits.now c.args.over a x c.args.made.now.items c.exchange-answer.new.made.items c.drop_pending.new.session c.exchange-answer.new.session c.exchange-answer.result c.drop_pending.ensures (rw c.new-client.ensures at c.exchange-answer.ensures.exchanges)
+    rolled_exchanges c.args.limits.now c.args.over a x c.args.made.now.items c.exchange-answer.new.made.items c.drop_pending.new.session c.exchange-answer.new.session c.exchange-answer.result c.drop_pending.ensures (rw c.client_within-client.ensures at c.exchange-answer.ensures.exchanges)
 
 pub returns-clause-settled : goal.returns-clause-settled
 returns-clause-settled g c = nothing_pending c.drop_pending.new.session c.exchange-answer.new.session c.drop_pending.ensures
 
 pub returns-clause-handles : goal.returns-clause-handles
 returns-clause-handles g c =
-    let k = rw c.new-client.ensures at c.exchange-answer.ensures.exchanges in
+    let k = rw c.client_within-client.ensures at c.exchange-answer.ensures.exchanges in
     keeps_handles c.args.session.now.current c.args.made.now.items c.exchange-answer.new.made.items c.exchange-answer.new.session k.transfers.versions k.transfers.made

@@ -8,7 +8,7 @@ abbrev pub invariant-passing : goal.invariant-passing
 invariant-passing g l = record {
   faults : g.S.Source.faults l.src ≡ g.S.Source.faults l.initial.src;
   read : (limits : Limits) (replies : List (List ℕ)) (old : Option (List ℕ)) → ReadSoFar limits l.over replies old (g.S.Source.remaining l.initial.src) l.initial.left
-  → ReadSoFar limits l.over replies old (g.S.Source.remaining l.src) l.left;
+      → ReadSoFar limits l.over replies old (g.S.Source.remaining l.src) l.left;
 }
 
 -- each message counts

@@ -1,7 +1,8 @@
 use Rattle.std.proofs.Common.{refl, sym, ap, ◌∙◌, arith, Some, None, Ok, Err}
 use Rattle.std.proofs.lemmas.Result.{err_from_is_err_and}
 use Rattle.zone_asking.specs.Answers.{code_in}
-use Rattle.zone_asking.proofs.Replies.{starts, reply_takes, no_reply, no_more, all_came, ends_refused, ends_well, takes_on}
+use Rattle.zone_asking.proofs.Replies.{starts, reply_takes, no_reply, no_more, all_came, ends_told, ends_well, takes_on}
+use Rattle.zone_asking.proofs.Rooms.{room_takes, stops_takes}
 use Rattle.zone_asking.proofs.asking.take_replies.Goals as goal
 
 pub returns-in_err-reply-clause-ends : goal.returns-in_err-reply-clause-ends
@@ -26,8 +27,9 @@ returns-in-Ok-Some-clause-ends g c a before st =
     let r = reply_takes a c.taking.client c.take.new.self c.taking.session c.take.new.session k.taken before c.taking.made.items c.take.new.made.items c.in-Some.reply.items (Ok c.in-Ok-Some.field-0) c.in-Ok-Some.ensures.takes k.stands in
     let old = g.S.Source.remaining c.args.src.now in
     let reads = (rw c.in-Some.is at c.in_ok-reply.ensures.reply) c.args.limits.now k.taken old k.reads in
+    let room = room_takes c.args.limits.now.set_records a c.taking.client c.taking.session c.take.new.session k.taken before c.taking.made.items c.take.new.made.items c.in-Some.reply.items (Ok c.in-Ok-Some.field-0) c.taking.invariant.most c.in-Ok-Some.ensures.room k.stands in
     rw c.in-Ok-Some.outcome-is (ends_well c.args.limits.now c.args.over a old (g.S.Source.remaining c.taking.src) (g.S.Source.remaining c.next_reply.new.src) c.taking.left c.next_reply.new.left c.taking.client c.take.new.self c.taking.session c.take.new.session before c.taking.made.items c.take.new.made.items c.taking.count c.in-Some.reply.items c.in-Ok-Some.outcome
-    k c.taking-test.true reads (rw c.in-Ok-Some.field-0-is at r))
+    k c.taking-test.true reads (rw c.in-Ok-Some.field-0-is at r) room)
 
 pub returns-in-Err-clause-ends : goal.returns-in-Err-clause-ends
 returns-in-Err-clause-ends g c a before st =
@@ -36,21 +38,25 @@ returns-in-Err-clause-ends g c a before st =
     let code = c.rcode_of-code.ensures ∙ ap code_in c.as_slice.ensures.value in
     let old = g.S.Source.remaining c.args.src.now in
     let reads = (rw c.in-Some.is at c.in_ok-reply.ensures.reply) c.args.limits.now k.taken old k.reads in
-    rw c.refusal.ensures (ends_refused c.args.limits.now c.args.over a old (g.S.Source.remaining c.taking.src) (g.S.Source.remaining c.next_reply.new.src) c.taking.left c.next_reply.new.left c.taking.client c.taking.session c.take.new.session before c.taking.made.items c.take.new.made.items c.taking.count c.in-Some.reply.items c.in-Err.error c.rcode_of-code.result
-    k c.taking-test.true reads code r)
+    let kept = room_takes c.args.limits.now.set_records a c.taking.client c.taking.session c.take.new.session k.taken before c.taking.made.items c.take.new.made.items c.in-Some.reply.items (Err c.in-Err.error) c.taking.invariant.most c.in-Err.ensures.room k.stands in
+    let stops = stops_takes c.args.limits.now.set_records a c.taking.client c.take.new.self c.taking.session c.take.new.session k.taken before c.taking.made.items c.take.new.made.items c.in-Some.reply.items c.taking.invariant.most c.in-Err.ensures.stops k.stands in
+    rw c.refused.ensures (ends_told c.take.new.self.full c.args.limits.now c.args.over a old (g.S.Source.remaining c.taking.src) (g.S.Source.remaining c.next_reply.new.src) c.taking.left c.next_reply.new.left c.taking.client c.taking.session c.take.new.session before c.taking.made.items c.take.new.made.items c.taking.count c.in-Some.reply.items c.in-Err.error c.rcode_of-code.result
+    k c.taking-test.true reads code r kept c.in-Err.ensures.full stops)
 
 pub taking-preserved : goal.taking-preserved
 taking-preserved g c = record {
   faults = c.in_ok-reply.ensures.steady (λ h. absurd (cc h)) ∙ c.taking.invariant.faults;
   few = omega (arith, c.taking-test.true);
+  most = c.in-Ok-None.ensures.limit ∙ c.taking.invariant.most;
   open = c.in-Ok-None.ensures.open (ap Ok c.in-Ok-None.field-0-is);
   taken = λ a before st.
       let k = c.taking.invariant.taken a before st in
       let r = reply_takes a c.taking.client c.take.new.self c.taking.session c.take.new.session k.taken before c.taking.made.items c.take.new.made.items c.in-Some.reply.items (Ok c.in-Ok-None.field-0) c.in-Ok-None.ensures.takes k.stands in
       let old = g.S.Source.remaining c.args.src.now in
       let reads = (rw c.in-Some.is at c.in_ok-reply.ensures.reply) c.args.limits.now k.taken old k.reads in
+      let room = room_takes c.args.limits.now.set_records a c.taking.client c.taking.session c.take.new.session k.taken before c.taking.made.items c.take.new.made.items c.in-Some.reply.items (Ok c.in-Ok-None.field-0) c.taking.invariant.most c.in-Ok-None.ensures.room k.stands in
       takes_on c.args.limits.now c.args.over a old (g.S.Source.remaining c.taking.src) (g.S.Source.remaining c.next_reply.new.src) c.taking.left c.next_reply.new.left c.taking.client c.take.new.self c.taking.session c.take.new.session before c.taking.made.items c.take.new.made.items c.taking.count c.in-Some.reply.items
-      k reads (rw c.in-Ok-None.field-0-is at r);
+      k reads (rw c.in-Ok-None.field-0-is at r) room;
 }
 
 pub returns-clause-ends : goal.returns-clause-ends
