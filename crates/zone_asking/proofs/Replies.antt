@@ -13,7 +13,7 @@ use Rattle.message_frames.specs.declared.reading.FrameError.TheVariants as frame
 use Rattle.zone_sync.specs.SoFar.{Asking, client_so_far}
 use Rattle.zone_sync.specs.Standing.{ClientState, asking_of, Stands, RefusesReply, TakesReply}
 use Rattle.zone_sync.specs.Steps.{numbers_left}
-use Rattle.zone_sync.specs.Room.{AllHaveRoom, KeepsRoom, reply_updates, ReplyStopsFull}
+use Rattle.zone_sync.specs.Room.{AllHaveRoom, KeepsRoom, reply_updates, ReplyStopsAt}
 use Rattle.zone_sync.specs.Transfers.{HasShort, Transfers}
 use Rattle.zone_sync.specs.Transfers as over_link
 use Rattle.zone_sync.specs.declared.outcome.SyncOk.{SyncOk}
@@ -233,7 +233,7 @@ ends_refused limits over a old mid new left rest c s t before handles later n m 
 -- .. since it would add to a full set
 ends_full : (limits : Limits) (over : Option ℕ) (a : Asking) (old mid new : Option (List ℕ)) (left rest : Limits) (c : ClientState) (s t : Session) (before handles later : List Commit) (n : ℕ) (m : List ℕ)
     → (k : TakenSoFar limits over a old mid left c s before handles n) → n < most_replies → ReadSoFar limits over (k.taken ++ m ∷ []) old new rest → RefusesReply a t before later k.taken m why.Memory
-    → ReplyStopsFull limits.set_records a t before later k.taken m → EndsSo limits over a old new before later t (Err FullSet)
+    → ReplyStopsAt limits.set_records a t before later k.taken m true → EndsSo limits over a old new before later t (Err FullSet)
 ends_full limits over a old mid new left rest c s t before handles later n m k few reads r stops = record {
   replies = k.taken ++ m ∷ [];
   reads = reads_to limits over (k.taken ++ m ∷ []) old new new rest (Err FullSet) reads refl;
@@ -255,7 +255,7 @@ refused_as e h = ap (λ (r : Result (Option SyncOk) SyncError). of_err r e) h
 pub ends_told : (full : Bool) (limits : Limits) (over : Option ℕ) (a : Asking) (old mid new : Option (List ℕ)) (left rest : Limits) (c : ClientState) (s t : Session) (before handles later : List Commit) (n : ℕ) (m : List ℕ) (e : SyncError) (code : ℕ)
     → (k : TakenSoFar limits over a old mid left c s before handles n) → n < most_replies → ReadSoFar limits over (k.taken ++ m ∷ []) old new rest → code ≡ code_in m → RefusesReply a t before later k.taken m e
     → KeepsRoom limits.set_records a.base before t later (client_so_far a k.taken).progress (reply_updates a k.taken m)
-    → (full ≡ true → ◌≡◌ {A = Result (Option SyncOk) SyncError} (Err e) (Err why.Memory)) → (full ≡ true → ReplyStopsFull limits.set_records a t before later k.taken m) → EndsSo limits over a old new before later t (Err (told_of full e code))
+    → (full ≡ true → ◌≡◌ {A = Result (Option SyncOk) SyncError} (Err e) (Err why.Memory)) → (full ≡ true → ReplyStopsAt limits.set_records a t before later k.taken m true) → EndsSo limits over a old new before later t (Err (told_of full e code))
 ends_told true limits over a old mid new left rest c s t before handles later n m e code k few reads is r kept memory stops =
     ends_full limits over a old mid new left rest c s t before handles later n m k few reads (subst (λ (x : SyncError). RefusesReply a t before later k.taken m x) (refused_as e (memory refl)) r) (stops refl)
 ends_told false limits over a old mid new left rest c s t before handles later n m e code k few reads is r kept memory stops =

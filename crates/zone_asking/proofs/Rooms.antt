@@ -5,9 +5,10 @@ use Rattle.zone_model.specs.Session.{Session, rolled_back}
 use Rattle.zone_sync.specs.SoFar.{Asking, client_so_far}
 use Rattle.zone_sync.specs.Steps.{numbers_left}
 use Rattle.zone_sync.specs.Standing.{ClientState, asking_of, Stands}
-use Rattle.zone_sync.specs.Room.{AllHaveRoom, KeepsRoom, reply_updates, ReplyKeepsRoom, ReplyStopsFull}
+use Rattle.zone_sync.specs.Room.{AllHaveRoom, KeepsRoom, reply_updates, ReplyKeepsRoom, ReplyStopsAt}
 use Rattle.zone_sync.specs.declared.outcome.SyncOk.{SyncOk}
 use Rattle.zone_sync.specs.declared.outcome.SyncError.{SyncError}
+use Rattle.zone_sync.specs.declared.outcome.SyncError.TheVariants.{Memory}
 use Rattle.zone_sync.proofs.Clients.{made_rolled}
 use Rattle.zone_asking.specs.Limiting.{RepliesHaveRoom, LastHadRoom, KeepsSets, AddsToFull}
 
@@ -29,12 +30,13 @@ room_takes most a c s t taken before handles later m r e f st =
     subst (λ (n : Option ℕ). ReplyKeepsRoom n a t before later taken m r) e
     (subst (λ (x : Asking). ReplyKeepsRoom c.most x t before later taken m r) st.asks (f a.base taken before (subst (λ (x : Asking). Stands c s x taken before handles) (sym st.asks) st)))
 
-pub stops_takes : (most : Option ℕ) (a : Asking) (c d : ClientState) (s t : Session) (taken : List (List ℕ)) (before handles later : List Commit) (m : List ℕ) → c.most ≡ most
-    → ((base : Commit) (taken : List (List ℕ)) (before : List Commit) → Stands c s (asking_of c base) taken before handles → d.full ≡ true → ReplyStopsFull c.most (asking_of c base) t before later taken m)
-    → Stands c s a taken before handles → d.full ≡ true → ReplyStopsFull most a t before later taken m
-stops_takes most a c d s t taken before handles later m e f st full =
-    subst (λ (n : Option ℕ). ReplyStopsFull n a t before later taken m) e
-    (subst (λ (x : Asking). ReplyStopsFull c.most x t before later taken m) st.asks (f a.base taken before (subst (λ (x : Asking). Stands c s x taken before handles) (sym st.asks) st) full))
+pub stops_takes : (most : Option ℕ) (a : Asking) (c d : ClientState) (s t : Session) (taken : List (List ℕ)) (before handles later : List Commit) (m : List ℕ) (r : Result (Option SyncOk) SyncError) → c.most ≡ most
+    → ((base : Commit) (taken : List (List ℕ)) (before : List Commit) → Stands c s (asking_of c base) taken before handles → r ≡ Err Memory → ReplyStopsAt c.most (asking_of c base) t before later taken m d.full)
+    → Stands c s a taken before handles → r ≡ Err Memory → d.full ≡ true → ReplyStopsAt most a t before later taken m true
+stops_takes most a c d s t taken before handles later m r e f st is full =
+    subst (λ (b : Bool). ReplyStopsAt most a t before later taken m b) full
+    (subst (λ (n : Option ℕ). ReplyStopsAt n a t before later taken m d.full) e
+    (subst (λ (x : Asking). ReplyStopsAt c.most x t before later taken m d.full) st.asks (f a.base taken before (subst (λ (x : Asking). Stands c s x taken before handles) (sym st.asks) st) is)))
 
 -- ---- a rollback at the end changes nothing of it
 
@@ -51,5 +53,5 @@ full_rolled most a replies before handles s t e k = record {
   taken = k.taken;
   last = k.last;
   all = k.all;
-  stops = record { kept = kept_rolled most a k.taken k.last before handles s t e k.stops.kept; next = k.stops.next; behind = k.stops.behind; stops = k.stops.stops; full = k.stops.full };
+  stops = record { kept = kept_rolled most a k.taken k.last before handles s t e k.stops.kept; next = k.stops.next; behind = k.stops.behind; stops = k.stops.stops; test = k.stops.test };
 }

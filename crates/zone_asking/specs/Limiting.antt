@@ -6,7 +6,7 @@ use Rattle.zone_model.specs.Commits.{Commit}
 use Rattle.zone_model.specs.Session.{Session}
 use Rattle.zone_sync.specs.SoFar.{Asking, client_so_far}
 use Rattle.zone_sync.specs.Steps.{numbers_left}
-use Rattle.zone_sync.specs.Room.{AllHaveRoom, KeepsRoom, reply_updates, ReplyStopsFull}
+use Rattle.zone_sync.specs.Room.{AllHaveRoom, KeepsRoom, reply_updates, ReplyStopsAt}
 use Rattle.zone_asking.specs.declared.limits.Limits.{Limits}
 use Rattle.zone_asking.specs.declared.limits.Limit.{Limit}
 use Rattle.zone_asking.specs.declared.limits.Limit.TheVariants.{Replies, Octets, Records}
@@ -72,4 +72,4 @@ pub record AddsToFull (most : Option ℕ) (a : Asking) (replies : List (List ℕ
   pub taken : List (List ℕ)
   pub last : List ℕ
   pub all : replies ≡ taken ++ last ∷ []
-  pub stops : ReplyStopsFull most a s before handles taken last
+  pub stops : ReplyStopsAt most a s before handles taken last true

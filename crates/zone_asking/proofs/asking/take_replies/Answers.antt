@@ -39,9 +39,9 @@ returns-in-Err-clause-ends g c a before st =
     let old = g.S.Source.remaining c.args.src.now in
     let reads = (rw c.in-Some.is at c.in_ok-reply.ensures.reply) c.args.limits.now k.taken old k.reads in
     let kept = room_takes c.args.limits.now.set_records a c.taking.client c.taking.session c.take.new.session k.taken before c.taking.made.items c.take.new.made.items c.in-Some.reply.items (Err c.in-Err.error) c.taking.invariant.most c.in-Err.ensures.room k.stands in
-    let stops = stops_takes c.args.limits.now.set_records a c.taking.client c.take.new.self c.taking.session c.take.new.session k.taken before c.taking.made.items c.take.new.made.items c.in-Some.reply.items c.taking.invariant.most c.in-Err.ensures.stops k.stands in
+    let stops = stops_takes c.args.limits.now.set_records a c.taking.client c.take.new.self c.taking.session c.take.new.session k.taken before c.taking.made.items c.take.new.made.items c.in-Some.reply.items (Err c.in-Err.error) c.taking.invariant.most c.in-Err.ensures.stops k.stands in
     rw c.refused.ensures (ends_told c.take.new.self.full c.args.limits.now c.args.over a old (g.S.Source.remaining c.taking.src) (g.S.Source.remaining c.next_reply.new.src) c.taking.left c.next_reply.new.left c.taking.client c.taking.session c.take.new.session before c.taking.made.items c.take.new.made.items c.taking.count c.in-Some.reply.items c.in-Err.error c.rcode_of-code.result
-    k c.taking-test.true reads code r kept c.in-Err.ensures.full stops)
+    k c.taking-test.true reads code r kept c.in-Err.ensures.full (λ f. stops (c.in-Err.ensures.full f) f))
 
 pub taking-preserved : goal.taking-preserved
 taking-preserved g c = record {
