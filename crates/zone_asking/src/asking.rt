@@ -1,5 +1,5 @@
 //! One exchange over a source and a sink.
-ghost use Rattle.std.specs.Prelude.{◌≡◌, ◌≢◌, ◌≤◌, ◌×◌, ℕ, List, [], ◌∷◌, ◌++◌, false, take, length, Option, IsSome, IfOk, IfErr, IfSome, OnOk, OnErr, Ok, Err, None};
+ghost use Rattle.std.specs.Prelude.{◌≡◌, ◌≢◌, ◌≤◌, ℕ, List, [], ◌∷◌, ◌++◌, false, take, length, Option, IsSome, IfOk, IfErr, IfSome, OnOk, OnErr, Ok, Err, None};
 ghost use Rattle.zone_model.specs.Commits.{Commit};
 ghost use Rattle.zone_model.specs.Session.{rolled_back};
 ghost use Rattle.zone_devices.specs.Calls.{Rose};
@@ -55,8 +55,8 @@ pub fn ask_zone<R, S: Source, K: Sink>(
     sink: &mut K,
     made: &mut Vec<ReadZone>,
 ) -> Result<SyncOk, AskError>
-    // Whatever octets the source gives, replies are taken within the limits, exactly the versions that the checked text of its frames spells are committed, in order, and
-    // the answer is the outcome. The sink takes the frame of the request, and nothing else.
+    // Whatever octets the source gives, no limit is passed, exactly the versions that the checked text of its frames spells are
+    // committed, in order, and the answer is the outcome. The sink takes the frame of the request, and nothing else.
     ensures exchanges { Exchanges limits.now None (asks_with key.now (mode_of mode) at session.old.current)
         (crossing (S.remaining src.old) (S.remaining src.new) (K.taken sink.old) (K.taken sink.new)) made.old.items made.new.items session.new result }
     // Nothing is pending, and no difference is wanted of the next commit.
