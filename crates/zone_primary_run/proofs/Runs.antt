@@ -1,5 +1,5 @@
 -- A primary's run, by what its parts answer.
-use Rattle.std.proofs.Common.{◌≡◌, ℕ, ◌<◌, ◌≤◌, List, length, refl, sym, ap, subst, arith, inl, inr, Option, Some, None, IfSome, Result, Ok, Err}
+use Rattle.std.proofs.Common.{◌≡◌, ℕ, ◌<◌, ◌≤◌, List, length, refl, sym, ap, ◌∙◌, subst, arith, inl, inr, Option, Some, None, IfSome, Result, Ok, Err}
 use Rattle.xfr_services.specs.Items.{Sending}
 use Rattle.zone_devices.specs.declared.read_to_end.ReadError.{ReadError}
 use Rattle.zone_devices.specs.declared.read_to_end.ReadError.TheVariants as read
@@ -9,7 +9,7 @@ use Rattle.zone_serving.specs.declared.errors.ServeError.TheVariants as stream
 use Rattle.zone_serving.specs.declared.serving.Served.{Served}
 use Rattle.zone_primary_run.specs.PrimaryStatuses.{of_read, of_serve}
 use Rattle.zone_primary_run.specs.ScriptPrimaries.{PrimaryParts}
-use Rattle.zone_primary_run.specs.PrimaryRuns.{Stream, SpellsPrimary, ServesScript, RunsText, ReadsScript, RunsPrimary, IsRefusedAsLong}
+use Rattle.zone_primary_run.specs.PrimaryRuns.{Stream, stream_of, SpellsPrimary, MakesPrimary, ServesScript, RunsText, ReadsScript, RunsPrimary, IsRefusedAsLong}
 use Rattle.zone_primary_run.specs.declared.errors.PrimaryError.{PrimaryError}
 use Rattle.zone_primary_run.specs.declared.errors.PrimaryError.TheVariants as why
 
@@ -27,6 +27,30 @@ not_served SendsOf text p s stream.SinkFault spelt k = (serves_script SendsOf te
 not_served SendsOf text p s stream.Short spelt k = (serves_script SendsOf text p s (Err stream.Short) spelt k, λ h. cc)
 not_served SendsOf text p s stream.NoReply spelt k = (serves_script SendsOf text p s (Err stream.NoReply) spelt k, λ h. cc)
 not_served SendsOf text p s stream.TooMany spelt k = (serves_script SendsOf text p s (Err stream.TooMany) spelt k, λ h. cc)
+
+-- .. and to the end
+pub served : (SendsOf : PrimaryParts → List ℕ → Option (List Sending) → Type 0) (text : List ℕ) (p : PrimaryParts) (s : Stream) (done : Served)
+    → SpellsPrimary text p → ServesStream (SendsOf p) s.src_old s.src_new s.sink_old s.sink_new (Ok done) → RunsText SendsOf text s (Ok done)
+served SendsOf text p s done spelt k = serves_script SendsOf text p s (Ok done) spelt k
+
+-- there is no primary of the text, and nothing happens
+pub not_made : (SendsOf : PrimaryParts → List ℕ → Option (List Sending) → Type 0) (text : List ℕ) (left taken : Option (List ℕ)) (e : PrimaryError)
+    → MakesPrimary text (Err e) → RunsText SendsOf text (stream_of left left taken taken) (Err e)
+not_made SendsOf text left taken (why.Line n) m = (m, (refl, refl))
+not_made SendsOf text left taken why.Memory m = inl (refl, refl)
+not_made SendsOf text left taken (why.Stream e) m = absurd m
+not_made SendsOf text left taken why.ScriptFault m = absurd m
+not_made SendsOf text left taken why.ScriptTooLong m = absurd m
+
+-- that the sink failed is told of no other cause
+pub sink_told : (e : ServeError) (r : Result Served PrimaryError) → r ≡ Err (of_serve e) → r ≡ Err (why.Stream stream.SinkFault) → e ≡ stream.SinkFault
+sink_told stream.SinkFault r is h = refl
+sink_told stream.Memory r is h = absurd (cc (sym is ∙ h))
+sink_told stream.Cut r is h = absurd (cc (sym is ∙ h))
+sink_told stream.SourceFault r is h = absurd (cc (sym is ∙ h))
+sink_told stream.Short r is h = absurd (cc (sym is ∙ h))
+sink_told stream.NoReply r is h = absurd (cc (sym is ∙ h))
+sink_told stream.TooMany r is h = absurd (cc (sym is ∙ h))
 
 reads_script : (Runs : List ℕ → Type 0) (script : Option (List ℕ)) (text : List ℕ) → IfSome script (λ octets. text ≡ octets) → length text ≤ 16777216 → Runs text → ReadsScript Runs script
 reads_script Runs None text told fits r = record { text = text; told = tt; fits = fits; runs = r }

@@ -1,9 +1,9 @@
 //! A script's primary, which serves a stream.
-ghost use Rattle.std.specs.Prelude.{◌≡◌, ◌≢◌, ◌<◌, ℕ, List, length, Some, Err, IfOk};
+ghost use Rattle.std.specs.Prelude.{◌≡◌, ◌≢◌, ◌<◌, ◌≤◌, ℕ, List, length, Option, Some, IfSome, Err, IfOk};
 ghost use Rattle.zone_devices.specs.Calls.{Rose};
 ghost use Rattle.zone_serving.specs.StreamServing.{request_at};
 ghost use Rattle.zone_primary_run.specs.ScriptPrimaries.{AreTold, primary_with, provider_of, versions_of};
-ghost use Rattle.zone_primary_run.specs.PrimaryRuns.{IsRefusedAsLong, MakesPrimary, RunsPrimary, RunsText, stream_of};
+ghost use Rattle.zone_primary_run.specs.PrimaryRuns.{IsRefusedAsLong, MakesPrimary, RunsPrimary, stream_of};
 
 use crate::errors::PrimaryError;
 use crate::making::{Primary, primary_of};
@@ -18,6 +18,7 @@ use zone_serving::{ServeError, Served, serve_stream};
 
 /// Reads a script, and has its primary serve a stream of requests to its end, at this moment: of the script its zone, the history and the key count
 /// (docs/SCRIPT.md); what concerns the secondary alone is read and left. Nothing waits, so nothing is asked of `rt`.
+#[tactic(auto, using(crate::proofs::Runs::not_read, crate::proofs::Runs::refused_as_long))]
 pub fn run_primary<R, F: Source, S: Source, K: Sink>(
     rt: &R,
     alloc: Global,
@@ -40,26 +41,28 @@ pub fn run_primary<R, F: Source, S: Source, K: Sink>(
     ensures sink_steady { result ≢ Err (PrimaryError.Stream ServeError.SinkFault) → K.faults sink.new ≡ K.faults sink.old }
 {
     let text = read_whole(alloc, script)?;
-    serve_text(rt, alloc, text.as_slice(), at, src, sink)
+    serve_text(rt, alloc, text, at, src, sink)
 }
 
 /// Has the primary of a text that is a script serve a stream.
 fn serve_text<R, S: Source, K: Sink>(
     rt: &R,
     alloc: Global,
-    text: &[u8],
+    text: Vec<u8>,
     at: Time48,
     src: &mut S,
     sink: &mut K,
 ) -> Result<Served, PrimaryError>
-    ensures runs { RunsText (λ p m. ⟦<Primary as Service<()>>⟧.Sends p (request_at m at)) text.now
+    ensures runs { (script : Option (List ℕ)) → IfSome script (λ octets. text.items ≡ octets) → length text.items ≤ 16777216
+        → RunsPrimary (λ p m. ⟦<Primary as Service<()>>⟧.Sends p (request_at m at)) script
         (stream_of (S.remaining src.old) (S.remaining src.new) (K.taken sink.old) (K.taken sink.new)) result }
+    ensures was_read { result ≢ Err PrimaryError.ScriptFault }
     ensures source_failed { result ≡ Err (PrimaryError.Stream ServeError.SourceFault) → Rose (S.faults src.old) (S.faults src.new) }
     ensures source_steady { result ≢ Err (PrimaryError.Stream ServeError.SourceFault) → S.faults src.new ≡ S.faults src.old }
     ensures sink_failed { result ≡ Err (PrimaryError.Stream ServeError.SinkFault) → Rose (K.faults sink.old) (K.faults sink.new) }
     ensures sink_steady { result ≢ Err (PrimaryError.Stream ServeError.SinkFault) → K.faults sink.new ≡ K.faults sink.old }
 {
-    let primary = read_primary(rt, alloc, text)?;
+    let primary = read_primary(rt, alloc, text.as_slice())?;
     Ok(serve_stream(rt, alloc, &primary, at, src, sink)?)
 }
 
