@@ -1,30 +1,38 @@
 -- Updates of a message that had room, and the one that had none.
-use Rattle.std.proofs.Common.{◌≡◌, ℕ, Bool, true, false, List, [], ◌∷◌, ◌++◌, append-nil, refl, sym, ap, ◌∙◌, subst, Option, Some, None, Result, Ok, Err, inl, inr}
+use Rattle.std.proofs.Common.{◌≡◌, ℕ, Bool, true, false, if◌then◌else◌, List, [], ◌∷◌, ◌++◌, append-nil, refl, sym, ap, ◌∙◌, subst, Option, Some, None, Result, Ok, Err, inl, inr}
 use Rattle.std.specs.Prelude.{◌⊎◌, IfOk}
+use Rattle.tsig_port.specs.Tsig.{TsigKey}
+use Rattle.tsig_port.specs.declared.client.ClientSequence.{ClientSequence}
 use Rattle.zone_model.specs.Commits.{Commit}
-use Rattle.zone_model.specs.Session.{Session}
+use Rattle.zone_model.specs.Session.{Session, rolled_back}
 use Rattle.zone_model.specs.Updates.{Update, Progress, apply_update}
 use Rattle.xfr_model.specs.Applying.{Halt, Held, within, unless_halted, apply_within}
-use Rattle.xfr_model.specs.Machine.{Run}
+use Rattle.xfr_model.specs.Messages.{ReadMessage}
+use Rattle.xfr_model.specs.Read.{OtherAnswer, NotValid, Malformed, Unreadable, AfterEnd, Refused}
+use Rattle.xfr_model.specs.Machine.{Place, Run}
 use Rattle.xfr_client.specs.declared.update.Error.{Error}
 use Rattle.xfr_client.specs.declared.update.Error.TheVariants as errors
 use Rattle.xfr_client.specs.declared.protocol.IterationError.{IterationError}
 use Rattle.xfr_client.specs.declared.protocol.IterationError.TheVariants as items
 use Rattle.xfr_client.specs.Rest.{Rest, NextTold}
-use Rattle.xfr_client.specs.Updating.{Updating, progress_of}
+use Rattle.xfr_client.specs.Interpreting.{Interpreting}
+use Rattle.xfr_client.specs.Updating.{Updating}
 use Rattle.zone_sync.specs.SoFar.{Asking, client_so_far}
 use Rattle.zone_sync.specs.Refusals.{of_update}
-use Rattle.zone_sync.specs.Ending.{settled}
+use Rattle.zone_sync.specs.Ending.{same_serial, settled}
+use Rattle.zone_sync.specs.Replies.{AnswersReply, TestsReply}
 use Rattle.zone_sync.specs.Steps.{numbers_left, HasMade, Ahead, DoesOne, TakesOne, Led, LedOn}
 use Rattle.zone_sync.specs.Standing.{ExchangeStands}
-use Rattle.zone_sync.specs.Room.{adds_to_full, AllHaveRoom, KeepsRoom, StopsFull, KeepsAllRoom, reply_updates, ReplyKeepsRoom, ReplyStopsFull}
+use Rattle.zone_sync.specs.Room.{adds_to_full, AllHaveRoom, KeepsRoom, StopsAt, KeepsAllRoom, reply_updates, ReplyKeepsRoom, ReplyStopsAt}
 use Rattle.zone_sync.specs.declared.client.Exchange.{Exchange}
 use Rattle.zone_sync.specs.declared.outcome.SyncOk.{SyncOk}
+use Rattle.zone_sync.specs.declared.outcome.SyncOk.TheVariants as done
 use Rattle.zone_sync.specs.declared.outcome.SyncError.{SyncError}
 use Rattle.zone_sync.specs.declared.outcome.SyncError.TheVariants as why
 use Rattle.zone_sync.proofs.Steps.{led_none}
 use Rattle.zone_sync.proofs.Messages.{behind_one, led_on}
 use Rattle.zone_sync.proofs.Standings.{run_next}
+use Rattle.zone_sync.proofs.Clients.{made_rolled}
 
 -- ---- updates in turn
 
@@ -115,25 +123,55 @@ room_halts most base before u v s t handles now g all old new update e l is (mad
 room_halts most base before u v s t handles now g all old new update e l is (made, inr k) (inr h) =
     let p : Progress = l.on.progress in
     let limit : ℕ = numbers_left base in
-    let room : AllHaveRoom most limit p (update ∷ new.run.updates) = room_halted most limit p update new.run.updates k.halt (same_room most base before u s handles p update false l.on.ahead h) k.halts in
-    (
+    let room : AllHaveRoom most limit p (update ∷ new.run.updates) = room_halted most limit p update new.run.updates k.halt (same_room most base before u s handles p update false l.on.ahead h) k.halts in (
       room_ends most base before u s t handles now g all old l made,
       inr (subst (AllHaveRoom most limit g) (sym (l.on.led.joined ∙ ap (λ (x : Rest). l.on.led.done ++ x.run.updates) is)) (room_join most limit l.on.led.done (update ∷ new.run.updates) g p l.room l.on.led.led room)),
     )
 
--- .. and so does one that would add to a full set
-pub room_stops : (most : Option ℕ) (base : Commit) (before : List Commit) (u v : Updating) (s t : Session) (handles now : List Commit) (g : Progress) (all old new : Rest) (update : Update) (e : Error)
+-- .. whether it would add to a full set or not
+pub room_stops : (most : Option ℕ) (base : Commit) (before : List Commit) (u v : Updating) (s t : Session) (handles now : List Commit) (g : Progress) (all old new : Rest) (update : Update) (e : Error) (full : Bool)
     → (l : RoomOn most base before u s handles g all old) → old ≡ behind_one update new → TakesOne base before v t now l.on.progress update (Err e)
-    → adds_to_full most s.pending update ≡ true → StopsFull most base before t now g all.run.updates
-room_stops most base before u v s t handles now g all old new update e l is k h = record {
+    → adds_to_full most s.pending update ≡ full → StopsAt most base before t now g all.run.updates full
+room_stops most base before u v s t handles now g all old new update e full l is k h = record {
   kept = record { progress = l.on.progress; left = old.run.updates; led = l.on.led; made = k.0; room = l.room };
   next = update;
   behind = new.run.updates;
   stops = ap (λ (x : Rest). x.run.updates) is;
-  full = same_room most base before u s handles l.on.progress update true l.on.ahead h;
+  test = same_room most base before u s handles l.on.progress update full l.on.ahead h;
 }
 
+-- an update that was done had room, so the flag is still low
+pub still_low : (room flag : Bool) → (◌≡◌ {A = Result (Unit {0}) Error} (Ok tt) (Err errors.Memory)) ⊎ (room ≡ false) → flag ≡ room → flag ≡ false
+still_low room flag (inl out) e = absurd (cc out)
+still_low room flag (inr h) e = e ∙ h
+
+-- .. and one that had room leaves it
+pub raised_by : (room flag : Bool) (e : Error) → (◌≡◌ {A = Result (Unit {0}) Error} (Err e) (Err errors.Memory)) ⊎ (room ≡ false) → flag ≡ room → flag ≡ true → e ≡ errors.Memory
+raised_by room flag e (inl out) f h = err_same e out
+raised_by room flag e (inr r) f h = absurd (cc (sym h ∙ f ∙ r))
+
 -- ---- a reply
+
+-- a rollback leaves what was done
+abbrev pub room_rolled : (most : Option ℕ) (base : Commit) (before handles : List Commit) (s t : Session) (g : Progress) (all : List Update) → s ≡ rolled_back t → KeepsRoom most base before t handles g all
+    → KeepsRoom most base before s handles g all
+room_rolled most base before handles s t g all e k = record {
+  progress = k.progress;
+  left = k.left;
+  led = k.led;
+  made = made_rolled base before handles s t k.progress.committed e k.made;
+  room = k.room;
+}
+
+pub stops_rolled : (most : Option ℕ) (base : Commit) (before handles : List Commit) (s t : Session) (g : Progress) (all : List Update) (full : Bool) → s ≡ rolled_back t → StopsAt most base before t handles g all full
+    → StopsAt most base before s handles g all full
+stops_rolled most base before handles s t g all full e k = record {
+  kept = room_rolled most base before handles s t g all e k.kept;
+  next = k.next;
+  behind = k.behind;
+  stops = k.stops;
+  test = k.test;
+}
 
 -- nothing was done
 pub none_done : (most : Option ℕ) (a : Asking) (x : Exchange) (s : Session) (before handles : List Commit) (taken : List (List ℕ)) (m : List ℕ) → ExchangeStands x s a taken before handles
@@ -168,7 +206,47 @@ pub reply_done : (most : Option ℕ) (a : Asking) (s : Session) (before handles 
 reply_done most a s before handles taken r m is (kept, inl out) = absurd (cc out)
 reply_done most a s before handles taken r m is (kept, inr all) = subst (λ (x : Run). AllHaveRoom most (numbers_left a.base) (client_so_far a taken).progress x.updates) is all
 
--- .. or one would have added to a full set
-pub reply_full : (most : Option ℕ) (a : Asking) (s : Session) (before handles : List Commit) (taken : List (List ℕ)) (r : Run) (m : List ℕ) → r ≡ run_next a taken m
-    → StopsFull most a.base before s handles (client_so_far a taken).progress r.updates → ReplyStopsFull most a s before handles taken m
-reply_full most a s before handles taken r m is k = subst (λ (x : Run). StopsFull most a.base before s handles (client_so_far a taken).progress x.updates) is k
+-- .. or memory ran out at one
+pub reply_stops_at : (most : Option ℕ) (a : Asking) (s : Session) (before handles : List Commit) (taken : List (List ℕ)) (r : Run) (m : List ℕ) (full : Bool) → r ≡ run_next a taken m
+    → StopsAt most a.base before s handles (client_so_far a taken).progress r.updates full → ReplyStopsAt most a s before handles taken m full
+reply_stops_at most a s before handles taken r m full is k = subst (λ (x : Run). StopsAt most a.base before s handles (client_so_far a taken).progress x.updates full) is k
+
+-- neither a signature nor what a message is tells of want of memory
+pub not_checked : (a : Asking) (taken : List (List ℕ)) (m : List ℕ) (q : ClientSequence TsigKey) (e : SyncError) → AnswersReply a taken m q (Err e) → e ≡ why.Memory → ⊥
+not_checked a taken m q e r is = subst (λ z. AnswersReply a taken m q (Err z)) is r
+
+pub not_tested : (a : Asking) (begun : Bool) (p : Place) (m : ReadMessage) (i : Interpreting) (e : SyncError) → TestsReply a begun p m i (Err e) → e ≡ why.Memory → ⊥
+not_tested a begun p m i e (OtherAnswer, (fault, told)) is = cc (sym told ∙ is)
+not_tested a begun p m i e (NotValid, (fault, told)) is = cc (sym told ∙ is)
+not_tested a begun p m i e (Malformed, (fault, told)) is = cc (sym told ∙ is)
+not_tested a begun p m i e (Unreadable, (fault, told)) is = cc (sym told ∙ is)
+not_tested a begun p m i e (AfterEnd, (fault, told)) is = cc (sym told ∙ is)
+not_tested a begun p m i e (Refused r, (fault, told)) is = cc (sym told ∙ is)
+
+-- .. nor does what settles it
+pub settled_memory : (found asked : Option ℕ) (e : SyncError) → settled found asked e ≡ Err why.Memory → e ≡ why.Memory
+settled_memory found asked why.Memory h = refl
+settled_memory found asked (why.Iteration items.SingleSoaIxfrTcpRetrySignal) h = absurd (by (same_serial found asked) h)
+  where
+    by : (b : Bool) → ◌≡◌ {A = Result (Option SyncOk) SyncError} (if b then Ok (Some done.UpToDate) else Err (why.Iteration items.SingleSoaIxfrTcpRetrySignal)) (Err why.Memory) → ⊥
+    by true k = cc k
+    by false k = cc k
+settled_memory found asked (why.Iteration items.ParseError) h = cc h
+settled_memory found asked (why.Iteration items.AlreadyFinished) h = cc h
+settled_memory found asked (why.Iteration items.MissingInitialSoa) h = cc h
+settled_memory found asked why.NoSoa h = cc h
+settled_memory found asked (why.Request x) h = cc h
+settled_memory found asked why.LinkFault h = cc h
+settled_memory found asked why.Ended h = cc h
+settled_memory found asked (why.Short x) h = cc h
+settled_memory found asked (why.Primary x) h = cc h
+settled_memory found asked why.TooManyMessages h = cc h
+settled_memory found asked (why.Tsig x) h = cc h
+settled_memory found asked why.OtherAnswer h = cc h
+settled_memory found asked (why.Xfr x) h = cc h
+settled_memory found asked (why.Update x) h = cc h
+settled_memory found asked why.VersionsExhausted h = cc h
+
+-- the error that an exit tells
+pub told_memory : (r : Result (Option SyncOk) SyncError) (e z : SyncError) → r ≡ Err z → z ≡ e → r ≡ Err why.Memory → e ≡ why.Memory
+told_memory r e z h is k = sym is ∙ cc (sym h ∙ k)

@@ -11,6 +11,7 @@ use Rattle.xfr_course.specs.Outcome.{Ended}
 use Rattle.xfr_course.specs.Client.{run_message}
 use Rattle.zone_sync.specs.SoFar.{Asking, asked_course, checked_so_far, client_so_far}
 use Rattle.zone_sync.specs.Steps.{numbers_left, HasMade, Led}
+use Rattle.zone_sync.specs.declared.outcome.SyncOk.{SyncOk}
 use Rattle.zone_sync.specs.declared.outcome.SyncError.{SyncError}
 use Rattle.zone_sync.specs.declared.outcome.SyncError.TheVariants.{Memory}
 
@@ -57,13 +58,13 @@ pub record KeepsRoom (most : Option ℕ) (base : Commit) (before : List Commit) 
   pub made : HasMade base before s handles progress.committed
   pub room : AllHaveRoom most (numbers_left base) g led.done
 
--- .. and the first that is left would have added to a full set
-pub record StopsFull (most : Option ℕ) (base : Commit) (before : List Commit) (s : Session) (handles : List Commit) (g : Progress) (all : List Update) : Type 0 where
+-- .. and whether the first that is left would add to a full set
+pub record StopsAt (most : Option ℕ) (base : Commit) (before : List Commit) (s : Session) (handles : List Commit) (g : Progress) (all : List Update) (full : Bool) : Type 0 where
   pub kept : KeepsRoom most base before s handles g all
   pub next : Update
   pub behind : List Update
   pub stops : kept.left ≡ next ∷ behind
-  pub full : adds_to_full most kept.progress.pending next ≡ true
+  pub test : adds_to_full most kept.progress.pending next ≡ full
 
 -- all updates of a message were looked at, but for want of memory
 abbrev pub KeepsAllRoom : Option ℕ → Commit → List Commit → Session → List Commit → Progress → List Update → Result (Unit {0}) SyncError → Type 0
@@ -75,10 +76,10 @@ abbrev pub reply_updates : Asking → List (List ℕ) → List ℕ → List Upda
 reply_updates a taken m = (run_message (asked_course a [] Ended) (client_so_far a taken) (checked_so_far m)).updates
 
 -- .. had room: all of them, or those that were done
-abbrev pub ReplyKeepsRoom : {T : Type 0} → Option ℕ → Asking → Session → List Commit → List Commit → List (List ℕ) → List ℕ → Result T SyncError → Type 0
+abbrev pub ReplyKeepsRoom : Option ℕ → Asking → Session → List Commit → List Commit → List (List ℕ) → List ℕ → Result (Option SyncOk) SyncError → Type 0
 ReplyKeepsRoom most a s before handles taken m (Ok x) = AllHaveRoom most (numbers_left a.base) (client_so_far a taken).progress (reply_updates a taken m)
 ReplyKeepsRoom most a s before handles taken m (Err e) = KeepsRoom most a.base before s handles (client_so_far a taken).progress (reply_updates a taken m)
 
--- .. and the first that wasn't done would have added to a full set
-abbrev pub ReplyStopsFull : Option ℕ → Asking → Session → List Commit → List Commit → List (List ℕ) → List ℕ → Type 0
-ReplyStopsFull most a s before handles taken m = StopsFull most a.base before s handles (client_so_far a taken).progress (reply_updates a taken m)
+-- .. and whether the first that wasn't done would add to a full set
+abbrev pub ReplyStopsAt : Option ℕ → Asking → Session → List Commit → List Commit → List (List ℕ) → List ℕ → Bool → Type 0
+ReplyStopsAt most a s before handles taken m full = StopsAt most a.base before s handles (client_so_far a taken).progress (reply_updates a taken m) full

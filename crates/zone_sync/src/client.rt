@@ -19,7 +19,7 @@ ghost use Rattle.zone_sync.specs.SoFar.{Asking, asked_octets, asked_mac, asked_i
 ghost use Rattle.zone_sync.specs.Ending.{same_serial, settled};
 ghost use Rattle.zone_sync.specs.Standing.{asking_of, Stands, TakesReply, ExchangeStands, ReadsWhole};
 ghost use Rattle.zone_sync.specs.Replies.{AnswersReply, AnswersRequest, IsAnswerTo, TestsReply, TakesMessage};
-ghost use Rattle.zone_sync.specs.Room.{set_count, is_full, adds_to_full, KeepsAllRoom, StopsFull, ReplyKeepsRoom, ReplyStopsFull};
+ghost use Rattle.zone_sync.specs.Room.{set_count, is_full, adds_to_full, KeepsAllRoom, StopsAt, ReplyKeepsRoom, ReplyStopsAt};
 ghost use Rattle.zone_sync.specs.Steps.{Ahead, KeepsWish, StaysStill, TakesOne, TakesAll};
 
 use crate::outcome::{SyncError, SyncOk};
@@ -197,30 +197,21 @@ impl XfrClient {
         // .. and by a reply after which the client is in a whole text none was.
         ensures still { (base : Commit) (taken : List (List ℕ)) (before : List Commit) → result ≡ Ok None → Stands self.old session.old (asking_of self.old base) taken before made.old.items
             → ReadsWhole (asking_of self.old base) (taken ++ octets.items ∷ []) → StaysStill session.old session.new }
-        // The updates that were done of it had room, so no version that was committed has more in a set for them ..
+        // The updates that were done of it had room ..
         ensures room { (base : Commit) (taken : List (List ℕ)) (before : List Commit) → Stands self.old session.old (asking_of self.old base) taken before made.old.items
             → ReplyKeepsRoom self.old.most (asking_of self.old base) session.new before made.new.items taken octets.items result }
-        // .. and the flag tells that the next one had none.
-        ensures full { self.new.full ≡ true → result ≡ Err SyncError.Memory }
+        // .. and where `Memory` is the answer, the flag tells whether the next one has none; else it is low.
         ensures stops { (base : Commit) (taken : List (List ℕ)) (before : List Commit) → Stands self.old session.old (asking_of self.old base) taken before made.old.items
-            → self.new.full ≡ true → ReplyStopsFull self.old.most (asking_of self.old base) session.new before made.new.items taken octets.items }
+            → result ≡ Err SyncError.Memory → ReplyStopsAt self.old.most (asking_of self.old base) session.new before made.new.items taken octets.items self.new.full }
+        ensures full { self.new.full ≡ true → result ≡ Err SyncError.Memory }
         ensures limit { self.new.most ≡ self.old.most }
     {
         let Some(mut exchange) = self.exchange.take() else {
             unreachable!()
         };
         let mut is_full = false;
-        let taken = exchange.take(
-            rt,
-            session,
-            octets,
-            self.at,
-            self.most,
-            &mut is_full,
-            made,
-        );
-        self.is_full = is_full;
-        match taken {
+        self.is_full = false;
+        match exchange.take(rt, session, octets, self.at, self.most, &mut is_full, made) {
             Ok(None) => {
                 self.exchange = Some(exchange);
                 Ok(None)
@@ -230,6 +221,7 @@ impl XfrClient {
                 Ok(Some(outcome))
             }
             Err(error) => {
+                self.is_full = is_full;
                 session.rollback();
                 Err(error)
             }
@@ -256,7 +248,7 @@ impl Exchange {
             → ReplyKeepsRoom most a session.new before made.new.items taken octets.items result }
         ensures full { full.old ≡ false → full.new ≡ true → result ≡ Err SyncError.Memory }
         ensures stops { (a : Asking) (taken : List (List ℕ)) (before : List Commit) → a.at ≡ at → ExchangeStands self.old session.old a taken before made.old.items
-            → full.old ≡ false → full.new ≡ true → ReplyStopsFull most a session.new before made.new.items taken octets.items }
+            → full.old ≡ false → result ≡ Err SyncError.Memory → ReplyStopsAt most a session.new before made.new.items taken octets.items full.new }
     {
         let message = self.checked(octets, at)?;
         let updates = self.read(&message)?;
@@ -452,7 +444,7 @@ fn apply_all<R>(
         → KeepsAllRoom most base before session.new made.new.items g updates.entry.run.updates result }
     ensures full { full.old ≡ false → full.new ≡ true → result ≡ Err SyncError.Memory }
     ensures stops { (base : Commit) (before : List Commit) (g : Progress) → Ahead base before updater.old session.old made.old.items g
-        → full.old ≡ false → full.new ≡ true → StopsFull most base before session.new made.new.items g updates.entry.run.updates }
+        → full.old ≡ false → result ≡ Err SyncError.Memory → StopsAt most base before session.new made.new.items g updates.entry.run.updates full.new }
 {
     'updates: while let Some(update) = updates.next_update() {
         apply_one(rt, session, updater, update?, most, full, made)?;
@@ -475,8 +467,7 @@ fn apply_one<R>(
         → TakesOne base before updater.new session.new made.new.items g (update_of update.entry) result }
     ensures keeps { OnOk result (KeepsWish session.old session.new) }
     ensures room { (result ≡ Err Memory) ⊎ (adds_to_full most session.old.pending (update_of update.entry) ≡ false) }
-    ensures same { OnOk result (full.new ≡ full.old) }
-    ensures full { full.old ≡ false → full.new ≡ true → (result ≡ Err Memory) × (adds_to_full most session.old.pending (update_of update.entry) ≡ true) }
+    ensures full { full.old ≡ false → full.new ≡ adds_to_full most session.old.pending (update_of update.entry) }
 {
     if adds_to_full(session, most, &update) {
         *full = true;

@@ -1,10 +1,10 @@
-use Rattle.std.proofs.Common.{refl, ap, ◌∙◌, inr}
+use Rattle.std.proofs.Common.{refl, sym, ap, inr}
 use Rattle.std.proofs.lemmas.Result.{err_from_is_err_and}
 use Rattle.xfr_client.specs.Causes.{update_of}
 use Rattle.zone_sync.proofs.Messages.{halts_there, told_error, told_all}
 use Rattle.zone_sync.specs.Steps.{numbers_left}
 use Rattle.zone_sync.proofs.Steps.{led_none, wish_stays, wish_on}
-use Rattle.zone_sync.proofs.Room.{room_on, room_ends, room_all, left_at_error, room_halts, room_stops, err_same, refused_by}
+use Rattle.zone_sync.proofs.Room.{room_on, room_ends, room_all, left_at_error, room_halts, room_stops, still_low, raised_by, refused_by}
 use Rattle.zone_sync.proofs.client.apply_all.Goals as goal
 
 pub updates-init : goal.updates-init
@@ -14,7 +14,7 @@ updates-init met c = (
     room = tt;
   },
   wish_stays c.args.session.now,
-  refl,
+  λ low. low,
 )
 
 pub updates-preserved : goal.updates-preserved
@@ -24,7 +24,7 @@ updates-preserved met c = (
       room_on c.args.most base before c.updates.updater c.apply_one.new.updater c.updates.session c.apply_one.new.session c.updates.made.items c.apply_one.new.made.items g c.args.updates c.updates.updates c.next_update.new.self (update_of c.in_ok-update.field-0)
       i (rw c.in_ok-update.was at c.in-Some.ensures) (c.in_ok-apply_one.ensures.takes base before i.on.progress i.on.ahead) c.in_ok-apply_one.ensures.room,
   wish_on c.args.session.now c.updates.session c.apply_one.new.session c.updates.invariant.1 c.in_ok-apply_one.ensures.keeps,
-  c.in_ok-apply_one.ensures.same ∙ c.updates.invariant.2,
+  λ low. still_low _ c.apply_one.new.full c.in_ok-apply_one.ensures.room (c.in_ok-apply_one.ensures.full (c.updates.invariant.2 low)),
 )
 
 pub returns-in_err-update-clause-takes : goal.returns-in_err-update-clause-takes
@@ -52,8 +52,7 @@ returns-clause-keeps met c = c.updates.invariant.1
 pub returns-in_err-update-clause-room : goal.returns-in_err-update-clause-room
 returns-in_err-update-clause-room met c base before g a =
     let i = c.updates.invariant.0 base before g a in
-    let left = left_at_error c.updates.updates c.next_update.new.self c.in_err-update.field-0.0 (rw c.in_err-update.was at c.in-Some.ensures) in
-    (
+    let left = left_at_error c.updates.updates c.next_update.new.self c.in_err-update.field-0.0 (rw c.in_err-update.was at c.in-Some.ensures) in (
       room_ends c.args.most base before c.updates.updater c.updates.session c.updates.session c.updates.made.items c.updates.made.items g c.args.updates c.updates.updates i i.on.ahead.made,
       inr (room_all c.args.most base before c.updates.updater c.updates.session c.updates.made.items g c.args.updates c.updates.updates i left),
     )
@@ -67,8 +66,7 @@ returns-in_err-apply_one-clause-room met c base before g a =
 
 pub returns-clause-room : goal.returns-clause-room
 returns-clause-room met c base before g a =
-    let i = c.updates.invariant.0 base before g a in
-    (
+    let i = c.updates.invariant.0 base before g a in (
       room_ends c.args.most base before c.updates.updater c.updates.session c.updates.session c.updates.made.items c.updates.made.items g c.args.updates c.updates.updates i i.on.ahead.made,
       inr (room_all c.args.most base before c.updates.updater c.updates.session c.updates.made.items g c.args.updates c.updates.updates i (ap (λ x. x.run.updates) c.in_default.ensures.0)),
     )
@@ -76,12 +74,10 @@ returns-clause-room met c base before g a =
 pub returns-in_err-apply_one-clause-full : goal.returns-in_err-apply_one-clause-full
 returns-in_err-apply_one-clause-full met c low raised =
     let p = err_from_is_err_and c.from_residual-in_err-apply_one.result c.from_residual-in_err-apply_one.ensures.1 in
-    let out = c.in_err-apply_one.ensures.full (c.updates.invariant.2 ∙ low) raised in
-    rw (p.1, p.2) (ap refused_by (err_same c.in_err-apply_one.field-0.0 out.0))
+    rw (p.1, p.2) (ap refused_by (raised_by _ c.apply_one.new.full c.in_err-apply_one.field-0.0 c.in_err-apply_one.ensures.room (c.in_err-apply_one.ensures.full (c.updates.invariant.2 low)) raised))
 
 pub returns-in_err-apply_one-clause-stops : goal.returns-in_err-apply_one-clause-stops
-returns-in_err-apply_one-clause-stops met c base before g a low raised =
+returns-in_err-apply_one-clause-stops met c base before g a low out =
     let i = c.updates.invariant.0 base before g a in
-    let out = c.in_err-apply_one.ensures.full (c.updates.invariant.2 ∙ low) raised in
-    room_stops c.args.most base before c.updates.updater c.apply_one.new.updater c.updates.session c.apply_one.new.session c.updates.made.items c.apply_one.new.made.items g c.args.updates c.updates.updates c.next_update.new.self (update_of c.in_ok-update.field-0) c.in_err-apply_one.field-0.0
-    i (rw c.in_ok-update.was at c.in-Some.ensures) (c.in_err-apply_one.ensures.takes base before i.on.progress i.on.ahead) out.1
+    room_stops c.args.most base before c.updates.updater c.apply_one.new.updater c.updates.session c.apply_one.new.session c.updates.made.items c.apply_one.new.made.items g c.args.updates c.updates.updates c.next_update.new.self (update_of c.in_ok-update.field-0) c.in_err-apply_one.field-0.0 c.apply_one.new.full
+    i (rw c.in_ok-update.was at c.in-Some.ensures) (c.in_err-apply_one.ensures.takes base before i.on.progress i.on.ahead) (sym (c.in_err-apply_one.ensures.full (c.updates.invariant.2 low)))

@@ -1,4 +1,4 @@
-use Rattle.std.proofs.Common.{◌≡◌, List, length}
+use Rattle.std.proofs.Common.{◌≡◌, false, List, length}
 use Rattle.zone_model.specs.Commits.{Commit}
 use Rattle.zone_model.specs.Updates.{Progress}
 use Rattle.zone_sync.specs.Steps.{Ahead, KeepsWish}
@@ -9,7 +9,7 @@ abbrev pub invariant-updates : goal.invariant-updates
 invariant-updates met l =
     ((base : Commit) (before : List Commit) (g : Progress) → Ahead base before l.initial.updater l.initial.session l.initial.made.items g
     → RoomOn l.most base before l.updater l.session l.made.items g l.initial.updates l.updates)
-    × KeepsWish l.initial.session l.session × (l.full ≡ l.initial.full)
+    × KeepsWish l.initial.session l.session × (l.initial.full ≡ false → l.full ≡ false)
 
 abbrev pub decreases-updates : goal.decreases-updates
 decreases-updates met l = length l.updates.run.updates

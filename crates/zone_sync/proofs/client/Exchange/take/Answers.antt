@@ -1,13 +1,14 @@
-use Rattle.std.proofs.Common.{◌≡◌, sym, ap, ◌∙◌, subst}
+use Rattle.std.proofs.Common.{◌≡◌, sym, ap, ◌∙◌, subst, Err}
 use Rattle.std.proofs.lemmas.Result.{err_from_is_err_and}
 use Rattle.xfr_client.specs.Places.{first_serial}
-use Rattle.zone_sync.specs.SoFar.{client_so_far}
+use Rattle.zone_sync.specs.SoFar.{message_so_far, client_so_far}
 use Rattle.zone_sync.specs.Ending.{settled}
 use Rattle.zone_sync.specs.Steps.{Ahead}
 use Rattle.zone_sync.specs.Replies.{ChecksReply}
+use Rattle.zone_sync.specs.Room.{ReplyKeepsRoom}
 use Rattle.zone_sync.proofs.Standings.{between}
 use Rattle.zone_sync.proofs.Taking.{settled_ends, message_fails, message_reads, updates_stop, updates_done, text_ends, text_goes_on}
-use Rattle.zone_sync.proofs.Room.{none_done, reply_stops, reply_done, reply_full, sync_same}
+use Rattle.zone_sync.proofs.Room.{none_done, reply_stops, reply_done, reply_stops_at, not_checked, not_tested, settled_memory, told_memory, sync_same}
 use Rattle.zone_sync.proofs.client.Exchange.take.Goals as goal
 
 pub returns-in_err-updates-clause-takes : goal.returns-in_err-updates-clause-takes
@@ -72,12 +73,14 @@ returns-clause-keeps g c h = rw c.in_default.is at c.apply_all.ensures.keeps
 pub returns-in_err-message-clause-room : goal.returns-in_err-message-clause-room
 returns-in_err-message-clause-room g c a taken before at x =
     let p = err_from_is_err_and c.from_residual.result c.from_residual.ensures.1 in
-    rw (p.1, p.2) (none_done c.args.most a c.args.self.now c.args.session.now before c.args.made.now.items taken c.args.octets.items x)
+    subst (λ r. ReplyKeepsRoom c.args.most a c.args.session.now before c.args.made.now.items taken c.args.octets.items r) (sym p.1)
+    (none_done c.args.most a c.args.self.now c.args.session.now before c.args.made.now.items taken c.args.octets.items x)
 
 pub returns-in_err-updates-clause-room : goal.returns-in_err-updates-clause-room
 returns-in_err-updates-clause-room g c a taken before at x =
     let p = err_from_is_err_and c.from_residual-in_err-updates.result c.from_residual-in_err-updates.ensures.1 in
-    rw (p.1, p.2) (none_done c.args.most a c.args.self.now c.args.session.now before c.args.made.now.items taken c.args.octets.items x)
+    subst (λ r. ReplyKeepsRoom c.args.most a c.args.session.now before c.args.made.now.items taken c.args.octets.items r) (sym p.1)
+    (none_done c.args.most a c.args.self.now c.args.session.now before c.args.made.now.items taken c.args.octets.items x)
 
 pub returns-in-Err-clause-room : goal.returns-in-Err-clause-room
 returns-in-Err-clause-room g c a taken before at x =
@@ -121,7 +124,7 @@ returns-in-Err-clause-full g c low raised =
     c.settle.ensures ∙ ap (settled (first_serial c.read.new.self.interpreter.place) c.read.new.self.serial) (sync_same c.in-Err.error (sym c.in-Err.is ∙ c.apply_all.ensures.full low raised))
 
 pub returns-in-Err-clause-stops : goal.returns-in-Err-clause-stops
-returns-in-Err-clause-stops g c a taken before at x low raised =
+returns-in-Err-clause-stops g c a taken before at x low out =
     let cl = client_so_far a taken in
     let o = c.checked.ensures.others in
     let r = c.read.ensures.others in
@@ -130,4 +133,19 @@ returns-in-Err-clause-stops g c a taken before at x low raised =
     let rd = message_reads a c.args.self.now c.args.session.now before c.args.made.now.items taken c.args.octets.items c.in_ok-message.message c.checked.new.self.sequence c.read.new.self.interpreter c.in_ok-updates.updates x ck tests in
     let updater : c.read.new.self.updater ≡ c.args.self.now.updater = ap (λ e. e.updater) r ∙ ap (λ e. e.updater) o in
     let ahead = subst (λ u. Ahead a.base before u c.args.session.now c.args.made.now.items cl.progress) (sym updater) x.ahead in
-    reply_full c.args.most a c.apply_all.new.session before c.apply_all.new.made.items taken c.in_ok-updates.updates.run c.args.octets.items rd.run (c.apply_all.ensures.stops a.base before cl.progress ahead low raised)
+    let none = settled_memory (first_serial c.read.new.self.interpreter.place) c.read.new.self.serial c.in-Err.error (sym c.settle.ensures ∙ out) in
+    reply_stops_at c.args.most a c.apply_all.new.session before c.apply_all.new.made.items taken c.in_ok-updates.updates.run c.args.octets.items c.apply_all.new.full rd.run
+    (c.apply_all.ensures.stops a.base before cl.progress ahead low (c.in-Err.is ∙ ap Err none))
+
+pub returns-in_err-message-clause-stops : goal.returns-in_err-message-clause-stops
+returns-in_err-message-clause-stops g c a taken before at x low out =
+    let p = err_from_is_err_and c.from_residual.result c.from_residual.ensures.1 in
+    absurd (not_checked a taken c.args.octets.items c.checked.new.self.sequence c.in_err-message.field-0.0 (c.in_err-message.ensures.answers a taken at x.key x.sequence) (told_memory c.from_residual.result c.in_err-message.field-0.0 p.0 p.1 p.2 out))
+
+pub returns-in_err-updates-clause-stops : goal.returns-in_err-updates-clause-stops
+returns-in_err-updates-clause-stops g c a taken before at x low out =
+    let cl = client_so_far a taken in
+    let o = c.checked.ensures.others in
+    let tests = c.in_err-updates.ensures.tests a cl.begun cl.place (ap (λ e. e.id) o ∙ x.id) (ap (λ e. e.question) o ∙ x.question) (ap (λ e. e.interpreter) o ∙ x.interpreter) (between a taken x.unmet).place in
+    let p = err_from_is_err_and c.from_residual-in_err-updates.result c.from_residual-in_err-updates.ensures.1 in
+    absurd (not_tested a cl.begun cl.place (message_so_far c.in_ok-message.message) c.read.new.self.interpreter c.in_err-updates.field-0.0 tests (told_memory c.from_residual-in_err-updates.result c.in_err-updates.field-0.0 p.0 p.1 p.2 out))
