@@ -1,5 +1,5 @@
 -- How much a peer may send in one exchange: limits that the caller gives.
-use Rattle.std.specs.Prelude.{◌≡◌, ◌⊎◌, ◌≤◌, ◌+◌, ◌-◌, ◌^◌, nat_lt, ℕ, List, [], ◌∷◌, ◌++◌, length, sum_by, Option, Some, None, if◌then◌else◌}
+use Rattle.std.specs.Prelude.{◌≡◌, ◌⊎◌, ◌≤◌, ◌+◌, ◌-◌, ◌^◌, nat_lt, ℕ, true, List, [], ◌∷◌, ◌++◌, length, sum_by, Option, Some, None, if◌then◌else◌}
 use Rattle.dns_wire.specs.Wire.{ancount_in}
 use Rattle.xfr_course.specs.Courses.{has_header}
 use Rattle.zone_model.specs.Commits.{Commit}
