@@ -40,7 +40,7 @@ stops_takes most a c d s t taken before handles later m r e f st is full =
 
 -- ---- a rollback at the end changes nothing of it
 
-kept_rolled : (most : Option ℕ) (a : Asking) (taken : List (List ℕ)) (m : List ℕ) (before handles : List Commit) (s t : Session) → s ≡ rolled_back t
+abbrev kept_rolled : (most : Option ℕ) (a : Asking) (taken : List (List ℕ)) (m : List ℕ) (before handles : List Commit) (s t : Session) → s ≡ rolled_back t
     → KeepsRoom most a.base before t handles (client_so_far a taken).progress (reply_updates a taken m) → KeepsRoom most a.base before s handles (client_so_far a taken).progress (reply_updates a taken m)
 kept_rolled most a taken m before handles s t e k = record { progress = k.progress; left = k.left; led = k.led; made = made_rolled a.base before handles s t k.progress.committed e k.made; room = k.room }
 

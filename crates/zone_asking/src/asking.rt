@@ -186,7 +186,7 @@ fn take_replies<R, S: Source>(
     src: &mut S,
     made: &mut Vec<ReadZone>,
 ) -> Result<SyncOk, AskError>
-    requires open { IsSome client.old.exchange }
+    requires under_way { IsSome client.old.exchange }
     requires most { client.old.most ≡ limits.now.set_records }
     ensures ends { (a : Asking) (before : List Commit) → Stands client.old session.old a [] before made.old.items → EndsSo limits.now over a (S.remaining src.old) (S.remaining src.new) before made.new.items session.new result }
     ensures failed { result ≡ Err AskError.SourceFault → Rose (S.faults src.old) (S.faults src.new) }

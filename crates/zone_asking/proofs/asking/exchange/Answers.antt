@@ -26,8 +26,8 @@ returns-in_err-send_request-clause-exchanges g c =
     rw (p.1, p.2) (not_sent c.args.limits.now c.args.over a (g.S.Source.remaining c.args.src.now) (g.K.Sink.taken c.args.sink.now) (g.K.Sink.taken c.send_request.new.sink) c.args.made.now.items c.request.new.session c.as_slice.result.now part.0 c.in_err-send_request.field-0.0
     c.in_ok-request.ensures.ok.1 is part.1 current c.in_err-send_request.ensures.fault)
 
-pub take_replies-requires-open : goal.take_replies-requires-open
-take_replies-requires-open g c =
+pub take_replies-requires-clause-under_way : goal.take_replies-requires-clause-under_way
+take_replies-requires-clause-under_way g c =
     let a = asking_of c.args.client.now c.args.session.now.current in
     under_way a c.request.new.self c.request.new.session c.args.made.now.items c.args.made.now.items (c.in_ok-request.ensures.begun c.args.made.now.items)
 
