@@ -6,7 +6,7 @@ use dns_name::{Class, Labelled, NameRef};
 use std::alloc::Global;
 use std::process::Abort;
 use tsig_port::{Algorithm, Key};
-use zone_asking::{AskError, ask_zone};
+use zone_asking::{AskError, Limit, Limits, ask_zone};
 use zone_devices::sinks::MemorySink;
 use zone_devices::sources::{MemorySource, Source};
 use zone_sessions::ZoneApex;
@@ -25,6 +25,16 @@ c00c0006000100000e10001600000000000200000000000000000000000000000000\
 c00c0006000100000e10001600000000000200000000000000000000000000000000\
 036b65790000fa00ff00000000003d0b686d61632d73686132353600\
 0000000003e8012c002015a6cce087ed3d6039d9ba0f8e037dca510019330c2b0eaf910f6df72e9cccdb03e800000000";
+
+/// The same with two addresses of the apex between, in 203 octets: 192.0.2.1 and 192.0.2.2.
+const ADDRESSES: &str = "00c9\
+03e884000001000400000001076578616d706c650000fc0001\
+c00c0006000100000e10001600000000000200000000000000000000000000000000\
+c00c0001000100000e100004c0000201\
+c00c0001000100000e100004c0000202\
+c00c0006000100000e10001600000000000200000000000000000000000000000000\
+036b65790000fa00ff00000000003d0b686d61632d73686132353600\
+0000000003e8012c0020cf71f01a319ff651131eeb6d277a86a2791d44e612bf32b27cd30edf3cbdb76c03e800000000";
 
 /// The octets that hexadecimal digits spell.
 fn octets_of<R: Abort>(rt: &R, alloc: Global, digits: &str) -> Vec<u8> {
@@ -66,6 +76,17 @@ fn ask<R: Abort, S: Source>(
     src: &mut S,
     out: &mut MemorySink,
 ) -> (Result<SyncOk, AskError>, usize, u64) {
+    ask_within(rt, alloc, Limits::none(), src, out)
+}
+
+/// The same within limits.
+fn ask_within<R: Abort, S: Source>(
+    rt: &R,
+    alloc: Global,
+    limits: Limits,
+    src: &mut S,
+    out: &mut MemorySink,
+) -> (Result<SyncOk, AskError>, usize, u64) {
     let key = shared_key(rt);
     let mut zone = empty_zone(rt, alloc);
     let mut session = zone.write(alloc);
@@ -77,6 +98,7 @@ fn ask<R: Abort, S: Source>(
         &key,
         XfrMode::Axfr,
         at(),
+        &limits,
         src,
         out,
         &mut made,
@@ -173,4 +195,49 @@ fn failing_writes_end_the_transfer(rt: HostRuntime) {
         drop(out);
         drop(src);
     }
+}
+
+/// What comes of the reply with addresses within limits: the answer, and how many versions came.
+fn within<R: Abort>(rt: &R, alloc: Global, limits: Limits) -> (Result<SyncOk, AskError>, usize) {
+    let octets = octets_of(rt, alloc, ADDRESSES);
+    let mut src = source(rt, alloc, octets.as_slice(), 203, Vec::new(alloc));
+    drop(octets);
+    let mut out = sink(alloc);
+    let (answer, versions, _) = ask_within(rt, alloc, limits, &mut src, &mut out);
+    drop(out);
+    drop(src);
+    (answer, versions)
+}
+
+/// One reply of 201 octets with four records, two of them of one set: each limit that it just keeps, and the one below.
+#[test]
+fn limits_are_kept(rt: HostRuntime) {
+    let alloc = rt.alloc();
+    let kept = Limits {
+        replies: 1,
+        octets: 201,
+        records: 4,
+        set_records: Some(2),
+    };
+    let found = within(&rt, alloc, kept);
+    is(&rt, found, (Ok(SyncOk::Updated), 1));
+    let found = within(&rt, alloc, Limits { replies: 0, ..kept });
+    is(&rt, found, (Err(AskError::Limit(Limit::Replies)), 0));
+    let found = within(
+        &rt,
+        alloc,
+        Limits {
+            octets: 200,
+            ..kept
+        },
+    );
+    is(&rt, found, (Err(AskError::Limit(Limit::Octets)), 0));
+    let found = within(&rt, alloc, Limits { records: 3, ..kept });
+    is(&rt, found, (Err(AskError::Limit(Limit::Records)), 0));
+    let one = Limits {
+        set_records: Some(1),
+        ..kept
+    };
+    let found = within(&rt, alloc, one);
+    is(&rt, found, (Err(AskError::FullSet), 0));
 }
