@@ -41,3 +41,42 @@ passed_left limits left read m k =
     let octets = test_left (octets_of read) left.octets limits.octets (length m) (octets_of [] + length m) k.octets (omega arith) in
     let records = test_left (records_of read) left.records limits.records (records_in m) (records_of [] + records_in m) k.records (omega arith) in
     λ i. if replies i then Some Replies else if octets i then Some Octets else if records i then Some Records else None
+
+-- ---- a limit is passed exactly where the messages aren't within the limits
+
+-- how the three tests come out
+abbrev chosen : Bool → Bool → Bool → Option Limit
+chosen r o q = if r then Some Replies else if o then Some Octets else if q then Some Records else None
+
+one_more : (before : List (List ℕ)) (m : List ℕ) → (length (before ++ m ∷ []) ≡ length before + 1) × (octets_of (before ++ m ∷ []) ≡ octets_of before + length m) × (records_of (before ++ m ∷ []) ≡ records_of before + records_in m)
+one_more before m = (length-append before (m ∷ []), sum_by_push length before m, sum_by_push records_in before m)
+
+pub none_passed : (limits : Limits) (before : List (List ℕ)) (m : List ℕ) → passed limits before m ≡ None → Within limits (before ++ m ∷ [])
+none_passed limits before m e =
+    by (nat_lt limits.replies (length before + 1)) (nat_lt limits.octets (octets_of before + length m)) (nat_lt limits.records (records_of before + records_in m)) refl refl refl e
+  where
+    sums : (length (before ++ m ∷ []) ≡ length before + 1) × (octets_of (before ++ m ∷ []) ≡ octets_of before + length m) × (records_of (before ++ m ∷ []) ≡ records_of before + records_in m)
+    sums = one_more before m
+
+    by : (r o q : Bool) → nat_lt limits.replies (length before + 1) ≡ r → nat_lt limits.octets (octets_of before + length m) ≡ o → nat_lt limits.records (records_of before + records_in m) ≡ q → chosen r o q ≡ None → Within limits (before ++ m ∷ [])
+    by true o q h k l e = absurd (cc e)
+    by false true q h k l e = absurd (cc e)
+    by false false true h k l e = absurd (cc e)
+    by false false false h k l e = record {
+      replies = omega (arith, sums.0, ltb-false limits.replies (length before + 1) h);
+      octets = omega (arith, sums.1, ltb-false limits.octets (octets_of before + length m) k);
+      records = omega (arith, sums.2, ltb-false limits.records (records_of before + records_in m) l);
+    }
+
+pub some_passed : (limits : Limits) (before : List (List ℕ)) (m : List ℕ) (which : Limit) → passed limits before m ≡ Some which → Within limits (before ++ m ∷ []) → ⊥
+some_passed limits before m which e w =
+    by (nat_lt limits.replies (length before + 1)) (nat_lt limits.octets (octets_of before + length m)) (nat_lt limits.records (records_of before + records_in m)) refl refl refl e
+  where
+    sums : (length (before ++ m ∷ []) ≡ length before + 1) × (octets_of (before ++ m ∷ []) ≡ octets_of before + length m) × (records_of (before ++ m ∷ []) ≡ records_of before + records_in m)
+    sums = one_more before m
+
+    by : (r o q : Bool) → nat_lt limits.replies (length before + 1) ≡ r → nat_lt limits.octets (octets_of before + length m) ≡ o → nat_lt limits.records (records_of before + records_in m) ≡ q → chosen r o q ≡ Some which → ⊥
+    by true o q h k l e = omega (arith, sums.0, w.replies, ltb-true limits.replies (length before + 1) h)
+    by false true q h k l e = omega (arith, sums.1, w.octets, ltb-true limits.octets (octets_of before + length m) k)
+    by false false true h k l e = omega (arith, sums.2, w.records, ltb-true limits.records (records_of before + records_in m) l)
+    by false false false h k l e = cc e

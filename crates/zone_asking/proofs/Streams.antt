@@ -184,3 +184,8 @@ reads_past limits over replies old mid new left m which cuts k g over_left =
       frame = gives_more [] mid mid new m cuts (gives_none mid) g;
       passes = passed_left limits left k.read m k.spent ∙ over_left;
     })
+
+-- nothing is passed over where no id is given
+pub all_among : (read : List (List ℕ)) → replies_among None read ≡ read
+all_among [] = refl
+all_among (m ∷ read) = ap (λ l. m ∷ l) (all_among read)
