@@ -17,3 +17,4 @@ pub mod Cleared
 pub mod NoSet
 pub mod Written
 pub mod InPlace
+pub mod Reopened

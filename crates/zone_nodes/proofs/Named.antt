@@ -1,5 +1,5 @@
 -- Nodes kept by the keys of their names.
-use Rattle.std.proofs.Common.{◌≡◌, ℕ, Bool, true, false, cond, ◌&&◌, ◌||◌, ◌==◌, not, length, List, [], ◌∷◌, filter, refl, sym, ap, ◌∙◌, subst, Ordering, Less, Equal, Greater, Some, is_eq, is_le, Result, Ok, Err, OnOk, OnErr, is_ok, if◌then◌else◌}
+use Rattle.std.proofs.Common.{◌≡◌, ℕ, Bool, true, false, cond, ◌&&◌, ◌||◌, ◌==◌, not, length, List, [], ◌∷◌, filter, refl, sym, ap, ◌∙◌, subst, Ordering, Less, Equal, Greater, Some, is_some, is_eq, is_le, Result, Ok, Err, OnOk, OnErr, is_ok, if◌then◌else◌}
 use Rattle.std.specs.Ordering.{match_ordering}
 use Rattle.std.specs.List.{list_any}
 use Rattle.std.specs.List.Sorted.{IsStrictlySortedBy}
@@ -34,6 +34,11 @@ nested k n h =
 pub get_named : (es : Keyed) (n : Name) → AreKeys es → lookup (is_at (octets_cmp (name_key n))) es ≡ node_at (named es) n
 get_named [] n a = refl
 get_named (e ∷ es) n a = (λ i. cond (is_eq (compared n e.0 a.0 i)) (Some e.1) (get_named es n a.1 i))
+
+pub first_named : (es : Keyed) (n : Name) (e : List ℕ × NodeSets) (rest : Keyed) → AreKeys es → es ≡ e ∷ rest → is_eq (octets_cmp (name_key n) e.0) ≡ true → is_some (node_at (named es) n) ≡ true
+first_named es n e rest a q h =
+    ap is_some (sym (get_named es n a)) ∙ ap (λ l. is_some (lookup (is_at (octets_cmp (name_key n))) l)) q
+    ∙ ap (λ b. is_some (cond b (Some e.1) (lookup (is_at (octets_cmp (name_key n))) rest))) h
 
 pub insert_named : (es : Keyed) (n : Name) (held : NodeSets) → fold n ≡ n → AreKeys es → named (insert_entry octets_cmp es (name_key n) held) ≡ put_node (named es) n held
 insert_named [] n held f a = ap (λ m. (m, held) ∷ []) (read_back n ∙ f)

@@ -70,6 +70,17 @@ pub set_told : (v : Version) (nodes : Nodes) (n : Name) (rtype : ℕ) → IsTree
 set_told v nodes n rtype t =
     ap (λ o. type_in o rtype) (node_alike nodes n (fold n) (sym (fold-fold n))) ∙ sym (set_in-sets_of nodes (fold n) rtype t.are_nodes.ordered) ∙ ap (λ es. set_in es (fold n, rtype)) t.sets
 
+-- the same in the name's node
+pub set_of_node : (v : Version) (nodes : Nodes) (n : Name) (o : Option NodeSets) (rtype : ℕ) → IsTree v nodes → o ≡ node_of v n → type_in o rtype ≡ set_at v n rtype
+set_of_node v nodes n o rtype t e = ap (λ x. type_in x rtype) (e ∙ sym (node_told v nodes n t)) ∙ set_told v nodes n rtype t
+
+pub no_node : (v : Version) (nodes : Nodes) (n : Name) → IsTree v nodes → is_some (node_of v n) ≡ false → node_at nodes n ≡ None
+no_node v nodes n t h = by (node_at nodes n) (ap is_some (node_told v nodes n t) ∙ h)
+  where
+    by : (o : Option NodeSets) → is_some o ≡ false → o ≡ None
+    by None e = refl
+    by (Some held) e = absurd (true≢false e)
+
 -- ---- lower case
 
 pub node_folded : (v : Version) (n : Name) → node_of v (fold n) ≡ node_of v n

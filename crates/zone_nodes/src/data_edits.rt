@@ -1,5 +1,5 @@
 // Edits of one record's data in a version.
-ghost use Rattle.std.specs.Prelude.{◌≡◌, true, Some, [], ◌∷◌, not, filter, IfOk, IsSome, OnOk, OnErr};
+ghost use Rattle.std.specs.Prelude.{◌≡◌, true, Some, [], ◌∷◌, not, filter, is_some, IfOk, IsSome, OnOk, OnErr};
 ghost use Rattle.std.specs.List.{list_any};
 ghost use Rattle.dns_name.specs.Names.{under};
 ghost use Rattle.dns_rdata.specs.Records.{same_data};
@@ -10,7 +10,7 @@ ghost use Rattle.zone_values.specs.TypedEntries.{typed};
 ghost use Rattle.zone_values.specs.SetEdits.{last_set, opening_set};
 ghost use Rattle.zone_values.specs.PutCauses.{TellsPut};
 ghost use Rattle.zone_nodes.specs.Held.{counted};
-ghost use Rattle.zone_nodes.specs.Trees.{built};
+ghost use Rattle.zone_nodes.specs.Trees.{node_of, built};
 ghost use Rattle.zone_nodes.specs.DataEdits.{thinned_set};
 
 use crate::node::NodeCount;
@@ -107,7 +107,9 @@ impl VersionTree {
         ensures uncounted { OnErr result (steps.new ≡ steps.old) }
     {
         let rtype = item.rtype();
-        match self.set_at(owner, rtype) {
+        let node = self.node_at(owner);
+        let there = node.is_some();
+        match self.set_in(owner, node, rtype) {
             Some(set) => match may_append(set, &item, alone) {
                 Ok(()) => match self.append_in_place(alloc, owner, ttl, item, steps) {
                     Ok(()) => Ok(()),
@@ -118,7 +120,7 @@ impl VersionTree {
                     Err(error)
                 }
             },
-            None => match self.put_first(alloc, owner, ttl, item, steps) {
+            None => match self.put_first(alloc, owner, ttl, item, there, steps) {
                 Ok(()) => Ok(()),
                 Err(_) => Err(PutError::Memory),
             },
@@ -141,9 +143,11 @@ impl VersionTree {
         ensures uncounted { OnErr result (steps.new ≡ steps.old) }
     {
         let rtype = item.rtype();
-        match self.set_at(owner, rtype) {
+        let node = self.node_at(owner);
+        let there = node.is_some();
+        match self.set_in(owner, node, rtype) {
             Some(_) => self.open_in_place(alloc, owner, ttl, item, steps),
-            None => self.put_first(alloc, owner, ttl, item, steps),
+            None => self.put_first(alloc, owner, ttl, item, there, steps),
         }
     }
 
@@ -234,16 +238,18 @@ impl VersionTree {
         self.edit_in_place(owner, rtype, Thinning { ttl, item }, steps)
     }
 
-    /// Puts data in a new RRset of their type at an owner.
+    /// Puts data in a new RRset of their type at an owner; `there` tells whether that has a node.
     fn put_first(
         &mut self,
         alloc: Global,
         owner: &NameKeyRef<'_>,
         ttl: Ttl,
         item: StoredRecordData,
+        there: bool,
         steps: &mut NodeCount,
     ) -> Result<(), AllocError>
-        requires { under owner.now self.old.apex ≡ true }
+        requires zone { under owner.now self.old.apex ≡ true }
+        requires there { there ≡ is_some (node_of self.old owner.now) }
         ensures ok { OnOk result (self.new ≡ edits.put_set self.old owner.now (rtype_of item) (record { ttl = ttl; items = data_fields item ∷ [] })) }
         ensures err { OnErr result (self.new ≡ self.old) }
         ensures steps { OnOk result (steps.new ≡ counted steps.old (built self.old self.new owner.now (rtype_of item))) }
@@ -251,7 +257,10 @@ impl VersionTree {
     {
         let rtype = item.rtype();
         let set = first_of(alloc, ttl, item)?;
-        self.put_full(alloc, owner, rtype, set, steps)
+        if there {
+            return self.put_full(alloc, owner, rtype, set, steps);
+        }
+        self.put_in_new(alloc, owner, rtype, set, steps)
     }
 }
 

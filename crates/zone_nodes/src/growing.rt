@@ -1,5 +1,5 @@
 // A set is put among nodes.
-ghost use Rattle.std.specs.Prelude.{◌≡◌, ◌≤◌, true, length, IsSome, OnOk, OnErr};
+ghost use Rattle.std.specs.Prelude.{◌≡◌, ◌≤◌, true, length, None, is_some, IsSome, OnOk, OnErr};
 ghost use Rattle.zone_nodes.specs.Held.{counted};
 ghost use Rattle.zone_nodes.specs.Trees.{NodeSets, node_at, type_in};
 ghost use Rattle.zone_nodes.specs.Ways.{put_node, add_upwards, lacking_upwards, add_above, lacking_above, put_held, put_steps};
@@ -72,6 +72,13 @@ fn put_with_above(
     fill_above(nodes, alloc, name, steps)
 }
 
+/// Whether a name has a node. The first node is compared before the map is searched: the apex is above most names.
+fn has_node(nodes: &NodeMap, name: &NameKeyRef<'_>) -> bool
+    ensures { result ≡ is_some (node_at nodes.now name.now) }
+{
+    nodes.is_first(name) || nodes.has(name)
+}
+
 /// Whether the name above one has a node, or there is none above it.
 fn has_above(nodes: &NodeMap, name: &NameKeyRef<'_>) -> bool
     ensures add { (held : NodeSets) → result ≡ true
@@ -79,7 +86,7 @@ fn has_above(nodes: &NodeMap, name: &NameKeyRef<'_>) -> bool
     ensures lacking { (held : NodeSets) → result ≡ true → lacking_above (put_node nodes.now name.now held) name.now ≡ 0 }
 {
     match name.parent() {
-        Some(parent) => nodes.has(&parent),
+        Some(parent) => has_node(nodes, &parent),
         None => true,
     }
 }
@@ -130,11 +137,30 @@ pub(crate) fn put_set(
             let node = node.with(rtype, set, steps)?;
             nodes.insert(alloc, name, node)
         }
-        None => {
-            let node = ZoneNode::of_one(alloc, rtype, set, steps)?;
-            put_new(nodes, alloc, name, node, steps)
-        }
+        None => put_in_new(nodes, alloc, name, rtype, set, steps),
     }
+}
+
+/// The same at a name that has no node, which isn't looked for.
+pub(crate) fn put_in_new(
+    nodes: &mut NodeMap,
+    alloc: Global,
+    name: &NameKeyRef<'_>,
+    rtype: Rtype,
+    set: SharedRrset,
+    steps: &mut NodeCount,
+) -> Result<(), AllocError>
+    requires own { set.rtype ≡ rtype }
+    requires full { 1 ≤ length set.contents.items }
+    requires new { node_at nodes.old name.now ≡ None }
+    ensures ok { OnOk result (nodes.new ≡ put_held nodes.old name.now rtype set.contents (node_at nodes.old name.now)) }
+    ensures err { OnErr result (nodes.new ≡ nodes.old) }
+    ensures steps { OnOk result (steps.new ≡ counted steps.old (put_steps nodes.old name.now rtype set.contents (node_at nodes.old name.now))) }
+    ensures few { steps.new ≤ counted steps.old (put_steps nodes.old name.now rtype set.contents (node_at nodes.old name.now)) }
+{
+    let _ = steps.get();
+    let node = ZoneNode::of_one(alloc, rtype, set, steps)?;
+    put_new(nodes, alloc, name, node, steps)
 }
 
 /// Edits the RRset of a name and type, which stands there and keeps data, in place. No node is built. Without memory all is as before.

@@ -1,5 +1,5 @@
 // Nodes by name.
-ghost use Rattle.std.specs.Prelude.{◌≡◌, ◌==◌, ◌&&◌, [], length, not, filter, IfOk, OnOk, OnErr, IsSome, Some, is_some, option_copied};
+ghost use Rattle.std.specs.Prelude.{◌≡◌, ◌==◌, ◌&&◌, true, [], length, not, filter, IfOk, OnOk, OnErr, IsSome, Some, is_some, option_copied};
 ghost use Rattle.std.specs.List.{list_any};
 ghost use Rattle.std.specs.Ordering.{is_eq, is_le};
 ghost use Rattle.std.specs.List.Sorted.{IsStrictlySortedBy};
@@ -61,6 +61,17 @@ impl NodeMap {
         ensures { result ≡ is_some (node_at self.now name.now) }
     {
         self.get(name).is_some()
+    }
+
+    /// Whether a name is that of the first node, as the apex is in a version's tree.
+    pub(crate) fn is_first(&self, name: &NameKeyRef<'_>) -> bool
+        ensures { result ≡ true → is_some (node_at self.now name.now) ≡ true }
+    {
+        let mut entries = self.pages.iter();
+        match entries.next() {
+            Some((key, _)) => is_same(name.as_slice(), key),
+            None => false,
+        }
     }
 
     /// Whether RRsets are held at or below a name, those of an owner aside.

@@ -1,6 +1,6 @@
 // Versions as trees.
-ghost use Rattle.std.specs.Prelude.{◌≡◌, ◌≤◌, ◌==◌, [], length, true, false, if◌then◌else◌, filter, find, map, option_copied, option_map, IfOk, IfSome, IsSome, OnOk, OnErr};
-ghost use Rattle.dns_name.specs.Names.{fold, under, canonical_cmp};
+ghost use Rattle.std.specs.Prelude.{◌≡◌, ◌≤◌, ◌==◌, [], length, true, false, if◌then◌else◌, filter, find, map, option_copied, option_map, is_some, IfOk, IfSome, IsSome, OnOk, OnErr};
+ghost use Rattle.dns_name.specs.Names.{fold, same_name, under, canonical_cmp};
 ghost use Rattle.zone_model.specs.Version.{key_cmp, set_at};
 ghost use Rattle.zone_model.specs.Edits as edits;
 ghost use Rattle.zone_nodes.specs.Held.{told, counted};
@@ -11,7 +11,7 @@ ghost use Rattle.zone_nodes.specs.Keyed.{named, AreKeys};
 ghost use Rattle.zone_nodes.specs.Trees.{IsTree, sets_of, node_of, built, built_by_clear};
 
 use crate::clearing::clear_below;
-use crate::growing::{edit_set, put_set};
+use crate::growing::{edit_set, put_in_new, put_set};
 use crate::node::{NodeCount, ZoneNode};
 use crate::node_map::NodeMap;
 use crate::set_edit::SetEdit;
@@ -79,6 +79,20 @@ impl VersionTree {
         })
     }
 
+    /// The same RRsets in a version of another class, and of an apex that is the same name up to case. All nodes are shared.
+    pub fn reopened(&self, apex: StoredName, class: Class) -> Result<VersionTree, AllocError>
+        requires { same_name apex self.now.apex ≡ true }
+        ensures { IfOk result (λ t. t ≡ record { apex = apex; class = class; sets = self.now.sets }) }
+    {
+        match self.nodes.clone() {
+            Ok(nodes) => Ok(VersionTree { apex, class, nodes }),
+            Err(error) => {
+                drop(apex);
+                Err(error)
+            }
+        }
+    }
+
     /// The apex, as it was given.
     pub fn apex(&self) -> &StoredName
         ensures { result.now ≡ self.now.apex }
@@ -101,7 +115,7 @@ impl VersionTree {
     }
 
     /// The same of a name's key.
-    fn node_at(&self, name: &NameKeyRef<'_>) -> Option<&ZoneNode>
+    pub(crate) fn node_at(&self, name: &NameKeyRef<'_>) -> Option<&ZoneNode>
         ensures { option_copied result ≡ node_of self.now name.now }
     {
         self.nodes.get(name)
@@ -142,7 +156,22 @@ impl VersionTree {
     pub(crate) fn set_at(&self, name: &NameKeyRef<'_>, rtype: Rtype) -> Option<&Rrset>
         ensures { option_copied result ≡ option_map (typed rtype) (set_at self.now name.now rtype) }
     {
-        match self.nodes.get(name) {
+        self.set_in(name, self.node_at(name), rtype)
+    }
+
+    /// The same in the owner's node, where it has one.
+    pub(crate) fn set_in<'v>(
+        &'v self,
+        name: &NameKeyRef<'_>,
+        node: Option<&'v ZoneNode>,
+        rtype: Rtype,
+    ) -> Option<&'v Rrset>
+        requires { option_copied node ≡ node_of self.now name.now }
+        ensures { option_copied result ≡ option_map (typed rtype) (set_at self.now name.now rtype) }
+    {
+        // For the proof: the nodes are the version's tree.
+        let _class = self.class;
+        match node {
             Some(node) => node.get(rtype),
             None => None,
         }
@@ -265,6 +294,31 @@ impl VersionTree {
         let _ = owner.as_slice();
         let before = steps.get();
         let done = put_set(&mut self.nodes, alloc, owner, rtype, set, steps);
+        steps.keep_if(done.is_ok(), before);
+        done
+    }
+
+    /// The same at an owner that has no node, which isn't looked for.
+    pub(crate) fn put_in_new(
+        &mut self,
+        alloc: Global,
+        owner: &NameKeyRef<'_>,
+        rtype: Rtype,
+        set: SharedRrset,
+        steps: &mut NodeCount,
+    ) -> Result<(), AllocError>
+        requires zone { under owner.now self.old.apex ≡ true }
+        requires own { set.rtype ≡ rtype }
+        requires full { 1 ≤ length set.contents.items }
+        requires new { is_some (node_of self.old owner.now) ≡ false }
+        ensures ok { OnOk result (self.new ≡ trees.with_set self.old owner.now rtype (Some set.contents)) }
+        ensures err { OnErr result (self.new ≡ self.old) }
+        ensures steps { OnOk result (steps.new ≡ counted steps.old (built self.old self.new owner.now rtype)) }
+        ensures uncounted { OnErr result (steps.new ≡ steps.old) }
+    {
+        let _ = owner.as_slice();
+        let before = steps.get();
+        let done = put_in_new(&mut self.nodes, alloc, owner, rtype, set, steps);
         steps.keep_if(done.is_ok(), before);
         done
     }
