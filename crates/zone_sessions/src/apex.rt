@@ -7,7 +7,6 @@ ghost use Rattle.zone_values.specs.Relative.{labels_below};
 ghost use Rattle.zone_values.specs.TypedEntries.{typed};
 ghost use Rattle.zone_parts.specs.Parts.{part};
 
-use crate::copying::{copied_sets, opened};
 use crate::write::WriteZone;
 use dns_name::{Class, Labelled, Rtype, StoredName, ToName};
 use std::alloc::{AllocError, Global};
@@ -45,7 +44,7 @@ impl ZoneApex {
         })
     }
 
-    /// A zone of the RRsets of a version that is read, which are copied: `rrsets` and `children` are the parts of its apex, as the calls of these
+    /// A zone of the RRsets of a version that is read, which are shared: `rrsets` and `children` are the parts of its apex, as the calls of these
     /// names lend them, and `apex_name` is that apex up to case. `version` is the number of the version that it opens with. Refused only where memory
     /// runs out.
     pub fn from_parts(
@@ -62,16 +61,9 @@ impl ZoneApex {
         ensures { IfOk result (λ z. z ≡ record { number = version; version = record { apex = apex_name; class = class; sets = rrsets.entry.version.sets } }) }
     {
         drop(children);
-        match copied_sets(alloc, rrsets.version()) {
-            Ok(sets) => {
-                let current = opened(alloc, apex_name, class, sets, version)?;
-                Ok(ZoneApex::of(current))
-            }
-            Err(error) => {
-                drop(apex_name);
-                Err(error)
-            }
-        }
+        let reopened = rrsets.version().reopened(apex_name, class)?;
+        let contents = Arc::new(alloc, reopened)?;
+        Ok(ZoneApex::of(ReadZone::of(version, contents)))
     }
 
     /// A zone with this current version.

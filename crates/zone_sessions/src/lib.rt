@@ -3,7 +3,6 @@
 
 mod apex;
 mod builder;
-mod copying;
 mod edits;
 mod node;
 mod opening;

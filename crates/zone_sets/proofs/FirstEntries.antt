@@ -1,9 +1,9 @@
--- The first entry after a key, and from a key on.
-use Rattle.std.proofs.Common.{◌≡◌, Bool, true, false, cond, ◌&&◌, List, [], ◌∷◌, refl, sym, ap, is_lt, is_le, Option, Some, None, option_map}
+-- The first entry after a key.
+use Rattle.std.proofs.Common.{◌≡◌, Bool, true, false, cond, ◌&&◌, List, [], ◌∷◌, refl, sym, ap, is_lt, Option, Some, None, option_map}
 use Rattle.std.specs.List.{find}
 use Rattle.std.specs.Map.Iter.{TakesFirst}
 use Rattle.std.specs.BTreeMap.Range.{entries_between}
-use Rattle.std.specs.declared.ops.Bound.TheVariants.{Included, Excluded, Unbounded}
+use Rattle.std.specs.declared.ops.Bound.TheVariants.{Excluded, Unbounded}
 use Rattle.zone_model.specs.Version.{Key, key_cmp}
 
 abbrev pub head_of : {X : Type 0} → List X → Option X
@@ -22,15 +22,5 @@ first_of_range {X} k (e ∷ es) = by (is_lt (key_cmp k e.0)) (first_of_range k e
   where
     by : (b : Bool) → head_of (entries_between key_cmp (Excluded k) Unbounded es) ≡ find (λ (f : Key × X). is_lt (key_cmp k f.0)) es
         → head_of (cond (b && true) (e ∷ entries_between key_cmp (Excluded k) Unbounded es) (entries_between key_cmp (Excluded k) Unbounded es)) ≡ cond b (Some e) (find (λ (f : Key × X). is_lt (key_cmp k f.0)) es)
-    by true h = refl
-    by false h = h
-
--- the same with the bound's key
-pub first_of_range_from : {X : Type 0} (k : Key) (es : List (Key × X)) → head_of (entries_between key_cmp (Included k) Unbounded es) ≡ find (λ (e : Key × X). is_le (key_cmp k e.0)) es
-first_of_range_from k [] = refl
-first_of_range_from {X} k (e ∷ es) = by (is_le (key_cmp k e.0)) (first_of_range_from k es)
-  where
-    by : (b : Bool) → head_of (entries_between key_cmp (Included k) Unbounded es) ≡ find (λ (f : Key × X). is_le (key_cmp k f.0)) es
-        → head_of (cond (b && true) (e ∷ entries_between key_cmp (Included k) Unbounded es) (entries_between key_cmp (Included k) Unbounded es)) ≡ cond b (Some e) (find (λ (f : Key × X). is_le (key_cmp k f.0)) es)
     by true h = refl
     by false h = h

@@ -1,5 +1,5 @@
 -- Entries whose sets are seen without their type.
-use Rattle.std.proofs.Common.{◌≡◌, ℕ, suc, Bool, true, false, cond, List, [], ◌∷◌, map, filter, find, length, refl, sym, ap, ◌∙◌, true≢false, Ordering, Less, Equal, Greater, Option, Some, None, option_map, is_some, is_eq, eqb-true, eq-eqb}
+use Rattle.std.proofs.Common.{◌≡◌, ℕ, Bool, true, false, cond, List, [], ◌∷◌, map, find, refl, sym, ap, ◌∙◌, Ordering, Less, Equal, Greater, Some, None, option_map, is_eq, eqb-true}
 use Rattle.std.specs.List.{list_all}
 use Rattle.std.specs.Ordering.{match_ordering}
 use Rattle.std.specs.Cmp.{first_so, second_so}
@@ -11,7 +11,6 @@ use Rattle.zone_model.proofs.Entries.{seen-insert_entry, seen-remove_entry, seen
 use Rattle.zone_model.proofs.Folded.{key_from_tie}
 use Rattle.zone_values.specs.TypedSets.{TypedSet}
 use Rattle.zone_values.specs.TypedEntries.{typed, item_of, entry_of, has_own_type, typed_set_in}
-use Rattle.zone_values.proofs.Equality.{filter_map}
 
 abbrev pub TypedEntries : Type 0
 TypedEntries = List (Key × TypedSet)
@@ -24,16 +23,9 @@ insert_seen es k s = seen-insert_entry (λ (t : TypedSet). t.contents) key_cmp e
 pub remove_seen : (test : Key → Bool) (es : TypedEntries) → map entry_of (remove_entry test es) ≡ remove_entry test (map entry_of es)
 remove_seen test es = seen-remove_entry (λ (t : TypedSet). t.contents) test es
 
-pub filter_seen : (p : Key → Bool) (es : TypedEntries) → map entry_of (filter (λ (e : Key × TypedSet). p e.0) es) ≡ filter (λ (e : Key × RecordSet). p e.0) (map entry_of es)
-filter_seen p es = filter_map (λ (e : Key × RecordSet). p e.0) entry_of es
-
 pub keys_seen : (es : TypedEntries) → keys_of (map entry_of es) ≡ keys_of es
 keys_seen [] = refl
 keys_seen (e ∷ es) = ap (λ l. e.0 ∷ l) (keys_seen es)
-
-pub length_seen : (es : TypedEntries) → length (map entry_of es) ≡ length es
-length_seen [] = refl
-length_seen (e ∷ es) = ap (λ n. suc n) (length_seen es)
 
 -- ---- each set of its key's type
 
@@ -65,19 +57,9 @@ lookup_seen (e ∷ es) k h = by (key_cmp k e.0) refl (lookup_seen es k (rest_own
     by Equal q later = ap Some (typed_is e.1 k.1 (first_own e es h ∙ sym (key_from_tie k e.0 q).1))
     by Greater q later = later
 
-pub found_own : (es : TypedEntries) (k : Key) (s : TypedSet) → list_all has_own_type es ≡ true → Some s ≡ lookup (has_key k) es → s.rtype ≡ k.1
-found_own es k s h found = by (set_in (map entry_of es) k) (found ∙ lookup_seen es k h)
-  where
-    by : (o : Option RecordSet) → Some s ≡ option_map (typed k.1) o → s.rtype ≡ k.1
-    by None g = absurd (true≢false (ap is_some g))
-    by (Some t) g = ap (λ (x : Option TypedSet). elim x as (λ y. ℕ) [ Some y ↦ y.rtype | None ↦ s.rtype ]) g
-
 -- what isn't there can't be found
 pub absent_seen : (es : TypedEntries) (k : Key) → lookup (has_key k) es ≡ None → set_in (map entry_of es) k ≡ None
 absent_seen es k none = seen-lookup (λ (t : TypedSet). t.contents) (has_key k) es ∙ ap (option_map (λ (t : TypedSet). t.contents)) none
-
-pub found_seen : (es : TypedEntries) (k : Key) (s : TypedSet) → Some s ≡ lookup (has_key k) es → Some s.contents ≡ set_in (map entry_of es) k
-found_seen es k s found = ap (option_map (λ (t : TypedSet). t.contents)) found ∙ sym (seen-lookup (λ (t : TypedSet). t.contents) (has_key k) es)
 
 -- the first set at which a test of keys says yes
 pub find_seen : (p : Key → Bool) (es : TypedEntries) → list_all has_own_type es ≡ true → find (λ (e : Key × TypedSet). p e.0) es ≡ option_map item_of (find (λ (e : Key × RecordSet). p e.0) (map entry_of es))
@@ -108,14 +90,3 @@ all_remove p test (e ∷ es) h = by (test e.0) (all_remove p test es (second_so 
     by : (b : Bool) → list_all p (remove_entry test es) ≡ true → list_all p (cond b es (e ∷ remove_entry test es)) ≡ true
     by true later = second_so (p e) (list_all p es) h
     by false later = both_true (first_so (p e) (list_all p es) h) later
-
-pub all_filter : {X : Type 0} (p q : X → Bool) (xs : List X) → list_all p xs ≡ true → list_all p (filter q xs) ≡ true
-all_filter p q [] h = refl
-all_filter p q (x ∷ xs) h = by (q x) (all_filter p q xs (second_so (p x) (list_all p xs) h))
-  where
-    by : (b : Bool) → list_all p (filter q xs) ≡ true → list_all p (cond b (x ∷ filter q xs) (filter q xs)) ≡ true
-    by true later = both_true (first_so (p x) (list_all p xs) h) later
-    by false later = later
-
-pub insert_own : (es : TypedEntries) (k : Key) (s : TypedSet) → s.rtype ≡ k.1 → list_all has_own_type es ≡ true → list_all has_own_type (insert_entry key_cmp es k s) ≡ true
-insert_own es k s type h = all_insert has_own_type es k s (eq-eqb s.rtype k.1 type) (λ e g q. eq-eqb s.rtype e.0.1 (type ∙ (key_from_tie k e.0 q).1)) h

@@ -29,6 +29,7 @@ impl Model for SetKey {
 
 impl SetKey {
     /// Where the RRset of an owner and type stands.
+    #[tactic(auto, using(crate::proofs::InLowerCase::stays_folded))]
     pub fn new<N: Labelled>(owner: &N, rtype: Rtype) -> SetKey
         ensures { result ≡ (fold (N.labels owner.now), rtype) }
     {

@@ -1,10 +1,12 @@
 -- Whether a cut stands at a name or above it, name by name upwards.
-use Rattle.std.proofs.Common.{◌≡◌, ℕ, Bool, true, false, ◌||◌, cond, List, [], ◌∷◌, reverse, refl, sym, ap, ◌∙◌, Some, is_some}
-use Rattle.std.specs.List.{list_any, find}
+use Rattle.std.proofs.Common.{◌≡◌, ℕ, Bool, true, false, not, ◌&&◌, ◌||◌, cond, List, [], ◌∷◌, length, drop, reverse, refl, sym, ap, ◌∙◌, Some, is_some, arith}
+use Rattle.std.specs.List.{list_any, find, ends_with}
+use Rattle.std.specs.Str.{bytes_eq}
 use mathlib.Core.List.{reverse-cons}
 use Rattle.std.proofs.lemmas.List.Folds.{list_any-append}
-use Rattle.dns_name.specs.Names.{Name, upwards}
-use Rattle.zone_model.specs.Version.{Version, is_cut}
+use Rattle.dns_name.specs.Names.{Name, fold, labels_eq, upwards}
+use Rattle.dns_name.specs.Codes.{type_ns}
+use Rattle.zone_model.specs.Version.{Version, set_in, is_cut}
 use Rattle.zone_model.specs.Answer.{highest_cut}
 
 or_false : (b : Bool) → (b || false) ≡ b
@@ -44,3 +46,18 @@ no_cut v m e none = ap (λ x. list_any (is_cut v) (upwards x)) e ∙ or_false (i
 pub cut_here : (v : Version) (m : Name) → is_cut v m ≡ true → list_any (is_cut v) (upwards m) ≡ true
 cut_here v [] h = or_false (is_cut v []) ∙ h
 cut_here v (l ∷ n) h = ap (λ b. b || list_any (is_cut v) (upwards n)) h
+
+-- ---- names that differ in case alone
+
+cut_alike : (v : Version) (m n : Name) → fold m ≡ fold n → is_cut v m ≡ is_cut v n
+cut_alike v m n e i = (ends_with bytes_eq (e i) (fold v.apex) && not (labels_eq (e i) (fold v.apex))) && is_some (set_in v.sets (e i, type_ns))
+
+any_alike : (v : Version) (m n : Name) → fold m ≡ fold n → list_any (is_cut v) (upwards m) ≡ list_any (is_cut v) (upwards n)
+any_alike v [] [] e = refl
+any_alike v [] (l ∷ n) e = absurd (omega (arith, ap length e))
+any_alike v (k ∷ m) [] e = absurd (omega (arith, ap length e))
+any_alike v (k ∷ m) (l ∷ n) e = λ i. cut_alike v (k ∷ m) (l ∷ n) e i || any_alike v m n (ap (drop 1) e) i
+
+-- .. lie below the same cuts
+pub below_alike : (v : Version) (m n : Name) → fold m ≡ fold n → is_some (highest_cut v m) ≡ is_some (highest_cut v n)
+below_alike v m n e = any_cut v m ∙ any_alike v m n e ∙ sym (any_cut v n)

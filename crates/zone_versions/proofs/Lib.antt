@@ -11,7 +11,9 @@ pub mod NodeEdits
 pub mod NextSerial
 mod Adding
 pub mod Outcomes
-mod Places
+mod Standing
 mod Dropping
-mod Moving
+pub mod Moving
+mod Reopened
 mod ApexLengths
+mod Spelled

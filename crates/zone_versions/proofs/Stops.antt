@@ -1,5 +1,5 @@
 -- The stops of a version as a walk of its tree shows them.
-use Rattle.std.proofs.Common.{◌≡◌, ℕ, zero, suc, Bool, true, false, cond, if◌then◌else◌, List, [], ◌∷◌, map, refl, sym, ap, ◌∙◌, arith, Ordering, Less, Equal, Greater, is_gt, is_le, is_lt, Option, Some, None, option_map}
+use Rattle.std.proofs.Common.{◌≡◌, ℕ, zero, suc, Bool, true, false, cond, if◌then◌else◌, List, [], ◌∷◌, map, refl, sym, ap, ◌∙◌, arith, Ordering, Less, Equal, Greater, is_gt, is_le, is_lt, Option, Some, None, is_some, option_map}
 use Rattle.std.specs.List.{find, list_any}
 use Rattle.std.specs.Map.{keys_of}
 use Rattle.std.specs.Ordering.{ordering_reverse}
@@ -7,12 +7,14 @@ use Rattle.std.specs.Cmp.{nat_cmp_is}
 use Rattle.dns_name.specs.Names.{Name, fold, same_name, spelling_cmp, canonical_cmp}
 use Rattle.std.specs.Ordering.{ordering_then, nat_cmp}
 use Rattle.zone_model.specs.Version.{RecordSet, Key, Sets, Version, key_cmp}
+use Rattle.zone_model.specs.Answer.{highest_cut}
 use Rattle.zone_model.specs.Walk.{Stop, shown_owner, walk}
 use Rattle.zone_model.proofs.Folded.{fold-fold, key_total, same_name-Decides}
 use Rattle.zone_values.specs.TypedSets.{TypedSet}
 use Rattle.zone_values.proofs.Equality.{list_any_map}
 use Rattle.zone_nodes.specs.Held.{told}
 use Rattle.zone_versions.specs.Stops.{stop_of, first_of, first_stop, entry_told, key_told}
+use Rattle.zone_versions.proofs.Cuts.{below_alike}
 
 turned : (r : Ordering) → is_gt (ordering_reverse r) ≡ is_lt r
 turned Less = refl
@@ -20,12 +22,19 @@ turned Equal = refl
 turned Greater = refl
 
 -- an owner is shown up to its case
-shown_folds : (v : Version) (n : Name) → fold (fold (shown_owner v n)) ≡ fold n
-shown_folds v n = by (same_name n v.apex) refl
+shown_alike : (v : Version) (n : Name) → fold (shown_owner v n) ≡ fold n
+shown_alike v n = by (same_name n v.apex) refl
   where
-    by : (b : Bool) → same_name n v.apex ≡ b → fold (fold (if b then v.apex else n)) ≡ fold n
-    by true h = fold-fold v.apex ∙ sym ((same_name-Decides n v.apex).0 h)
-    by false h = fold-fold n
+    by : (b : Bool) → same_name n v.apex ≡ b → fold (if b then v.apex else n) ≡ fold n
+    by true h = sym ((same_name-Decides n v.apex).0 h)
+    by false h = refl
+
+shown_folds : (v : Version) (n : Name) → fold (fold (shown_owner v n)) ≡ fold n
+shown_folds v n = fold-fold (shown_owner v n) ∙ shown_alike v n
+
+-- .. so a stop is below a cut where its owner, as it is shown, is
+pub cut_shown : (v : Version) (e : Key × RecordSet) (owner : Name) → owner ≡ (stop_of v e).owner → is_some (highest_cut v owner) ≡ (stop_of v e).below_cut
+cut_shown v e owner h = below_alike v owner e.0.0 (ap fold h ∙ shown_alike v e.0.0)
 
 -- a stop is after a key where its entry is
 behind : (v : Version) (k : Key) (e : Key × RecordSet) → is_gt (key_cmp (fold (stop_of v e).owner, (stop_of v e).rtype) k) ≡ is_lt (key_cmp k e.0)

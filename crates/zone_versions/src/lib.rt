@@ -7,12 +7,14 @@
 mod building;
 mod errors;
 mod nodes;
+mod places;
 mod version;
 mod walk;
 
 pub use building::{make_alias, make_cut, replace_set};
 pub use errors::EditError;
 pub use nodes::is_bad_alias;
+pub use places::is_at_or_below;
 pub use version::ZoneVersion;
 pub use walk::{RrsetIter, VersionKeys, WalkItem};
 pub use zone_nodes::NodeCount;

@@ -1,5 +1,5 @@
 // One version of a zone: look-ups, the walk, and edits.
-ghost use Rattle.std.specs.Prelude.{◌≡◌, ◌==◌, ◌&&◌, true, false, not, IsOk, IsSome, ◌++◌, ◌∷◌, [], Some, None, Ok, Err, IfOk, IfErr, IfSome, OnOk, OnErr, if◌then◌else◌, IfNone, IsSomeAnd, is_some, option_copied, option_map, map, find, filter};
+ghost use Rattle.std.specs.Prelude.{◌≡◌, ◌==◌, ◌&&◌, true, false, not, IsOk, IsSome, [], Some, None, Ok, Err, IfOk, IfErr, IfSome, OnOk, OnErr, if◌then◌else◌, IfNone, IsSomeAnd, is_some, option_copied, option_map, map, find};
 ghost use Rattle.std.specs.List.{list_any};
 ghost use Rattle.dns_name.specs.Names.{fold, same_name, under};
 ghost use Rattle.zone_model.specs.Version.{IsValid, key_cmp, set_in, set_at, below_apex, is_cut};
@@ -18,7 +18,6 @@ ghost use Rattle.zone_versions.specs.Puts.{StandsAt, adds_alias, appended, witho
 ghost use Rattle.zone_values.specs.TypedEntries.{typed, typed_set_in};
 ghost use Rattle.zone_values.specs.PutCauses.{TellsPut};
 ghost use Rattle.zone_values.specs.SetEdits.{put_with, last_set, opening_set};
-ghost use Rattle.std.specs.BTreeMap.{insert_entry};
 ghost use Rattle.std.specs.Map.{keys_of};
 ghost use Rattle.std.specs.Ordering.{is_lt};
 ghost use Rattle.dns_name.specs.Codes.{type_cname};
@@ -27,13 +26,14 @@ ghost use Rattle.dns_rdata.specs.DataFields.{soa_fields};
 ghost use Rattle.dns_rdata.specs.ZoneData.{rtype_of, data_fields};
 
 use crate::errors::EditError;
+use crate::places::is_at_or_below;
 use crate::walk::{VersionKeys, WalkItem, key_of};
 use dns_name::{Class, KeyName, Labelled, NameRef, Rtype, StoredName, ToName, Ttl};
 use dns_rdata::{RecordData, Soa, StoredRecord, StoredRecordData, ZoneRecordData};
 use std::alloc::{AllocError, Global};
 use std::marker::Model;
 use zone_nodes::{NodeCount, TreeSet, TreeSets, VersionTree};
-use zone_sets::{KeyedSets, SetKey};
+use zone_sets::SetKey;
 use zone_values::{PutError, Rrset};
 
 /// One version of a zone (RFC 1034, 4.2): the apex as it was given, the class, and the RRsets, in a tree whose parts versions share.
@@ -76,35 +76,22 @@ impl ZoneVersion {
         })
     }
 
-    /// A version of RRsets that may stand together in one. They are moved, and none is copied.
-    pub fn of_sets(
-        alloc: Global,
-        apex: &StoredName,
-        class: Class,
-        sets: KeyedSets,
-    ) -> Result<ZoneVersion, AllocError>
-        requires { IsSound (record { apex = apex.now; class = class; sets = sets }) }
-        ensures { IfOk result (λ v. v ≡ record { apex = apex.now; class = class; sets = sets }) }
+    /// A version of RRsets in a tree that may stand together in one. Nothing is copied.
+    pub fn of_tree(tree: VersionTree) -> ZoneVersion
+        requires { IsSound tree }
+        ensures { result ≡ tree }
     {
-        let mut version = ZoneVersion::empty(alloc, apex, class)?;
-        for (key, set) in sets.into_entries() {
-            version.put_at(alloc, &key, set)?;
-        }
-        Ok(version)
+        ZoneVersion { tree }
     }
 
-    /// Puts an RRset of a key's type, which may stand there, at the key, where none is.
-    fn put_at(&mut self, alloc: Global, key: &SetKey, set: Rrset) -> Result<(), AllocError>
-        requires own { set.rtype ≡ key.now.1 }
-        requires sound { IsSound (with_sets self.old (insert_entry key_cmp self.old.sets key.now set.contents)) }
-        ensures { OnOk result (self.new ≡ with_sets self.old (insert_entry key_cmp self.old.sets key.now set.contents)) }
+    /// The same RRsets in a version of another class, and of an apex that is the same name up to case. All nodes are shared.
+    pub fn reopened(&self, apex: StoredName, class: Class) -> Result<ZoneVersion, AllocError>
+        requires { same_name apex self.now.apex ≡ true }
+        ensures { IfOk result (λ v. v ≡ record { apex = apex; class = class; sets = self.now.sets }) }
     {
-        // For the proof: the owner is in lower case.
-        key.tell_folded();
-        let mut steps = NodeCount::new();
-        let set = set.into_shared(alloc)?;
-        self.tree
-            .with_set(alloc, key.owner(), key.rtype(), Some(set), &mut steps)
+        Ok(ZoneVersion {
+            tree: self.tree.reopened(apex, class)?,
+        })
     }
 
     /// A version of the same apex and class without records.
@@ -156,7 +143,11 @@ impl ZoneVersion {
     pub fn is_below_apex<N: ToName>(&self, name: &N) -> bool
         ensures { result ≡ below_apex self.now (N.labels name.now) }
     {
-        name.ends_with(self.apex()) && !name.name_eq(self.apex())
+        // A name below another is longer.
+        if name.compose_len() <= self.apex().compose_len() {
+            return false;
+        }
+        is_at_or_below(&name.to_key_name(), self.apex())
     }
 
     /// Whether a zone cut stands at a name (RFC 1034, 4.2.1).
@@ -166,13 +157,23 @@ impl ZoneVersion {
         self.is_below_apex(name) && self.has_set(name, Rtype::NS)
     }
 
+    /// The same of a name that is lent, which is not copied.
+    fn is_cut_at(&self, name: &NameRef<'_>) -> bool
+        ensures { result ≡ is_cut self.now name.now }
+    {
+        if name.compose_len() <= self.apex().compose_len() {
+            return false;
+        }
+        is_at_or_below(name, self.apex()) && self.has_set(name, Rtype::NS)
+    }
+
     /// Whether a zone cut stands at a name or above it.
     #[tactic(auto, using(crate::proofs::Cuts::any_cut, crate::proofs::Cuts::cut_above, crate::proofs::Cuts::no_cut, crate::proofs::Cuts::cut_here))]
     pub(crate) fn is_below_cut(&self, name: &KeyName) -> bool
         ensures { result ≡ is_some (highest_cut self.now name.now) }
     {
         let mut rest = name.borrowed();
-        while !self.is_cut(&rest) {
+        while !self.is_cut_at(&rest) {
             match rest.split_first() {
                 Some((_, parent)) => rest = parent,
                 None => return false,
@@ -307,14 +308,14 @@ impl ZoneVersion {
     pub fn is_outside(&self, added: &StoredRecord) -> bool
         ensures { result ≡ not (under added.now.owner self.now.apex) }
     {
-        !added.owner().ends_with(self.apex())
+        !is_at_or_below(added.owner(), self.apex())
     }
 
     /// Whether a key's owner is the apex or below it.
     fn is_in_zone(&self, key: &SetKey) -> bool
         ensures { result ≡ under key.now.0 self.now.apex }
     {
-        key.owner().ends_with(self.apex())
+        is_at_or_below(key.owner(), self.apex())
     }
 
     /// Whether data of a key's type stand alone: below the apex a name has one CNAME record at most (RFC 2181, 10.1).

@@ -86,7 +86,7 @@ impl<'v> WalkItem<'v> {
     pub fn below_cut(&self) -> bool
         ensures { result ≡ self.now.below_cut }
     {
-        self.version.is_below_cut(&self.found.owner().to_name())
+        self.version.is_below_cut(&self.owner)
     }
 }
 

@@ -5,7 +5,7 @@ use Rattle.zone_model.specs.Edits.{remove_set}
 use Rattle.zone_versions.specs.Sound.{IsSound}
 use Rattle.zone_versions.proofs.NodeEdits.{remove_sound}
 use Rattle.zone_versions.proofs.Outcomes.{on_ok, sound_after}
-use Rattle.zone_versions.proofs.Places.{none_outside}
+use Rattle.zone_versions.proofs.Standing.{none_outside}
 use Rattle.zone_versions.proofs.version.ZoneVersion.remove_set.Goals as goal
 
 -- No set stands outside the zone.
