@@ -1,5 +1,5 @@
 -- What a call answers for a verdict, and for a zone file.
-use Rattle.std.proofs.Common.{◌≡◌, ℕ, ◌==◌, Bool, true, false, not, if◌then◌else◌, sym, ap, ◌∙◌, Option, Some, None, Result, Ok, Err}
+use Rattle.std.proofs.Common.{◌≡◌, ℕ, ◌==◌, true, false, not, if◌then◌else◌, sym, ap, ◌∙◌, Option, Some, None, Ok}
 use Rattle.dns_name.specs.Records.{Record}
 use Rattle.zone_model.specs.Classify.{ZoneFile, Kind, BadRecord, RecordVerdict, ClassMismatch, Accepted, Rejected, refuse_if, classify}
 use Rattle.zone_errors.specs.declared.errors.RecordError.{RecordError}

@@ -8,7 +8,7 @@ use Rattle.dns_name.specs.Names.{Name, fold, same_name, under}
 use Rattle.dns_name.specs.Records.{Record}
 use Rattle.dns_name.specs.Codes.{type_ns, type_cname, type_ds}
 use Rattle.zone_model.specs.Version.{RecordSet, Sets, key_cmp, set_in}
-use Rattle.zone_model.specs.Classify.{Kind, Normal, Cut, Alias, Outside, BadRecord, ClassMismatch, IllegalZoneCut, IllegalRecord, IllegalCname, MultipleCnames, RecordVerdict, Accepted, Rejected, least, is_address, refuse_if}
+use Rattle.zone_model.specs.Classify.{Kind, Normal, Cut, Alias, Outside, same_kind, BadRecord, ClassMismatch, IllegalZoneCut, IllegalRecord, IllegalCname, MultipleCnames, RecordVerdict, Accepted, Rejected, least, is_address, refuse_if}
 use Rattle.zone_sets.proofs.KeptTypes.{all_insert}
 use Rattle.zone_records.specs.Parsed.{Parsed, is_no_alias, is_one_alias, IsByKind}
 use Rattle.zone_records.specs.Taking.{types_in, least_in, no_glue_in, cut_in, kind_in, verdict_as, verdict_in, put_to, taken_in}
@@ -98,6 +98,29 @@ module _ (p : Parsed) (r : Record) where
 
   pub taken_by_kind : (kind : Kind) → Accepted kind ≡ verdict_in p r → IsByKind p.normal p.cuts p.aliases → IsByKind (taken_in p r kind).normal (taken_in p r kind).cuts (taken_in p r kind).aliases
   taken_by_kind kind e h = subst Keeps (sym e) (keeps h)
+
+-- a record that is accepted as of another kind than those outside is in the zone
+pub accepted_in : (p : Parsed) (r : Record) (kind : Kind) → same_kind kind Outside ≡ false → Accepted kind ≡ verdict_in p r → under r.owner p.origin ≡ true
+accepted_in p r kind other e = by (under r.owner p.origin) (r.class == p.class) refl refl
+  where
+    kind_told : RecordVerdict → Kind
+    kind_told (Accepted k) = k
+    kind_told (Rejected why) = Normal
+
+    by : (u c : Bool) → under r.owner p.origin ≡ u → (r.class == p.class) ≡ c → u ≡ true
+    by true c h g = refl
+    by false true h g =
+        let outside : verdict_in p r ≡ Accepted Outside
+        = ap (λ b. if not b then Rejected ClassMismatch else verdict_as p r (kind_in p r)) g
+        ∙ ap (λ u. verdict_as p r (if not u then Outside else if ((r.rtype == type_ns) || (r.rtype == type_ds)) && not (same_name r.owner p.origin) then Cut else if r.rtype == type_cname then Alias else Normal)) h in
+        absurd (true≢false (sym (ap (λ k. same_kind k Outside) (ap kind_told (e ∙ outside))) ∙ other))
+    by false false h g =
+        let refused : verdict_in p r ≡ Rejected ClassMismatch = ap (λ b. if not b then Rejected ClassMismatch else verdict_as p r (kind_in p r)) g in
+        absurd (true≢false (ap is_accepted (e ∙ refused)))
+      where
+        is_accepted : RecordVerdict → Bool
+        is_accepted (Accepted k) = true
+        is_accepted (Rejected why) = false
 
 -- what holds of sets as they were, and of those that are made, holds after a call that makes them or not
 pub either : {T E : Type 0} (P : Sets → Type 0) (result : Result T E) (new made old : Sets) → OnOk result (new ≡ made) → OnErr result (new ≡ old) → P made → P old → P new

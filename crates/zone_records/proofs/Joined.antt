@@ -1,5 +1,5 @@
 -- The sets held of a zone file, put together, are those that it opens with.
-use Rattle.std.proofs.Common.{◌≡◌, ℕ, ◌==◌, Bool, true, false, cond, ◌&&◌, ◌||◌, not, if◌then◌else◌, List, [], ◌∷◌, ◌++◌, filter, fold as fold_list, refl, sym, ap, subst, ◌∙◌, true≢false, Ordering, Equal, Option, Some, None, is_some, is_eq}
+use Rattle.std.proofs.Common.{◌≡◌, ◌==◌, Bool, true, false, cond, ◌&&◌, ◌||◌, not, if◌then◌else◌, List, [], ◌∷◌, filter, fold as fold_list, refl, sym, ap, subst, ◌∙◌, true≢false, Option, Some, None}
 use Rattle.std.specs.Option.{option_or}
 use Rattle.std.specs.List.{AllByRecursion}
 use Rattle.std.specs.List.Sorted.{IsStrictlySortedBy}
@@ -7,7 +7,7 @@ use Rattle.std.specs.BTreeMap.{insert_entry}
 use Rattle.std.specs.Cmp.{Equal-is}
 use Rattle.std.specs.Map.{keys_of}
 use Rattle.std.proofs.lemmas.Map.Keys.{sorted_tail}
-use Rattle.dns_name.specs.Names.{Name, fold, same_name, under}
+use Rattle.dns_name.specs.Names.{fold, same_name, under}
 use Rattle.dns_name.specs.Records.{Record}
 use Rattle.dns_name.specs.Codes.{type_ns, type_cname, type_ds}
 use Rattle.zone_model.specs.Version.{RecordSet, Key, Sets, Version, key_cmp, has_key, set_in}

@@ -1,20 +1,20 @@
 -- What is held of a zone file decides and takes records as the file does.
 use Rattle.std.proofs.Common.{◌≡◌, ℕ, ◌==◌, Bool, true, false, cond, ◌&&◌, ◌||◌, not, if◌then◌else◌, List, [], ◌∷◌, ◌++◌, map, filter, fold as fold_list, refl, sym, ap, ◌∙◌, true≢false, Option, Some, None, Result, Ok, Err}
 use Rattle.std.specs.Option.{option_or}
-use Rattle.std.specs.List.{list_any, find}
+use Rattle.std.specs.List.{list_any}
 use Rattle.std.proofs.lemmas.List.Sums.{fold-append}
 use Rattle.std.proofs.lemmas.List.{append-nil}
 use Rattle.std.proofs.lemmas.List.Elements.{filter-append}
 use Rattle.dns_name.specs.Names.{Name, same_name}
 use Rattle.dns_name.specs.Records.{Record}
 use Rattle.dns_name.specs.Codes.{type_ns, type_ds}
-use Rattle.zone_model.specs.Version.{RecordSet, Key, Sets, Version}
-use Rattle.zone_model.specs.Classify.{ZoneFile, Kind, Normal, Cut, Alias, Outside, BadRecord, ClassMismatch, IllegalZoneCut, IllegalRecord, IllegalCname, MultipleCnames, RecordVerdict, Accepted, Rejected, kind_of, same_kind, types_at, least, is_address, normal_at, no_glue_at, cut_at, alias_at, refuse_if, classify_as, classify, opened_with}
-use Rattle.zone_records.specs.Parsed.{Parsed, sets_for, sets_of, kept, with_record}
+use Rattle.zone_model.specs.Version.{Sets, Version}
+use Rattle.zone_model.specs.Classify.{ZoneFile, Kind, Normal, Cut, Alias, Outside, BadRecord, ClassMismatch, IllegalZoneCut, IllegalRecord, IllegalCname, MultipleCnames, RecordVerdict, Accepted, Rejected, kind_of, same_kind, types_at, is_address, normal_at, no_glue_at, cut_at, alias_at, refuse_if, classify_as, classify, opened_with}
+use Rattle.zone_records.specs.Parsed.{Parsed, sets_of, kept, with_record}
 use Rattle.zone_records.specs.Taking.{types_in, least_in, no_glue_in, cut_in, verdict_in, verdict_as, put_to, taken_in, taken_by, take}
 use Rattle.zone_records.proofs.Lowest.{is_in, least_alike, filtered_alike, find_alike}
 use Rattle.zone_records.proofs.TypesIn.{has_type, has_in_types}
-use Rattle.zone_records.proofs.Putting.{put_record, put_is, sets_after, is_of, types_after}
+use Rattle.zone_records.proofs.Putting.{put_record, put_is, sets_after, types_after}
 
 -- ---- the types at an owner
 

@@ -10,3 +10,4 @@ pub mod ReadRecords
 pub mod Whole
 pub mod ByKind
 pub mod SoundFiles
+pub mod Opened

@@ -1,5 +1,5 @@
 -- Records read one by one.
-use Rattle.std.proofs.Common.{◌≡◌, ℕ, suc, ◌==◌, ◌<◌, Bool, true, false, if◌then◌else◌, List, [], ◌∷◌, ◌++◌, length, fold as fold_list, refl, sym, ap, subst, ◌∙◌, true≢false, append_assoc, append-nil, Option, Some, None, Result, Ok, Err, IfOk, IfErr, IfSome, eqb-true, arith}
+use Rattle.std.proofs.Common.{◌≡◌, ℕ, suc, ◌==◌, ◌<◌, Bool, true, false, if◌then◌else◌, List, [], ◌∷◌, ◌++◌, length, refl, sym, ap, ◌∙◌, true≢false, append_assoc, append-nil, Option, Some, None, Result, Ok, Err, IfOk, IfErr, IfSome, eqb-true, arith}
 use Rattle.dns_name.specs.Names.{Name}
 use Rattle.dns_name.specs.Records.{Record}
 use Rattle.dns_name.specs.Codes.{type_soa}
@@ -7,7 +7,7 @@ use Rattle.zone_model.specs.Classify.{ZoneFile, Kind, BadRecord, RecordVerdict, 
 use Rattle.zone_errors.specs.declared.errors.RecordError.{RecordError}
 use Rattle.zone_records.specs.Parsed.{Parsed, kept, with_record, empty_file}
 use Rattle.zone_records.specs.Taking.{verdict_in, taken_in, taken_by, take}
-use Rattle.zone_records.specs.Refusals.{Refusals, Reading, error_of, read_by, read_one, read_all, opening_file, missing_soa, unless_refused, read_after, file_of}
+use Rattle.zone_records.specs.Refusals.{Refusals, error_of, read_by, read_one, read_all, opening_file, missing_soa, unless_refused, read_after, file_of}
 use Rattle.zone_records.specs.Causes.{errors_in}
 use Rattle.zone_records.specs.declared.errors.FileError.{FileError}
 use Rattle.zone_records.proofs.KeptFiles.{take_kept}

@@ -11,7 +11,7 @@ use Rattle.std.specs.Map.{keys_of}
 use Rattle.dns_name.specs.Names.{Name, fold, same_name, under}
 use Rattle.dns_name.specs.Codes.{type_ns, type_cname, type_ds}
 use Rattle.zone_model.specs.Version.{RecordSet, Key, Sets, key_cmp, has_key, set_in, below_apex, all_differ}
-use Rattle.zone_model.specs.Classify.{Normal, Cut, Alias, Outside}
+use Rattle.zone_model.specs.Classify.{Kind, Normal, Cut, Alias, Outside}
 use Rattle.zone_model.proofs.Folded.{key_total, same_key, IsFolded, fold-fold, under_alike}
 use Rattle.zone_model.proofs.Ordered.{sorted-insert_entry}
 use Rattle.zone_errors.specs.declared.errors.ContextError.{ContextError}
@@ -149,6 +149,29 @@ module _ (p : Parsed) where
             (each is_tidy_at is_no_alias sound (passes p Cut) (λ e t o i. sound_by e (cut_inside cuts_pass e.0 i) t (no_alias e o)) p.cuts c.each k.1 cuts_pass)
             (each is_tidy_at is_no_alias sound (passes p Normal) (λ e t o i. sound_by e (normal_inside e.0 i) t (no_alias e o)) p.normal n.each k.0 (second_so (cut && alias) normal inner)));
       }
+
+-- the owners of all kinds that make a zone are in it
+all_in : (p : Parsed) (kind : Kind) → ((k : Key) → passes p kind k ≡ true → under k.0 p.origin ≡ true) → (ks : List Key) → list_all (passes p kind) ks ≡ true → list_all (λ (k : Key). under k.0 p.origin) ks ≡ true
+all_in p kind f [] h = refl
+all_in p kind f (k ∷ ks) h = both_true (f k (first_so (passes p kind k) (list_all (passes p kind) ks) h)) (all_in p kind f ks (second_so (passes p kind k) (list_all (passes p kind) ks) h))
+
+abbrev pub AllIn : Parsed → Type 0
+AllIn p = (list_all (λ (k : Key). under k.0 p.origin) (keys_of p.normal) ≡ true) × (list_all (λ (k : Key). under k.0 p.origin) (keys_of p.cuts) ≡ true) × (list_all (λ (k : Key). under k.0 p.origin) (keys_of p.aliases) ≡ true)
+
+pub owners_in : (p : Parsed) → faults p ≡ [] → AllIn p
+owners_in p none =
+    let cut = list_all (passes p Cut) (keys_of p.cuts) in
+    let alias = list_all (passes p Alias) (keys_of p.aliases) in
+    let normal = list_all (passes p Normal) (keys_of p.normal) in
+    let outside = list_all (passes p Outside) (keys_of p.outside) in
+    let whole : (((cut && alias) && normal) && outside) ≡ true = sym (whole_in_parts p) ∙ ap (λ (l : List (Name × ContextError)). length l == 0) none in
+    let inner = first_so ((cut && alias) && normal) outside whole in
+    let outer = first_so (cut && alias) normal inner in
+    let cuts_pass = first_so cut alias outer in (
+      all_in p Normal (normal_inside p) (keys_of p.normal) (second_so (cut && alias) normal inner),
+      all_in p Cut (cut_inside p cuts_pass) (keys_of p.cuts) cuts_pass,
+      all_in p Alias (alias_inside p) (keys_of p.aliases) (second_so cut alias outer),
+    )
 
 -- nothing was told
 pub no_faults : (p : Parsed) (found : List (Name × ContextError)) → found ≡ faults p → found ≡ [] → faults p ≡ []

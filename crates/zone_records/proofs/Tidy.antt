@@ -1,5 +1,5 @@
 -- Sets stay tidy as records are put to them, and a record is put as a zone opens.
-use Rattle.std.proofs.Common.{◌≡◌, ℕ, zero, suc, ◌==◌, Bool, true, false, cond, ◌&&◌, if◌then◌else◌, List, [], ◌∷◌, ◌++◌, length, min, nat_le, refl, sym, ap, subst, ◌∙◌, true≢false, Ordering, Equal, Option, Some, None, eq-eqb, le-leb, arith}
+use Rattle.std.proofs.Common.{◌≡◌, ℕ, zero, suc, ◌==◌, Bool, true, false, cond, ◌&&◌, if◌then◌else◌, List, [], ◌∷◌, ◌++◌, length, min, nat_le, refl, sym, ap, subst, ◌∙◌, true≢false, Option, Some, None, le-leb, arith}
 use Rattle.std.specs.Option.{option_map_or}
 use Rattle.std.specs.List.{list_any, list_all}
 use Rattle.std.specs.Cmp.{first_so, second_so}
@@ -10,7 +10,6 @@ use Rattle.dns_name.specs.Names.{fold, labels_eq}
 use Rattle.dns_name.specs.Records.{Field, Record, same_data}
 use Rattle.zone_model.specs.Version.{RecordSet, Key, Sets, key_cmp, has_key, set_in, all_differ}
 use Rattle.zone_model.specs.Edits.{distinct}
-use Rattle.zone_model.specs.Classify.{lowest_ttl}
 use Rattle.zone_model.proofs.Folded.{key_total, fold-fold}
 use Rattle.zone_model.proofs.Ordered.{sorted_none, sorted-insert_entry}
 use Rattle.zone_values.specs.SetEdits.{items_at, put_with, opening_set}

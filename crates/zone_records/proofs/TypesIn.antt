@@ -1,11 +1,11 @@
 -- The types that an owner has among sets, found by look-ups.
-use Rattle.std.proofs.Common.{◌≡◌, ℕ, ◌+◌, ◌≤◌, ◌<◌, ◌==◌, Bool, true, false, cond, ◌&&◌, ◌||◌, not, nat_le, if◌then◌else◌, List, [], ◌∷◌, map, filter, refl, sym, ap, subst, ◌∙◌, true≢false, Option, Some, None, option_map, is_some, is_eq, is_le, Ordering, Less, Equal, Greater, nat_cmp, arith, eqb-true, eq-eqb, leb-true, leb-false, le-leb}
+use Rattle.std.proofs.Common.{◌≡◌, ℕ, ◌+◌, ◌≤◌, ◌<◌, ◌==◌, Bool, true, false, cond, ◌&&◌, ◌||◌, not, nat_le, if◌then◌else◌, List, [], ◌∷◌, map, filter, refl, sym, ap, subst, ◌∙◌, true≢false, Option, Some, None, option_map, is_some, is_eq, is_le, is_lt, Ordering, Less, Equal, Greater, nat_cmp, arith, eqb-true, eq-eqb, leb-true, leb-false, le-leb}
 use Rattle.std.specs.List.{find, list_any}
 use Rattle.std.specs.Option.{option_or}
 use Rattle.std.specs.List.Sorted.{IsStrictlySortedBy}
-use Rattle.std.specs.Ordering.{ordering_then, eq_by_cmp}
+use Rattle.std.specs.Ordering.{ordering_then}
 use Rattle.std.specs.Cmp.{tied_then, unsigned_tied, nat_cmp_is, Equal-is}
-use Rattle.std.specs.Map.{keys_of, lookup}
+use Rattle.std.specs.Map.{keys_of}
 use Rattle.std.proofs.lemmas.Cmp.{ranked}
 use Rattle.std.proofs.lemmas.Map.{lookup-none}
 use Rattle.std.proofs.lemmas.Map.Keys.{sorted_tail}
@@ -17,7 +17,8 @@ use Rattle.zone_model.specs.Version.{RecordSet, Key, Sets, key_cmp, has_key, set
 use Rattle.zone_model.specs.Classify.{least, is_address}
 use Rattle.zone_model.proofs.Folded.{fold-fold, key_total, same_name_alike}
 use Rattle.zone_values.specs.TypedSets.{TypedSet}
-use Rattle.zone_values.specs.TypedEntries.{typed, item_of}
+use Rattle.zone_values.specs.TypedEntries.{typed}
+use Rattle.zone_nodes.specs.Held.{told}
 use Rattle.zone_records.specs.Taking.{types_in, least_in, no_glue_in, cut_in}
 use Rattle.zone_records.specs.TypeSteps.{type_from, past}
 use Rattle.zone_records.proofs.Lowest.{Lowest, is_in, find_in, least_by, lowest_one, lowest_same, lowest_kept, lowest_next, least_lowest, in_filter, not_and}
@@ -207,24 +208,63 @@ some_least (e ∷ es) owner = by (same_name e.0.0 owner) (some_least es owner)
     by true later = refl
     by false later = later
 
--- the entry that is found from a type on
-pub found_type : (sets : Sets) (owner : Name) (low : ℕ) (p : Key × TypedSet) → IsStrictlySortedBy key_cmp (keys_of sets) → Some p ≡ option_map item_of (entry_from owner low sets)
-    → (if same_name p.0.0 owner then Some p.0.1 else None) ≡ type_from sets owner low
+-- the set that is found from a type on, as a walk gives it
+pub found_type : (sets : Sets) (owner : Name) (low : ℕ) (p : Name × TypedSet) → IsStrictlySortedBy key_cmp (keys_of sets) → Some p ≡ option_map told (entry_from owner low sets)
+    → (if same_name p.0 owner then Some p.1.rtype else None) ≡ type_from sets owner low
 found_type sets owner low p s h = by (entry_from owner low sets) h ∙ first_from_is sets owner low s
   where
-    by : (o : Option (Key × RecordSet)) → Some p ≡ option_map item_of o → (if same_name p.0.0 owner then Some p.0.1 else None) ≡ own_type owner o
+    by : (o : Option (Key × RecordSet)) → Some p ≡ option_map told o → (if same_name p.0 owner then Some p.1.rtype else None) ≡ own_type owner o
     by None e = absurd (true≢false (ap is_some e))
     by (Some f) e =
-        let key : p.0 ≡ f.0 = ap (λ (o : Option (Key × TypedSet)). elim o as (λ y. Key) [ Some y ↦ y.0 | None ↦ p.0 ]) e in
-        ap (λ (k : Key). if same_name k.0 owner then Some k.1 else None) key
+        let same : p ≡ told f = ap (λ (o : Option (Name × TypedSet)). elim o as (λ y. Name × TypedSet) [ Some y ↦ y | None ↦ p ]) e in
+        ap (λ (q : Name × TypedSet). if same_name q.0 owner then Some q.1.rtype else None) same
 
-pub no_type : (sets : Sets) (owner : Name) (low : ℕ) → IsStrictlySortedBy key_cmp (keys_of sets) → ◌≡◌ {A = Option (Key × TypedSet)} None (option_map item_of (entry_from owner low sets))
+pub no_type : (sets : Sets) (owner : Name) (low : ℕ) → IsStrictlySortedBy key_cmp (keys_of sets) → ◌≡◌ {A = Option (Name × TypedSet)} None (option_map told (entry_from owner low sets))
     → None ≡ type_from sets owner low
 no_type sets owner low s h = by (entry_from owner low sets) h ∙ first_from_is sets owner low s
   where
-    by : (o : Option (Key × RecordSet)) → ◌≡◌ {A = Option (Key × TypedSet)} None (option_map item_of o) → None ≡ own_type owner o
+    by : (o : Option (Key × RecordSet)) → ◌≡◌ {A = Option (Name × TypedSet)} None (option_map told o) → None ≡ own_type owner o
     by None e = refl
     by (Some f) e = absurd (true≢false (sym (ap is_some e)))
+
+-- a key is after a type where it is from the next type on
+after_type : (owner : Name) (t : ℕ) (k : Key) → is_lt (key_cmp (fold owner, t) k) ≡ is_le (key_cmp (fold owner, t + 1) k)
+after_type owner t k = by (canonical_cmp (fold owner) k.0)
+  where
+    later : (m : ℕ) (o p : Ordering) → nat_cmp t m ≡ o → nat_cmp (t + 1) m ≡ p → is_lt o ≡ is_le p
+    later m Less Less e f = refl
+    later m Less Equal e f = refl
+    later m Less Greater e f =
+        let low : t < m = ranked t m Less (sym e) in
+        let high : m < t + 1 = ranked (t + 1) m Greater (sym f) in
+        absurd (omega (arith, low, high))
+    later m Equal Less e f =
+        let same : t ≡ m = ranked t m Equal (sym e) in
+        let low : t + 1 < m = ranked (t + 1) m Less (sym f) in
+        absurd (omega (arith, same, low))
+    later m Equal Equal e f =
+        let same : t ≡ m = ranked t m Equal (sym e) in
+        let next : t + 1 ≡ m = ranked (t + 1) m Equal (sym f) in
+        absurd (omega (arith, same, next))
+    later m Equal Greater e f = refl
+    later m Greater Less e f =
+        let high : m < t = ranked t m Greater (sym e) in
+        let low : t + 1 < m = ranked (t + 1) m Less (sym f) in
+        absurd (omega (arith, high, low))
+    later m Greater Equal e f =
+        let high : m < t = ranked t m Greater (sym e) in
+        let next : t + 1 ≡ m = ranked (t + 1) m Equal (sym f) in
+        absurd (omega (arith, high, next))
+    later m Greater Greater e f = refl
+
+    by : (o : Ordering) → is_lt (ordering_then o (nat_cmp t k.1)) ≡ is_le (ordering_then o (nat_cmp (t + 1) k.1))
+    by Less = refl
+    by Equal = later k.1 (nat_cmp t k.1) (nat_cmp (t + 1) k.1) refl refl
+    by Greater = refl
+
+pub first_after : (owner : Name) (t : ℕ) (es : Sets) → find (λ (e : Key × RecordSet). is_lt (key_cmp (fold owner, t) e.0)) es ≡ entry_from owner (t + 1) es
+first_after owner t [] = refl
+first_after owner t (e ∷ es) = λ i. cond (after_type owner t e.0 i) (Some e) (first_after owner t es i)
 
 -- DS before NS
 cut_is : (sets : Sets) (owner : Name) → cut_in sets owner ≡ option_or (if has_type sets owner type_ds then Some type_ds else None) (if has_type sets owner type_ns then Some type_ns else None)

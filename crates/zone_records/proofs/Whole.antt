@@ -1,24 +1,23 @@
 -- What is held of a zone file makes a zone exactly where the file's records do.
-use Rattle.std.proofs.Common.{◌≡◌, ℕ, suc, ◌==◌, Bool, true, false, cond, ◌&&◌, ◌||◌, not, if◌then◌else◌, List, [], ◌∷◌, ◌++◌, length, map, filter, fold as fold_list, refl, sym, ap, subst, ◌∙◌, true≢false, Ordering, Less, Equal, Greater, Option, Some, None, is_some, Result, Ok, Err, eqb-true, arith}
+use Rattle.std.proofs.Common.{◌≡◌, ℕ, suc, ◌==◌, Bool, true, false, cond, ◌&&◌, ◌||◌, not, if◌then◌else◌, List, [], ◌∷◌, ◌++◌, length, filter, fold as fold_list, refl, sym, ap, ◌∙◌, true≢false, Ordering, Less, Equal, Greater, Option, Some, None, is_some, Ok, eqb-true, arith}
 use Rattle.std.specs.Prelude.{is_none, filter_map, option_map}
 use Rattle.std.specs.List.{list_any, list_all, cons_option}
 use Rattle.std.specs.Ordering.{match_ordering}
 use Rattle.std.specs.BTreeMap.{insert_entry}
-use Rattle.std.specs.Cmp.{Equal-is}
 use Rattle.std.specs.Map.{keys_of}
 use Rattle.dns_name.specs.Names.{Name, fold, same_name, under}
 use Rattle.dns_name.specs.Records.{Record}
 use Rattle.dns_name.specs.Codes.{type_ns, type_cname, type_ds}
-use Rattle.zone_model.specs.Version.{RecordSet, Key, Sets, Version, key_cmp, has_key, set_in, set_at, below_apex, is_cut}
-use Rattle.zone_model.specs.Classify.{ZoneFile, Kind, Normal, Cut, Alias, Outside, BadRecord, RecordVerdict, Accepted, Rejected, kind_of, same_kind, classify, opened_with, opened}
-use Rattle.zone_model.proofs.Folded.{key_total, key_from_tie, fold-fold, under_alike, same_name_alike, same_name-Decides}
+use Rattle.zone_model.specs.Version.{RecordSet, Key, Sets, Version, key_cmp, set_in, set_at, below_apex, is_cut}
+use Rattle.zone_model.specs.Classify.{ZoneFile, Kind, Normal, Cut, Alias, Outside, RecordVerdict, Accepted, Rejected, kind_of, same_kind, classify, opened_with, opened}
+use Rattle.zone_model.proofs.Folded.{key_from_tie, fold-fold, under_alike, same_name_alike, same_name-Decides}
 use Rattle.zone_errors.specs.declared.errors.ContextError.{ContextError}
 use Rattle.zone_errors.specs.declared.errors.ContextError.TheVariants.{MissingNs, InvalidZonecut, InvalidCname, OutOfZone}
 use Rattle.zone_values.specs.declared.errors.ZoneCutError.TheVariants as no_cut
 use Rattle.zone_values.specs.declared.errors.CnameError.TheVariants as no_alias
-use Rattle.zone_records.specs.Parsed.{Parsed, sets_for, sets_of, kept, with_record, version_of}
-use Rattle.zone_records.specs.Taking.{verdict_in, verdict_as, kind_in, taken_in, taken_by, taken_as, take}
-use Rattle.zone_records.specs.Faults.{cut_fault, alias_fault, normal_fault, fault_at, faults_at, faults_of, faults, is_whole, makes_zone}
+use Rattle.zone_records.specs.Parsed.{Parsed, sets_for, sets_of, kept, version_of}
+use Rattle.zone_records.specs.Taking.{verdict_in, taken_in, taken_by, taken_as, take}
+use Rattle.zone_records.specs.Faults.{fault_at, faults_at, faults_of, is_whole, makes_zone}
 use Rattle.zone_records.proofs.TypesIn.{has_type}
 use Rattle.zone_records.proofs.Putting.{key_of, set_with, put_record, sets_after, step_at, is_of, types_after, opens_by_putting}
 use Rattle.zone_records.proofs.Joined.{of_kind, of_opened, joined_is_opened}

@@ -1,5 +1,5 @@
 -- What keeps the records that are held from making a zone (RFC 1034, 3.6.2 and 4.2.1; RFC 4035, 2.4).
-use Rattle.std.specs.Prelude.{ℕ, ◌==◌, Bool, ◌&&◌, ◌||◌, [], ◌∷◌, ◌++◌, not, if◌then◌else◌, List, length, Option, Some, None, is_some, option_map, filter_map}
+use Rattle.std.specs.Prelude.{◌==◌, Bool, ◌&&◌, ◌||◌, [], ◌∷◌, ◌++◌, not, if◌then◌else◌, List, length, Option, Some, None, is_some, option_map, filter_map}
 use Rattle.std.specs.List.{list_all}
 use Rattle.std.specs.Map.{keys_of}
 use Rattle.dns_name.specs.Names.{Name, fold, same_name, under}

@@ -5,3 +5,4 @@ pub mod Seen
 pub mod Refusals
 pub mod Faults
 pub mod Causes
+pub mod OpeningSets

@@ -1,5 +1,5 @@
 -- What a zone file holds: the sets of the records that were taken, by kind (RFC 1034, 4.2.1; RFC 2181, 5 and 10.1).
-use Rattle.std.specs.Prelude.{ℕ, Bool, ◌==◌, ◌&&◌, not, ◌++◌, ◌∷◌, [], List, filter, map, length, nat_le, IsTrue, fold as fold_list}
+use Rattle.std.specs.Prelude.{ℕ, Bool, ◌==◌, ◌&&◌, not, ◌++◌, ◌∷◌, [], filter, length, nat_le, IsTrue, fold as fold_list}
 use Rattle.std.specs.List.{list_all}
 use Rattle.std.specs.List.Sorted.{IsStrictlySortedBy}
 use Rattle.std.specs.Map.{keys_of}

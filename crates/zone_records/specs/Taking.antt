@@ -1,5 +1,5 @@
 -- The verdict on a record by the sets that stand at its owner, and what taking it makes of them (RFC 1034, 4.2.1; RFC 2181, 10.1).
-use Rattle.std.specs.Prelude.{ℕ, ◌==◌, not, if◌then◌else◌, List, [], map, filter, find, Option, Some, None, Result, Ok, Err}
+use Rattle.std.specs.Prelude.{ℕ, ◌==◌, not, if◌then◌else◌, List, [], map, filter, find, Option, None, Result, Ok, Err}
 use Rattle.std.specs.Option.{option_or}
 use Rattle.dns_name.specs.Names.{Name, same_name}
 use Rattle.dns_name.specs.Records.{Record}

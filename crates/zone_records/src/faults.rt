@@ -6,15 +6,18 @@ ghost use Rattle.zone_records.specs.Parsed.{sets_for};
 ghost use Rattle.dns_name.specs.Names.{fold, same_name, under};
 ghost use Rattle.dns_name.specs.Codes.{type_ns};
 ghost use Rattle.zone_model.specs.Version.{set_in};
+ghost use Rattle.zone_model.specs.Classify.{Normal};
 ghost use Rattle.zone_records.specs.Seen.{kind_seen};
+ghost use Rattle.zone_versions.specs.Stops.{key_told};
 ghost use Rattle.zone_records.specs.Faults.{is_whole, cut_fault, alias_fault, normal_fault, fault_at, with_fault, faults_of, faults};
 
 use crate::kinds::RecordKind;
+use crate::opening_sets::OwnerSets;
 use crate::zonefile::Zonefile;
 use dns_name::{KeyName, Rtype, ToName};
 use std::alloc::{AllocError, Global};
 use zone_errors::{ContextError, ZoneErrors};
-use zone_sets::SetKey;
+use zone_nodes::TreeSet;
 use zone_values::{CnameError, ZoneCutError};
 
 impl Zonefile {
@@ -27,7 +30,7 @@ impl Zonefile {
         let mut found = ZoneErrors::new(alloc);
         self.add_faults(RecordKind::Cut, &mut found)?;
         self.add_faults(RecordKind::Alias, &mut found)?;
-        self.add_faults(RecordKind::Normal, &mut found)?;
+        self.add_normal_faults(&mut found)?;
         self.add_faults(RecordKind::Outside, &mut found)?;
         Ok(found)
     }
@@ -47,7 +50,33 @@ impl Zonefile {
     fn passes(&self, kind: RecordKind) -> bool
         ensures { result ≡ list_all (λ k. is_none (fault_at self.now (kind_seen kind) k)) (keys_of (sets_for self.now (kind_seen kind))) }
     {
-        self.owners(kind).keys().all(|key| self.fault_at(kind, key.owner(), key.rtype()).is_none())
+        self.all_pass(kind, self.owners(kind).iter())
+    }
+
+    /// Whether there is no fault at these RRsets of one kind.
+    fn all_pass(&self, kind: RecordKind, sets: OwnerSets<'_>) -> bool
+        ensures { result ≡ list_all (λ s. is_none (fault_at self.now (kind_seen kind) (key_told s))) sets.entry }
+    {
+        let mut sets = sets;
+        sets.all(|set| self.passes_at(kind, &set))
+    }
+
+    /// Whether there is no fault at an RRset.
+    fn passes_at(&self, kind: RecordKind, set: &TreeSet<'_>) -> bool
+        ensures { result ≡ is_none (fault_at self.now (kind_seen kind) (key_told set.now)) }
+    {
+        self.fault_at(kind, &set.owner().to_name(), set.rtype())
+            .is_none()
+    }
+
+    /// Adds the faults at normal RRsets. Where their tree is the zone's, none is looked for.
+    fn add_normal_faults(&self, found: &mut ZoneErrors<ContextError>) -> Result<(), AllocError>
+        ensures { OnOk result (found.new ≡ found.old ++ faults_of self.now Normal) }
+    {
+        if self.normal().is_within(self.origin()) {
+            return Ok(());
+        }
+        self.add_faults(RecordKind::Normal, found)
     }
 
     /// Adds the faults at RRsets of one kind.
@@ -58,25 +87,26 @@ impl Zonefile {
     ) -> Result<(), AllocError>
         ensures { OnOk result (found.new ≡ found.old ++ faults_of self.now (kind_seen kind)) }
     {
-        for key in self.owners(kind).keys() {
-            self.add_fault(kind, key, found)?;
+        for set in self.owners(kind).iter() {
+            self.add_fault(kind, &set, found)?;
         }
         Ok(())
     }
 
-    /// Adds the fault at a key, if there is one.
+    /// Adds the fault at an RRset, if there is one.
     #[tactic(auto, using(crate::proofs::Faulty::with_one, crate::proofs::Faulty::with_none))]
     fn add_fault(
         &self,
         kind: RecordKind,
-        key: &SetKey,
+        set: &TreeSet<'_>,
         found: &mut ZoneErrors<ContextError>,
     ) -> Result<(), AllocError>
-        ensures { OnOk result (found.new ≡ with_fault found.old key.now (fault_at self.now (kind_seen kind) key.now)) }
+        ensures { OnOk result (found.new ≡ with_fault found.old (key_told set.now) (fault_at self.now (kind_seen kind) (key_told set.now))) }
     {
-        match self.fault_at(kind, key.owner(), key.rtype()) {
+        let owner = set.owner().to_name();
+        match self.fault_at(kind, &owner, set.rtype()) {
             Some(why) => {
-                found.add_error(key.owner(), why)?;
+                found.add_error(&owner, why)?;
                 Ok(())
             }
             None => Ok(()),

@@ -8,11 +8,13 @@ mod errors;
 mod faults;
 mod kinds;
 mod laws;
+mod opening_sets;
 mod owners;
 mod reading;
 mod zonefile;
 
 pub use errors::FileError;
 pub use laws::zone_files_open;
+pub use opening_sets::OwnerSets;
 pub use owners::Owners;
 pub use zonefile::Zonefile;

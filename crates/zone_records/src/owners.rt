@@ -1,29 +1,28 @@
 // RRsets by owner and type, to which records are put.
-ghost use Rattle.std.specs.Prelude.{◌≡◌, [], Some, None, OnOk, OnErr, option_copied, option_map, is_some, map, find, if◌then◌else◌};
-ghost use Rattle.std.specs.List.{list_any};
+ghost use Rattle.std.specs.Prelude.{◌≡◌, ◌+◌, [], true, Some, None, OnOk, OnErr, IfOk, option_copied, option_map, is_some, map, if◌then◌else◌};
+ghost use Rattle.std.specs.List.{list_all, list_any};
 ghost use Rattle.std.specs.Map.{keys_of};
-ghost use Rattle.std.specs.Map.Iter.{deref_pair};
-ghost use Rattle.std.specs.Ordering.{is_le};
-ghost use Rattle.dns_name.specs.Names.{fold, same_name};
-ghost use Rattle.zone_model.specs.Version.{key_cmp, set_in};
-ghost use Rattle.zone_values.specs.TypedEntries.{typed, item_of, typed_set_in};
+ghost use Rattle.dns_name.specs.Names.{fold, same_name, under};
+ghost use Rattle.zone_model.specs.Version.{set_in};
+ghost use Rattle.zone_values.specs.TypedEntries.{typed};
+ghost use Rattle.zone_nodes.specs.Held.{told};
 ghost use Rattle.zone_records.specs.Parsed.{IsTidy};
 ghost use Rattle.zone_records.specs.Taking.{least_in, no_glue_in, cut_in, put_to};
 ghost use Rattle.zone_records.specs.TypeSteps.{type_from, past};
 
-use dns_name::{Labelled, Rtype, ToName};
-use dns_rdata::{RecordData, StoredRecord};
+use crate::opening_sets::{OpeningSets, OwnerSets};
+use dns_name::{Class, Labelled, Rtype, StoredName, ToName};
+use dns_rdata::StoredRecord;
 use std::alloc::{AllocError, Global};
-use std::collections::btree_map::{Iter, Keys};
 use std::marker::Model;
-use zone_sets::{KeyedSets, SetKey};
+use zone_nodes::{TreeSet, VersionTree};
 use zone_values::Rrset;
 
 /// RRsets by owner and type: owners in lower case and canonical order, each one's types ascending (RFC 4034, 6.1). No RRset is empty, and no two of
 /// its data are equal (RFC 2181, 5).
 #[derive(Drop)]
 pub struct Owners {
-    sets: KeyedSets,
+    sets: OpeningSets,
 }
 
 impl Model for Owners {
@@ -40,34 +39,19 @@ impl Model for Owners {
 impl Owners {
     /// No RRsets.
     #[tactic(auto, using(crate::proofs::Tidy::none_tidy))]
-    pub(crate) fn new(alloc: Global) -> Owners
+    pub(crate) fn new() -> Owners
         ensures { result ≡ [] }
     {
         Owners {
-            sets: KeyedSets::new(alloc),
+            sets: OpeningSets::new(),
         }
-    }
-
-    /// The RRset at a key.
-    fn set_in(&self, key: &SetKey) -> Option<&Rrset>
-        ensures { option_copied result ≡ typed_set_in self.now key.now }
-    {
-        self.sets.get(key)
-    }
-
-    /// The first RRset at a key or after it, with its own key.
-    fn entry_from(&self, key: &SetKey) -> Option<(&SetKey, &Rrset)>
-        ensures first { option_map deref_pair result ≡ option_map item_of (find (λ e. is_le (key_cmp key.now e.0)) self.now) }
-        ensures tidy { IsTidy self.now }
-    {
-        self.sets.first_from(key)
     }
 
     /// The RRset of an owner and type.
     pub fn get<N: Labelled>(&self, name: &N, rtype: Rtype) -> Option<&Rrset>
         ensures { option_copied result ≡ option_map (typed rtype) (set_in self.now (fold (N.labels name.now), rtype)) }
     {
-        self.set_in(&SetKey::new(name, rtype))
+        self.sets.get(name, rtype)
     }
 
     /// Whether an owner has an RRset of a type.
@@ -75,7 +59,7 @@ impl Owners {
     pub fn has_set<N: Labelled>(&self, name: &N, rtype: Rtype) -> bool
         ensures { result ≡ is_some (set_in self.now (fold (N.labels name.now), rtype)) }
     {
-        self.set_in(&SetKey::new(name, rtype)).is_some()
+        self.get(name, rtype).is_some()
     }
 
     /// Whether an owner has RRsets.
@@ -91,16 +75,15 @@ impl Owners {
     pub fn sample_rtype<N: Labelled>(&self, name: &N) -> Option<Rtype>
         ensures { result ≡ least_in self.now (N.labels name.now) }
     {
-        self.first_type_from(name, Rtype::from_int(0))
+        self.first_type(name)
     }
 
     /// The least type of an owner's RRsets but A and AAAA, the types of glue (RFC 1034, 4.2.1).
     pub fn first_non_glue<N: Labelled>(&self, name: &N) -> Option<Rtype>
         ensures { result ≡ no_glue_in self.now (N.labels name.now) }
     {
-        let least = self.first_type_from(name, Rtype::from_int(0));
-        let no_a = self.past(name, least, Rtype::A, Rtype::from_int(2));
-        self.past(name, no_a, Rtype::AAAA, Rtype::from_int(29))
+        let no_a = self.past(name, self.first_type(name), Rtype::A);
+        self.past(name, no_a, Rtype::AAAA)
     }
 
     /// DS, if an owner has such an RRset, or else NS.
@@ -117,30 +100,34 @@ impl Owners {
         }
     }
 
-    /// The type of an owner's first RRset, from a type on.
-    fn first_type_from<N: Labelled>(&self, name: &N, low: Rtype) -> Option<Rtype>
-        ensures { result ≡ type_from self.now (N.labels name.now) low }
+    /// The type of an owner's first RRset.
+    fn first_type<N: Labelled>(&self, name: &N) -> Option<Rtype>
+        ensures { result ≡ type_from self.now (N.labels name.now) 0 }
     {
-        match self.entry_from(&SetKey::new(name, low)) {
-            Some((key, _)) => own_type(key, name),
+        match self.sets.first_from(name) {
+            Some(found) => own_type(&found, name),
             None => None,
         }
     }
 
-    /// The least type, unless it is one that is skipped: then the first from a further one on.
-    fn past<N: Labelled>(
-        &self,
-        name: &N,
-        least: Option<Rtype>,
-        skipped: Rtype,
-        next: Rtype,
-    ) -> Option<Rtype>
-        ensures { result ≡ past skipped least (type_from self.now (N.labels name.now) next) }
+    /// The type of an owner's first RRset after a type.
+    fn type_after<N: Labelled>(&self, name: &N, rtype: Rtype) -> Option<Rtype>
+        ensures { result ≡ type_from self.now (N.labels name.now) (rtype + 1) }
+    {
+        match self.sets.first_after(name, rtype) {
+            Some(found) => own_type(&found, name),
+            None => None,
+        }
+    }
+
+    /// The least type, unless it is one that is skipped: then the first after that.
+    fn past<N: Labelled>(&self, name: &N, least: Option<Rtype>, skipped: Rtype) -> Option<Rtype>
+        ensures { result ≡ past skipped least (type_from self.now (N.labels name.now) (skipped + 1)) }
     {
         match least {
             Some(rtype) => {
                 if rtype == skipped {
-                    self.first_type_from(name, next)
+                    self.type_after(name, skipped)
                 } else {
                     Some(rtype)
                 }
@@ -149,48 +136,59 @@ impl Owners {
         }
     }
 
-    /// The RRsets with their keys, in order.
-    pub fn iter(&self) -> Iter<'_, SetKey, Rrset>
-        ensures is { result ≡ map item_of self.now }
+    /// The RRsets in order.
+    pub fn iter(&self) -> OwnerSets<'_>
+        ensures is { result ≡ map told self.now }
         ensures tidy { IsTidy self.now }
     {
-        self.sets.iter()
+        self.sets.sets()
     }
 
-    /// The keys of the RRsets, in order.
-    pub fn keys(&self) -> Keys<'_, SetKey, Rrset>
-        ensures { result ≡ keys_of self.now }
+    /// Whether all owners are known to be at or below a name, without a look at each.
+    pub(crate) fn is_within(&self, apex: &StoredName) -> bool
+        ensures { result ≡ true → list_all (λ k. under k.0 apex.now) (keys_of self.now) ≡ true }
     {
-        self.sets.keys()
+        self.sets.is_within(apex)
     }
 
-    /// The RRsets themselves.
-    pub(crate) fn into_sets(self) -> KeyedSets
-        ensures is { result ≡ self }
+    /// The tree of a version of this apex and class that has the RRsets, whose owners are all at or below the apex.
+    pub(crate) fn into_tree(
+        self,
+        alloc: Global,
+        apex: &StoredName,
+        class: Class,
+    ) -> Result<VersionTree, AllocError>
+        requires { list_all (λ k. under k.0 apex.now) (keys_of self) ≡ true }
+        ensures is { IfOk result (λ t. t ≡ record { apex = apex.now; class = class; sets = self }) }
         ensures tidy { IsTidy self }
     {
-        self.sets
+        self.sets.into_tree(alloc, apex, class)
     }
 
-    /// Puts a record to the RRset of its owner and type: the lower TTL becomes the RRset's, and data that have an equal in it are not put again
-    /// (RFC 2181, 5 and 5.2). Its class isn't looked at.
-    pub(crate) fn put(&mut self, alloc: Global, found: StoredRecord) -> Result<(), AllocError>
+    /// Puts a record of a zone of this apex and class to the RRset of its owner and type: the lower TTL becomes the RRset's, and data that have an equal
+    /// in it are not put again (RFC 2181, 5 and 5.2).
+    pub(crate) fn put(
+        &mut self,
+        alloc: Global,
+        apex: &StoredName,
+        class: Class,
+        found: StoredRecord,
+    ) -> Result<(), AllocError>
+        requires { under found.owner apex.now ≡ true }
         ensures ok { OnOk result (self.new ≡ put_to self.old found) }
         ensures err { OnErr result (self.new ≡ self.old) }
     {
-        let key = SetKey::new(found.owner(), found.rtype());
-        let ttl = found.ttl();
-        self.sets.put_opening(alloc, key, ttl, found.into_data())?;
+        self.sets.put(alloc, apex, class, found)?;
         Ok(())
     }
 }
 
-/// The type of a key, if its owner has that name.
-fn own_type<N: Labelled>(key: &SetKey, name: &N) -> Option<Rtype>
-    ensures { result ≡ (if same_name key.now.0 (N.labels name.now) then Some key.now.1 else None) }
+/// The type of an RRset, if its owner has that name.
+fn own_type<N: Labelled>(found: &TreeSet<'_>, name: &N) -> Option<Rtype>
+    ensures { result ≡ (if same_name found.now.0 (N.labels name.now) then Some found.now.1.rtype else None) }
 {
-    if key.owner().name_eq(name) {
-        Some(key.rtype())
+    if found.owner().to_name().name_eq(name) {
+        Some(found.rtype())
     } else {
         None
     }

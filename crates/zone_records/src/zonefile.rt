@@ -12,13 +12,14 @@ ghost use Rattle.zone_records.specs.Causes.{errors_in};
 
 use crate::errors::FileError;
 use crate::kinds::{Obstacle, RecordKind};
+use crate::opening_sets::put_sets;
 use crate::owners::Owners;
 use dns_name::{Class, Rtype, StoredName, ToName};
 use dns_rdata::StoredRecord;
 use std::alloc::{AllocError, Global};
 use std::marker::Model;
 use zone_errors::{ContextError, RecordError};
-use zone_versions::ZoneVersion;
+use zone_versions::{ZoneVersion, is_at_or_below};
 
 /// The records of a zone file by kind (RFC 1034, 4.2.1), under an origin and a class.
 #[derive(Drop)]
@@ -52,10 +53,10 @@ impl Zonefile {
             alloc,
             origin,
             class,
-            normal: Owners::new(alloc),
-            zone_cuts: Owners::new(alloc),
-            cnames: Owners::new(alloc),
-            out_of_zone: Owners::new(alloc),
+            normal: Owners::new(),
+            zone_cuts: Owners::new(),
+            cnames: Owners::new(),
+            out_of_zone: Owners::new(),
         }
     }
 
@@ -196,7 +197,7 @@ impl Zonefile {
     fn is_outside(&self, found: &StoredRecord) -> bool
         ensures { result ≡ not (under found.now.owner self.now.origin) }
     {
-        !found.owner().ends_with(self.origin())
+        !is_at_or_below(found.owner(), self.origin())
     }
 
     /// Whether a record is of a zone cut, if its owner is in the zone.
@@ -269,12 +270,15 @@ impl Zonefile {
         ensures ok { OnOk result (self.new ≡ taken_in self.old found (kind_seen kind)) }
         ensures err { OnErr result (self.new ≡ self.old) }
     {
-        let alloc = self.alloc;
+        let (alloc, origin, class) = (self.alloc, &self.origin, self.class);
         match kind {
-            RecordKind::Normal => self.normal.put(alloc, found),
-            RecordKind::Cut => self.zone_cuts.put(alloc, found),
-            RecordKind::Alias => self.cnames.put(alloc, found),
-            RecordKind::Outside => self.out_of_zone.put(alloc, found),
+            RecordKind::Normal => self.normal.put(alloc, origin, class, found),
+            RecordKind::Cut => self.zone_cuts.put(alloc, origin, class, found),
+            RecordKind::Alias => self.cnames.put(alloc, origin, class, found),
+            RecordKind::Outside => {
+                self.out_of_zone
+                    .put(alloc, &StoredName::root(), class, found)
+            }
         }
     }
 
@@ -301,14 +305,14 @@ impl Zonefile {
         ensures { IfOk result (λ v. v ≡ version_of self) }
     {
         drop(self.out_of_zone);
-        let cuts = self.zone_cuts.into_sets();
-        let aliases = self.cnames.into_sets();
-        let mut sets = self.normal.into_sets();
-        sets.put_all(cuts)?;
-        sets.put_all(aliases)?;
-        let version = ZoneVersion::of_sets(self.alloc, &self.origin, self.class, sets);
-        drop(self.origin);
-        version
+        let origin = self.origin;
+        let mut tree = self.normal.into_tree(self.alloc, &origin, self.class)?;
+        put_sets(&mut tree, self.alloc, self.zone_cuts.iter())?;
+        put_sets(&mut tree, self.alloc, self.cnames.iter())?;
+        drop(self.zone_cuts);
+        drop(self.cnames);
+        drop(origin);
+        Ok(ZoneVersion::of_tree(tree))
     }
 }
 

@@ -1,8 +1,9 @@
-use Rattle.std.proofs.Common.{◌≡◌, ◌++◌}
+use Rattle.std.proofs.Common.{◌≡◌, ◌++◌, map}
+use Rattle.zone_versions.specs.Stops.{key_told}
 use Rattle.zone_records.specs.Seen.{kind_seen}
 use Rattle.zone_records.specs.Faults.{faults_at, faults_of}
 use Rattle.zone_records.proofs.zonefile.Zonefile.add_faults.Given as goal
 
--- With the faults at the keys that are left, they are all.
-abbrev pub invariant-loop-key : goal.invariant-loop-key
-invariant-loop-key l = l.found ++ faults_at l.self (kind_seen l.kind) l.key-iterator ≡ l.initial.found ++ faults_of l.self (kind_seen l.kind)
+-- With the faults at the sets that are left, they are all.
+abbrev pub invariant-loop-set : goal.invariant-loop-set
+invariant-loop-set l = l.found ++ faults_at l.self (kind_seen l.kind) (map key_told l.set-iterator) ≡ l.initial.found ++ faults_of l.self (kind_seen l.kind)

@@ -1,0 +1,21 @@
+use Rattle.std.proofs.Common.{◌+◌, ap, ◌∙◌, option_map}
+use Rattle.zone_model.specs.Version.{Sets}
+use Rattle.zone_nodes.specs.Held.{told}
+use Rattle.zone_records.specs.TypeSteps.{type_from}
+use Rattle.zone_records.proofs.TypesIn.{first_after, found_type, no_type}
+use Rattle.zone_records.proofs.owners.Owners.type_after.Goals as goal
+
+-- The first set after the type has the next type, where it is the owner's.
+pub returns-in-Some : goal.returns-in-Some
+returns-in-Some g c =
+    let sets = c.self.inside.sets in
+    let owner = g.N.Labelled.labels c.args.name.now in
+    let low = c.args.rtype + 1 in
+    c.own_type.ensures ∙ found_type sets owner low _ c.self.invariant.ordered (c.in-Some.ensures ∙ ap (option_map told) (first_after owner c.args.rtype sets)) ∙ ap (λ (l : Sets). type_from l owner low) c.self.view_is
+
+pub returns-in-None : goal.returns-in-None
+returns-in-None g c =
+    let sets = c.self.inside.sets in
+    let owner = g.N.Labelled.labels c.args.name.now in
+    let low = c.args.rtype + 1 in
+    no_type sets owner low c.self.invariant.ordered (c.in-None.ensures ∙ ap (option_map told) (first_after owner c.args.rtype sets)) ∙ ap (λ (l : Sets). type_from l owner low) c.self.view_is
