@@ -167,14 +167,21 @@ impl Reading {
         let (Some(zones), Some(key)) = (self.zones, self.key) else {
             return Err(ScriptError::Line(number));
         };
-        let primary = zones.primary.build()?;
-        Ok(Opened {
-            key,
-            at_primary: self.at_primary,
-            at_secondary: self.at_secondary,
-            primary,
-            secondary: zones.secondary.build()?,
-        })
+        let (primary, secondary) = (zones.primary, zones.secondary);
+        match primary.build() {
+            Ok(primary) => Ok(Opened {
+                key,
+                at_primary: self.at_primary,
+                at_secondary: self.at_secondary,
+                primary,
+                secondary: secondary.build()?,
+            }),
+            Err(error) => {
+                drop(secondary);
+                drop(key);
+                Err(error)
+            }
+        }
     }
 }
 
