@@ -128,7 +128,7 @@ room_halts most base before u v s t handles now g all old new update e l is (mad
       inr (subst (AllHaveRoom most limit g) (sym (l.on.led.joined ∙ ap (λ (x : Rest). l.on.led.done ++ x.run.updates) is)) (room_join most limit l.on.led.done (update ∷ new.run.updates) g p l.room l.on.led.led room)),
     )
 
--- .. whether it would add to a full set or not
+-- .. an update is refused: the flag tells whether it would have added to a full set
 pub room_stops : (most : Option ℕ) (base : Commit) (before : List Commit) (u v : Updating) (s t : Session) (handles now : List Commit) (g : Progress) (all old new : Rest) (update : Update) (e : Error) (full : Bool)
     → (l : RoomOn most base before u s handles g all old) → old ≡ behind_one update new → TakesOne base before v t now l.on.progress update (Err e)
     → adds_to_full most s.pending update ≡ full → StopsAt most base before t now g all.run.updates full
@@ -145,7 +145,7 @@ pub still_low : (room flag : Bool) → (◌≡◌ {A = Result (Unit {0}) Error} 
 still_low room flag (inl out) e = absurd (cc out)
 still_low room flag (inr h) e = e ∙ h
 
--- .. and one that had room leaves it
+-- a flag that was raised says that the answer is want of memory
 pub raised_by : (room flag : Bool) (e : Error) → (◌≡◌ {A = Result (Unit {0}) Error} (Err e) (Err errors.Memory)) ⊎ (room ≡ false) → flag ≡ room → flag ≡ true → e ≡ errors.Memory
 raised_by room flag e (inl out) f h = err_same e out
 raised_by room flag e (inr r) f h = absurd (cc (sym h ∙ f ∙ r))
