@@ -1,14 +1,17 @@
 -- Reading a name piece by piece: what was read so far, and what is still to be read.
-use Rattle.std.proofs.Common.{◌≡◌, ℕ, suc, ◌+◌, ◌<◌, ◌≤◌, List, [], ◌∷◌, ◌++◌, length, length-append, refl, sym, ap, subst, ◌∙◌, true, false, arith, lt-ltb, nat_lt, ◌&&◌, Option, Some, None, ◌==◌, add-zero}
+use Rattle.std.proofs.Common.{◌≡◌, ℕ, suc, ◌+◌, ◌-◌, ◌<◌, ◌≤◌, List, [], ◌∷◌, ◌++◌, length, length-append, refl, sym, ap, subst, ◌∙◌, true, false, arith, lt-ltb, nat_lt, ◌&&◌, Option, Some, None, Result, Ok, Err, OnErr, ◌==◌, add-zero}
 use Rattle.std.specs.Prelude.{IsTrue, flat_map, option_map, if◌then◌else◌}
 use Rattle.std.specs.List.{list_all}
+use Rattle.std.specs.Option.{option_map_or}
 use Rattle.std.proofs.lemmas.Bool.{le-ltb, ne_eqb}
 use Rattle.std.proofs.lemmas.List.{append_assoc, append-nil}
 use Rattle.std.proofs.lemmas.List.Folds.{list_all-append}
 use Rattle.std.proofs.lemmas.Grind.{flat_map-append}
 use Rattle.dns_name.specs.Names.{Name, is_label, is_name, name_wire, label_wire}
-use Rattle.dns_name.specs.Compression.{element_at, SpelledName, with_label, with_pointer, name_of, name_at, within_limits}
+use Rattle.dns_name.specs.Compression.{element_at, SpelledName, with_label, with_pointer, name_of, name_at, labels_at, within_limits}
 use Rattle.dns_name.specs.Compression.Element.{Root, Label, Pointer}
+use Rattle.dns_name.specs.Pieces.{IsWithin}
+use Rattle.dns_name.specs.declared.parsed.Piece.{Piece}
 
 -- labels, a number of pointers and the place after the first of them, before the rest of a name
 abbrev pub joined : Name → ℕ → ℕ → SpelledName → SpelledName
@@ -83,6 +86,19 @@ has_read_same o n message pos k j a b left p q h eo ek ea ep =
     let ByPointers : ℕ → Type 0 = λ x. HasRead o message pos x b left q in
     let ByOctets : List ℕ → Type 0 = λ x. HasRead x message pos j b left q in
     subst ByOctets (sym eo) (subst ByPointers (sym ek) (subst ByAfter (sym ea) (subst ByPlace (sym ep) h)))
+
+-- ---- steps of the loops that read
+
+pub one_less : (step : ℕ) → step < 512 → 512 - step ≡ suc (512 - (step + 1))
+one_less step h = omega (arith, h)
+
+pub when_err : {T E P : Type 0} (r : Result T E) → P → OnErr r P
+when_err (Ok x) p = tt
+when_err (Err e) p = p
+
+-- the place as the clauses of the piece have it
+pub within : (m : List ℕ) (p : ℕ) (x y : Piece) → IsWithin m p x → x ≡ y → IsWithin m p y
+within m p x y h e = subst (λ z. IsWithin m p z) e h
 
 -- ---- the end
 
@@ -189,3 +205,57 @@ is_read octets all message pos k a left next place after h el e short ea ee =
       name = rw (g.good, fits) refl;
       reads = rw (g.reads, fits, lt-ltb k 256 h.few) (λ i. Some (g.labels, sym ee i));
     }
+
+-- ---- octets that are counted and not kept
+
+-- a name was read so far into so many octets, within the limit of a name
+pub record HasCounted (len : ℕ) (message : List ℕ) (pos pointers after left place : ℕ) : Type 0 where
+  pub octets : List ℕ
+  pub read : HasRead octets message pos pointers after left place
+  pub long : length octets ≡ len
+  pub short : len < 256
+
+pub has_counted_none : (message : List ℕ) (pos after : ℕ) → HasCounted 0 message pos 0 after 512 pos
+has_counted_none message pos after = record { octets = []; read = has_read_none message pos after; long = refl; short = omega arith }
+
+pub has_counted_same : (c d : ℕ) (message : List ℕ) (pos k j a b left p q : ℕ) → HasCounted c message pos k a left p → d ≡ c → j ≡ k → b ≡ a → q ≡ p
+    → HasCounted d message pos j b left q
+has_counted_same c d message pos k j a b left p q h ec ek ea ep =
+    record {
+      octets = h.octets;
+      read = has_read_same h.octets h.octets message pos k j a b left p q h.read refl ek ea ep;
+      long = h.long ∙ sym ec;
+      short = omega (arith, ec, h.short);
+    }
+
+pub has_counted_label : (c : ℕ) (message : List ℕ) (pos k a left next place : ℕ) (l : List ℕ) → HasCounted c message pos k a left place
+    → left ≡ suc next → element_at message place ≡ Some (Label l) → is_label l ≡ true → c + length l < 255
+    → HasCounted (c + 1 + length l) message pos k a next (place + 1 + length l)
+has_counted_label c message pos k a left next place l h el e good fits =
+    let both = length-append h.octets (length l ∷ l) in
+    record {
+      octets = h.octets ++ length l ∷ l;
+      read = has_read_label h.octets message pos k a left next place l h.read el e good;
+      long = omega (arith, both, h.long);
+      short = omega (arith, fits);
+    }
+
+pub has_counted_pointer : (c : ℕ) (message : List ℕ) (pos k a left next place offset : ℕ) → HasCounted c message pos k a left place
+    → left ≡ suc next → element_at message place ≡ Some (Pointer offset) → k + 1 < 256
+    → HasCounted c message pos (k + 1) (if k == 0 then place + 2 else a) next offset
+has_counted_pointer c message pos k a left next place offset h el e few =
+    record {
+      octets = h.octets;
+      read = has_read_pointer h.octets message pos k a left next place offset h.read el e few;
+      long = h.long;
+      short = h.short;
+    }
+
+-- the place after a name that was counted to its end
+pub is_counted : (c : ℕ) (message : List ℕ) (pos k a left next place after : ℕ) → HasCounted c message pos k a left place
+    → left ≡ suc next → element_at message place ≡ Some Root → c < 255 → after ≡ (if k == 0 then place + 1 else a)
+    → name_at message pos ≡ Some (labels_at message pos, after)
+is_counted c message pos k a left next place after h el e short ee =
+    let r = is_read h.octets (h.octets ++ 0 ∷ []) message pos k a left next place after h.read el e (omega (arith, h.long, short)) refl ee in
+    let labels : labels_at message pos ≡ r.labels = ap (λ (o : Option (Name × ℕ)). option_map_or (λ x. x.0) o []) r.reads in
+    r.reads ∙ (λ i. Some (sym labels i, after))

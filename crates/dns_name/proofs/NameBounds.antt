@@ -13,7 +13,7 @@ use Rattle.dns_name.proofs.Elements.{split_fits}
 use Rattle.dns_name.proofs.NameReading.{guarded, name_at-NameAt, NameAt-name_at}
 
 -- the element at a place, by its octets
-data Seen (m : List ℕ) (p : ℕ) : Element → Type 0 where
+pub data Seen (m : List ℕ) (p : ℕ) : Element → Type 0 where
   root : slice_get m p ≡ Some 0 → Seen m p Root
   label : (c : ℕ) → slice_get m p ≡ Some c → 0 < c → c < 64 → p + c < length m → Seen m p (Label (slice_range m (p + 1) (p + 1 + c)))
   pointer : (c d : ℕ) → slice_get m p ≡ Some c → 192 ≤ c → slice_get m (p + 1) ≡ Some d → (c - 192) * 256 + d < p
@@ -51,7 +51,7 @@ seen_from m p c e at h =
           ]
     ]
 
-seen : (m : List ℕ) (p : ℕ) (e : Element) → element_at m p ≡ Some e → Seen m p e
+pub seen : (m : List ℕ) (p : ℕ) (e : Element) → element_at m p ≡ Some e → Seen m p e
 seen m p e h = let (c, at, from) = after_some (element_from m p) (slice_get m p) e h in seen_from m p c e at from
 
 -- ---- where a name ends

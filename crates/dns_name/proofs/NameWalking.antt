@@ -15,7 +15,7 @@ pub record Stands (m : List ℕ) (p : ℕ) (n : Name) : Type 0 where
   pub some : IsTrue (is_some (name_at m p))
   pub labels : labels_at m p ≡ n
 
-value_of : {A : Type 0} (o : Option A) → IsTrue (is_some o) → (x : A) × (o ≡ Some x)
+pub value_of : {A : Type 0} (o : Option A) → IsTrue (is_some o) → (x : A) × (o ≡ Some x)
 value_of None h = absurd (cc h)
 value_of (Some x) h = (x, refl)
 

@@ -115,6 +115,15 @@ impl<Octs: AsSlice<u8>> Name<Octs> {
 }
 
 impl<'a> Name<&'a [u8]> {
+    /// The name that the octets spell, all of them and without a pointer.
+    pub(crate) fn whole(octets: &'a [u8]) -> NameRef<'a>
+        requires name { IsTrue (is_name (labels_in octets.now)) }
+        requires wire { name_wire (labels_in octets.now) ≡ octets.now }
+        ensures { result ≡ labels_in octets.now }
+    {
+        Name { octets }
+    }
+
     /// How many labels there are, the root label aside.
     pub fn label_count(&self) -> usize
         ensures value { result ≡ length self.now }

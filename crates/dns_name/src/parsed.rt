@@ -1,12 +1,12 @@
 // Names within messages, compressed ones too (RFC 1035, 4.1.4).
-ghost use Rattle.std.specs.Prelude.{◌≡◌, ◌∷◌, [], IfOk, OnErr, IsTrue, MatchOption, Some, None, ◌==◌, if◌then◌else◌};
+ghost use Rattle.std.specs.Prelude.{◌≡◌, ◌∷◌, [], IfOk, OnErr, IsTrue, MatchOption, IfSome, Some, None, ◌==◌, if◌then◌else◌};
 ghost use Rattle.dns_name.specs.Names.{is_name, name_wire, labels_in};
-ghost use Rattle.dns_name.specs.Compression.{name_at, element_at};
+ghost use Rattle.dns_name.specs.Compression.{name_at, labels_at, element_at};
 ghost use Rattle.dns_name.specs.Pieces.{element_of, IsWithin};
 
 use crate::label::Label;
 use crate::labels::Labels;
-use crate::name::{KeyName, StoredName};
+use crate::name::{KeyName, NameRef, StoredName};
 use crate::name_octets::NameOctets;
 use crate::octets::ParseError;
 use crate::to_name::{Labelled, ToName};
@@ -24,6 +24,7 @@ pub enum Piece<'m> {
 }
 
 /// The piece of a name at place `pos`.
+#[inline(always)]
 pub fn piece_at<'m>(message: &'m [u8], pos: usize) -> Result<Piece<'m>, ParseError>
     ensures found { IfOk result (λ piece. element_at message.now pos ≡ Some (element_of piece)) }
     ensures none { OnErr result (element_at message.now pos ≡ None) }
@@ -95,6 +96,43 @@ pub fn decode(message: &[u8], pos: usize) -> Result<(KeyName, usize), ParseError
     Err(ParseError)
 }
 
+/// The place after the name at place `pos` of a message, where one stands that `decode` reads.
+fn name_end(message: &[u8], pos: usize) -> Result<usize, ParseError>
+    ensures found { IfOk result (λ after. name_at message.now pos ≡ Some (labels_at message.now pos, after)) }
+    ensures none { OnErr result (name_at message.now pos ≡ None) }
+{
+    let mut len = 0;
+    let mut place = pos;
+    let mut after = pos;
+    let mut pointers = 0u16;
+    for step in 0..512u16 {
+        match piece_at(message, place)? {
+            Piece::Root => {
+                if len == 255 {
+                    return Err(ParseError);
+                }
+                return Ok(first_end(pointers, after, place + 1));
+            }
+            Piece::Label(label) => {
+                if label.len() >= 255 - len {
+                    return Err(ParseError);
+                }
+                len = len + 1 + label.len();
+                place = place + 1 + label.len();
+            }
+            Piece::Pointer(offset) => {
+                after = first_end(pointers, after, place + 2);
+                pointers += 1;
+                if pointers > 255 {
+                    return Err(ParseError);
+                }
+                place = offset;
+            }
+        }
+    }
+    Err(ParseError)
+}
+
 /// A name within a message, which may go on elsewhere in it (RFC 1035, 4.1.4).
 #[derive(Drop)]
 pub struct ParsedName<'m> {
@@ -119,7 +157,7 @@ impl<'m> ParsedName<'m> {
         ensures found { IfOk result (λ name. name_at message.now pos ≡ Some name) }
         ensures none { OnErr result (name_at message.now pos ≡ None) }
     {
-        let (_, after) = decode(message, pos)?;
+        let after = name_end(message, pos)?;
         Ok((ParsedName { message, pos }, after))
     }
 
@@ -154,6 +192,37 @@ impl<'m> ParsedName<'m> {
         }
     }
 
+    /// The name in the octets of the message, where they stand together: up to the root label there is no pointer.
+    fn uncompressed(&self) -> Option<NameRef<'m>>
+        ensures value { IfSome result (λ name. name ≡ self.now) }
+        ensures name { IfSome result (λ name. IsTrue (is_name self.now)) }
+    {
+        let (message, pos) = (self.message, self.pos);
+        let mut place = pos;
+        'pieces: loop {
+            match piece_at(message, place) {
+                Ok(Piece::Label(label)) => place = place + 1 + label.len(),
+                Ok(Piece::Root) => {
+                    let after = place + 1;
+                    return Some(NameRef::whole(&message[pos..after]));
+                }
+                Ok(Piece::Pointer(_)) => return None,
+                Err(_) => return None,
+            }
+        }
+    }
+
+    /// The name in place, put together piece by piece.
+    fn decoded(&self) -> KeyName
+        ensures value { result ≡ self.now }
+        ensures name { IsTrue (is_name self.now) }
+    {
+        match decode(self.message, self.pos) {
+            Ok((name, _)) => name,
+            Err(_) => unreachable!(),
+        }
+    }
+
     /// The same name again.
     pub fn duplicate(&self) -> ParsedName<'m>
         ensures { result ≡ self.now }
@@ -180,9 +249,16 @@ impl<'m> Labelled for ParsedName<'m> {
     }
 
     fn to_key_name(&self) -> KeyName {
-        match decode(self.message, self.pos) {
-            Ok((name, _)) => name,
-            Err(_) => unreachable!(),
+        match self.uncompressed() {
+            Some(name) => name.in_place(),
+            None => self.decoded(),
+        }
+    }
+
+    fn to_stored(&self, alloc: Global) -> Result<StoredName, AllocError> {
+        match self.uncompressed() {
+            Some(name) => name.store(alloc),
+            None => self.decoded().store(alloc),
         }
     }
 }

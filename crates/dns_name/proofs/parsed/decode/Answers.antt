@@ -1,22 +1,10 @@
-use Rattle.std.proofs.Common.{◌≡◌, ◌∙◌, ◌<◌, ◌+◌, ◌-◌, ℕ, List, suc, sym, ap, subst, arith, Some, Result, Ok, Err, OnErr, length, ◌++◌, ◌∷◌, ◌==◌}
+use Rattle.std.proofs.Common.{◌∙◌, ◌+◌, ◌-◌, sym, ap, arith, Some, length, ◌++◌, ◌∷◌, ◌==◌}
 use Rattle.std.specs.Prelude.{if◌then◌else◌}
-use Rattle.dns_name.specs.Pieces.{element_of, IsWithin}
-use Rattle.dns_name.specs.declared.parsed.Piece.{Piece}
+use Rattle.dns_name.specs.Pieces.{element_of}
 use Rattle.dns_name.proofs.WireForms.{wire_invariant, labels_of_wire}
-use Rattle.dns_name.proofs.Decoding.{is_read, has_read_same, has_read_label, has_read_pointer, none_at_element, none_at_end, none_at_pointer, none_at_label}
+use Rattle.dns_name.proofs.Decoding.{one_less, when_err, within, is_read, has_read_same, has_read_label, has_read_pointer, none_at_element, none_at_end, none_at_pointer, none_at_label}
 use Rattle.dns_name.proofs.parsed.decode.Goals as goal
 use Rattle.dns_name.proofs.parsed.decode.Goals.{in-Label+in_ok-append_label-in-Label, in-Pointer+else-pointers-eq256}
-
-one_less : (step : ℕ) → step < 512 → 512 - step ≡ suc (512 - (step + 1))
-one_less step h = omega (arith, h)
-
-when_err : {T E P : Type 0} (r : Result T E) → P → OnErr r P
-when_err (Ok x) p = tt
-when_err (Err e) p = p
-
--- the place as the clauses of the piece have it
-within : (m : List ℕ) (p : ℕ) (x y : Piece) → IsWithin m p x → x ≡ y → IsWithin m p y
-within m p x y h e = subst (λ z. IsWithin m p z) e h
 
 pub returns-in_err-piece_at-clause-none : goal.returns-in_err-piece_at-clause-none
 returns-in_err-piece_at-clause-none c =
