@@ -1,4 +1,5 @@
 pub mod Fronts
+pub mod FrontNames
 pub mod Comparing
 pub mod FoldedData
 pub mod ReadData

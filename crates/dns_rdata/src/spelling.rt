@@ -1,7 +1,7 @@
 // Whether octets are those of other values as they are sent.
-ghost use Rattle.std.specs.Prelude.{◌≡◌, ◌∷◌, [], ◌++◌, ℕ, List, MatchOption};
+ghost use Rattle.std.specs.Prelude.{◌≡◌, ◌≤◌, ◌∷◌, [], ◌++◌, ℕ, List, MatchOption, length};
 ghost use Rattle.std.specs.Str.{bytes_eq};
-ghost use Rattle.dns_name.specs.Names.{name_wire};
+ghost use Rattle.dns_name.specs.Names.{label_wire, name_wire};
 ghost use Rattle.dns_name.specs.Records.{field_wire, data_wire};
 ghost use Rattle.dns_name.specs.LentFields.{field_of, fields_in};
 
@@ -27,7 +27,25 @@ pub(crate) fn after_name<'o, N: Labelled>(octets: &'o [u8], name: &N) -> Option<
         ((rest : List ℕ) → octets.now ≡ name_wire (N.labels name.now) ++ rest → ⊥)
         (λ rest. octets.now ≡ name_wire (N.labels name.now) ++ rest.now) }
 {
-    after_front(octets, name.to_key_name().as_slice())
+    let mut rest = octets;
+    let mut labels = name.iter_labels();
+    while let Some(label) = labels.next() {
+        match after_label(rest, label.as_slice()) {
+            Some(after) => rest = after,
+            None => return None,
+        }
+    }
+    after_front(rest, &[0])
+}
+
+/// What is left of the octets after the label as it is sent, if they begin with it.
+fn after_label<'o>(octets: &'o [u8], label: &[u8]) -> Option<&'o [u8]>
+    requires { length label.now ≤ 63 }
+    ensures { MatchOption result
+        ((rest : List ℕ) → octets.now ≡ label_wire label.now ++ rest → ⊥)
+        (λ rest. octets.now ≡ label_wire label.now ++ rest.now) }
+{
+    after_both(octets, &[label.len() as u8], label)
 }
 
 /// What is left of the octets after two others, if they begin with both.

@@ -128,6 +128,19 @@ impl<O: AsSlice<u8> + Drop, N: Labelled + Drop> ZoneRecordData<O, N> {
         ensures rtype { IfOk result (λ d. rtype_of d ≡ rtype_of self.now) }
         ensures fields { IfOk result (λ d. data_fields d ≡ fields_of N.labels self.now) }
     {
+        // Addresses are most of all data, and take nothing of what the other types' copies do.
+        match self {
+            ZoneRecordData::A(d) => Ok(ZoneRecordData::A(*d)),
+            ZoneRecordData::Aaaa(d) => Ok(ZoneRecordData::Aaaa(*d)),
+            _ => self.flatten_any(alloc),
+        }
+    }
+
+    /// The same for data of any type.
+    fn flatten_any(&self, alloc: Global) -> Result<StoredRecordData, AllocError>
+        ensures rtype { IfOk result (λ d. rtype_of d ≡ rtype_of self.now) }
+        ensures fields { IfOk result (λ d. data_fields d ≡ fields_of N.labels self.now) }
+    {
         match self {
             ZoneRecordData::A(d) => Ok(ZoneRecordData::A(*d)),
             ZoneRecordData::Aaaa(d) => Ok(ZoneRecordData::Aaaa(*d)),
