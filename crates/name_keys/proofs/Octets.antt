@@ -15,6 +15,12 @@ low_octet c h = rw (lt-ltb c 2 h) refl
 pub plain_octet : (c : ℕ) → 2 ≤ c → octet_key c ≡ c ∷ []
 plain_octet c h = rw (le-ltb c 2 h) refl
 
+-- an octet after the capitals stands as it is
+pub behind_capitals : (c : ℕ) → 90 < c → octet_key (to_ascii_lowercase c) ≡ c ∷ []
+behind_capitals c h =
+    let same : to_ascii_lowercase c ≡ c = grind (arith, nat_tests) in
+    ap octet_key same ∙ plain_octet c (omega (arith, h))
+
 -- the first octet of a label, then the rest of it
 pub first_octet : (c : ℕ) (label key : List ℕ) → label_key (c ∷ label) ++ key ≡ octet_key c ++ (label_key label ++ key)
 first_octet c label key =

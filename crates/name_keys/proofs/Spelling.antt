@@ -1,6 +1,8 @@
 -- The name that a key spells, written label by label.
 use Rattle.std.proofs.Common.{◌≡◌, ℕ, zero, suc, ◌+◌, ◌-◌, ◌<◌, ◌≤◌, List, [], ◌∷◌, ◌++◌, length, length-append, get_or, take, drop, set, refl, sym, ap, ◌∙◌, arith, Result, Ok, Err}
-use Rattle.std.specs.Prelude.{flat_map, IsTrue, OnOk, OnErr}
+use Rattle.std.specs.Prelude.{flat_map, IsTrue, OnOk, OnErr, false, ◌==◌, ◌||◌}
+use Rattle.std.specs.List.{list_any}
+use Rattle.std.proofs.lemmas.Bool.{true≢false, ne_eqb}
 use Rattle.std.specs.Str.{str_to_ascii_lowercase}
 use Rattle.std.proofs.lemmas.List.{drop_more, drop_all, take_more_set, append_assoc, drop_at, take_at}
 use Rattle.dns_name.specs.Names.{Name, fold, is_name, name_wire, label_wire}
@@ -21,6 +23,15 @@ head_last : (c : ℕ) → label_of (c ∷ []) ≡ c ∷ []
 head_last zero = refl
 head_last (suc zero) = refl
 head_last (suc (suc c)) = refl
+
+-- a piece without a 1 spells its own octets
+pub spells_itself : (piece : List ℕ) → list_any (λ c. c == 1) piece ≡ false → label_of piece ≡ piece
+spells_itself [] h = refl
+spells_itself (zero ∷ piece) h = ap (λ l. 0 ∷ l) (spells_itself piece h)
+spells_itself (suc zero ∷ piece) h = absurd (true≢false h)
+spells_itself (suc (suc c) ∷ piece) h =
+    let apart : (suc (suc c) == 1) ≡ false = ne_eqb (suc (suc c)) 1 (λ e. omega (arith, e)) in
+    ap (λ l. suc (suc c) ∷ l) (spells_itself piece (ap (λ b. b || list_any (λ d. d == 1) piece) (sym apart) ∙ h))
 
 pub plain_at : (piece : List ℕ) (i : ℕ) → i < length piece → (get_or piece i 0 ≡ 1 → ⊥)
     → label_of (drop i piece) ≡ get_or piece i 0 ∷ label_of (drop (i + 1) piece)

@@ -42,10 +42,12 @@ impl Key<KeyOctets> {
     pub fn of<N: Labelled>(name: &N) -> NameKey
         ensures { result ≡ fold (N.labels name.now) }
     {
-        NameKey::of_name(&name.to_key_name())
+        let mut octets = KeyOctets::new();
+        octets.fill_labels(name);
+        Key { octets }
     }
 
-    /// The key of a name in wire form, which isn't copied.
+    /// The key of a name in wire form.
     pub fn of_name<Octs: AsSlice<u8>>(name: &Name<Octs>) -> NameKey
         ensures { result ≡ fold name.now }
     {
@@ -142,9 +144,23 @@ impl<'a> Key<&'a [u8]> {
 
     /// The key of a name, put into `octets` in place of what was there: no octets are copied but these.
     pub fn put<Octs: AsSlice<u8>>(octets: &'a mut KeyOctets, name: &Name<Octs>) -> NameKeyRef<'a>
-        ensures { result ≡ fold name.now }
+        ensures value { result ≡ fold name.now }
+        ensures name { IsTrue (is_name name.now) }
+        ensures folded { fold result ≡ result }
     {
         octets.fill(name);
+        Key {
+            octets: octets.as_slice(),
+        }
+    }
+
+    /// The same of what has labels.
+    pub fn put_labels<N: Labelled>(octets: &'a mut KeyOctets, name: &N) -> NameKeyRef<'a>
+        ensures value { result ≡ fold (N.labels name.now) }
+        ensures name { IsTrue (is_name (N.labels name.now)) }
+        ensures folded { fold result ≡ result }
+    {
+        octets.fill_labels(name);
         Key {
             octets: octets.as_slice(),
         }
@@ -180,6 +196,20 @@ fn last_label_start(octets: &[u8]) -> usize
 
 /// Puts the label that a piece of a key spells at the end of a wire form that has room for it.
 fn append_label(wire: &mut NameOctets, piece: &[u8])
+    requires label { length (label_of piece.now) ≤ 63 }
+    requires room { length wire.old + length (label_of piece.now) < 255 }
+    ensures { wire.new ≡ wire.old ++ length (label_of piece.now) ∷ label_of piece.now }
+{
+    // A piece without a 1, as most are, spells its own octets.
+    if piece.contains(&1) {
+        append_by_octets(wire, piece);
+    } else {
+        let _ = wire.append_label(piece);
+    }
+}
+
+/// `append_label`, octet by octet.
+fn append_by_octets(wire: &mut NameOctets, piece: &[u8])
     requires label { length (label_of piece.now) ≤ 63 }
     requires room { length wire.old + length (label_of piece.now) < 255 }
     ensures { wire.new ≡ wire.old ++ length (label_of piece.now) ∷ label_of piece.now }

@@ -5,7 +5,7 @@ ghost use Rattle.std.specs.Str.{str_to_ascii_lowercase};
 ghost use Rattle.dns_name.specs.Names.{is_name};
 ghost use Rattle.name_keys.specs.NameKeys.{octet_key, label_key, name_key};
 
-use dns_name::Name;
+use dns_name::{Labelled, Name};
 use std::convert::AsSlice;
 use std::marker::Model;
 
@@ -58,6 +58,19 @@ impl KeyOctets {
         }
     }
 
+    /// Puts the key of what has labels in place of what was here.
+    pub fn fill_labels<N: Labelled>(&mut self, name: &N)
+        ensures key { self.new ≡ name_key (N.labels name.now) }
+        ensures name { IsTrue (is_name (N.labels name.now)) }
+    {
+        // For the proof: the labels are those of a name that has a wire form.
+        let _ = name.compose_len();
+        self.clear();
+        for label in name.iter_labels() {
+            self.put_label(label.as_slice());
+        }
+    }
+
     /// Leaves no octets.
     fn clear(&mut self)
         ensures { self.new ≡ [] }
@@ -79,10 +92,16 @@ impl KeyOctets {
     }
 
     /// Puts an octet of a label in front, in lower case, as a key has it.
+    #[tactic(auto, using(crate::proofs::Octets::behind_capitals))]
     fn put_folded(&mut self, octet: u8)
         requires { length (octet_key (to_ascii_lowercase octet)) + length self.old ≤ 504 }
         ensures { self.new ≡ octet_key (to_ascii_lowercase octet) ++ self.old }
     {
+        // Most octets come after the capitals.
+        if octet > b'Z' {
+            self.put(octet);
+            return;
+        }
         let folded = octet.to_ascii_lowercase();
         if folded < 2 {
             self.put(folded + 1);

@@ -1,14 +1,15 @@
-use Rattle.std.proofs.Common.{length, ap, ◌∙◌, arith}
-use Rattle.std.proofs.lemmas.List.{length-set}
-use Rattle.name_keys.proofs.Spelling.{one_read}
+use Rattle.std.proofs.Common.{◌≤◌, ◌<◌, ◌+◌, ◌++◌, ◌∷◌, List, ℕ, length, sym, subst, ◌∙◌, arith}
+use Rattle.name_keys.proofs.Spelling.{went_well, spells_itself}
 use Rattle.name_keys.proofs.key.append_label.Goals as goal
 
-pub loop-at-preserved : goal.loop-at-preserved
-loop-at-preserved c =
-    let s = c.loop-at in
-    let r = c.octet_at-octet.result in
-    let e = c.octet_at-octet.ensures in
-    let one = ap length e.octet in
-    let h = s.invariant in
-    let more = one_read s.label c.args.piece.now s.len s.at r.1 r.0 (omega (arith, h.0, h.2, one, c.requires.label)) e.octet h.2 h.3 in
-    (length-set s.label s.len r.0 ∙ h.0, e.after.1, more.0, more.1)
+pub append_label-requires : goal.append_label-requires
+append_label-requires c =
+    let same = spells_itself c.args.piece.now (sym c.contains.ensures.value ∙ c.if-contains.false) in
+    subst (λ (l : List ℕ). length l ≤ 63) same c.requires.label
+
+pub returns-else-contains : goal.returns-else-contains
+returns-else-contains c =
+    let same = spells_itself c.args.piece.now (sym c.contains.ensures.value ∙ c.if-contains.false) in
+    let room = subst (λ (l : List ℕ). length c.args.wire.now + length l < 255) same c.requires.room in
+    let put = went_well c.append_label.result c.append_label.ensures.ok c.append_label.ensures.full (λ full. omega (arith, full, room)) in
+    put ∙ (λ i. c.args.wire.now ++ length (sym same i) ∷ sym same i)

@@ -1,6 +1,6 @@
 use Rattle.std.proofs.Common.{◌≡◌, ◌≤◌, ◌+◌, ◌-◌, ◌++◌, length, take, drop}
 use Rattle.name_keys.specs.NameKeys.{label_of}
-use Rattle.name_keys.proofs.key.append_label.Given as goal
+use Rattle.name_keys.proofs.key.append_by_octets.Given as goal
 
 -- what was read and what the rest of the piece spells are what the piece spells
 abbrev pub invariant-loop-at : goal.invariant-loop-at
