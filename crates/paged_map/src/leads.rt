@@ -27,6 +27,9 @@ impl Leads {
     /// How many of the keys stand before one, by these octets alone.
     pub(crate) fn count_before(&self, key: &[u8]) -> usize {
         let lead = lead_of(key, self.common);
+        if self.are_all_below(lead) {
+            return self.leads.len();
+        }
         self.leads
             .partition_point(|other: &u64| -> bool { *other < lead })
     }
@@ -34,8 +37,19 @@ impl Leads {
     /// How many of the keys don't stand after one, by these octets alone.
     pub(crate) fn count_up_to(&self, key: &[u8]) -> usize {
         let lead = lead_of(key, self.common);
+        if self.are_all_below(lead) {
+            return self.leads.len();
+        }
         self.leads
             .partition_point(|other: &u64| -> bool { *other <= lead })
+    }
+
+    /// Whether each of them is below a number. For keys that come in order, this spares the searches.
+    fn are_all_below(&self, lead: u64) -> bool {
+        match self.leads.last() {
+            Some(last) => *last < lead,
+            None => true,
+        }
     }
 
     /// Forgets all keys; those that come begin as these two do.
@@ -74,8 +88,23 @@ impl Clone for Leads {
     }
 }
 
-/// With how many octets two keys begin in common.
+/// With how many octets two keys begin in common, counted by eight and then one by one.
 fn count_common(one: &[u8], other: &[u8]) -> usize {
+    let (mut ones, mut others) = (one, other);
+    let mut common: usize = 0;
+    while let Some((left, more)) = ones.split_first_chunk::<8>()
+        && let Some((right, others_more)) = others.split_first_chunk::<8>()
+        && u64::from_be_bytes(*left) == u64::from_be_bytes(*right)
+    {
+        common = common.saturating_add(8);
+        ones = more;
+        others = others_more;
+    }
+    common.saturating_add(count_common_octets(ones, others))
+}
+
+/// The same, one by one.
+fn count_common_octets(one: &[u8], other: &[u8]) -> usize {
     let most = one.len().min(other.len());
     for i in 0..most {
         if one[i] != other[i] {
@@ -93,11 +122,27 @@ fn lead_of(key: &[u8], from: usize) -> u64 {
     if let Some(octets) = rest.first_chunk::<8>() {
         return u64::from_be_bytes(*octets);
     }
+    match key.last_chunk::<8>() {
+        Some(octets) => start_with_last(u64::from_be_bytes(*octets), rest.len()),
+        None => number_of(rest),
+    }
+}
+
+/// A number whose last octets, so many, come first, and 0 after them.
+fn start_with_last(number: u64, count: usize) -> u64 {
+    if count == 0 || count > 8 {
+        return 0;
+    }
+    number << ((8 - count) * 8)
+}
+
+/// The same of eight octets at most.
+fn number_of(octets: &[u8]) -> u64 {
     let mut lead = 0;
-    for octet in rest.iter() {
+    for octet in octets.iter() {
         lead = lead << 8 | u64::from(*octet);
     }
-    for _ in rest.len()..8 {
+    for _ in octets.len()..8 {
         lead = lead << 8;
     }
     lead
