@@ -5,7 +5,7 @@ pub mod Existing
 pub mod Grown
 pub mod Shrunk
 pub mod Counted
-pub mod Keeping
+pub mod Row
 pub mod Scan
 pub mod Named
 pub mod Upwards

@@ -1,6 +1,5 @@
 -- What nodes hold, as it is kept and told.
-use Rattle.std.specs.Prelude.{ℕ, ◌+◌, ◌-◌, ◌^◌, Bool, ◌==◌, min, List, map, filter, Option, option_map, IsTrue}
-use Rattle.std.specs.List.{list_all}
+use Rattle.std.specs.Prelude.{ℕ, ◌+◌, ◌-◌, ◌^◌, min, List, map, filter, Option, option_map}
 use Rattle.std.specs.Ordering.{nat_cmp, is_lt}
 use Rattle.std.specs.BTreeMap.{is_at}
 use Rattle.std.specs.Map.{lookup}
@@ -8,7 +7,7 @@ use Rattle.dns_name.specs.Names.{Name}
 use Rattle.zone_model.specs.Version.{RecordSet, Key}
 use Rattle.zone_values.specs.TypedSets.{TypedSet}
 use Rattle.zone_values.specs.TypedEntries.{typed}
-use Rattle.zone_nodes.specs.Trees.{NodeSets, IsHeld}
+use Rattle.zone_nodes.specs.Trees.{NodeSets}
 
 -- a node's set of a type, with it
 abbrev pub typed_set_of : NodeSets → ℕ → Option TypedSet
@@ -30,21 +29,9 @@ told_at owner sets = map (λ (s : TypedSet). (owner, s)) sets
 abbrev pub after_type : ℕ → NodeSets → NodeSets
 after_type rtype held = filter (λ (e : ℕ × RecordSet). is_lt (nat_cmp rtype e.0)) held
 
--- sets with their types at types, as a node keeps them
-abbrev pub Kept : Type 0
-Kept = List (ℕ × TypedSet)
-
--- without the types of the sets
-abbrev pub held_of : Kept → NodeSets
-held_of kept = map (λ (e : ℕ × TypedSet). (e.0, e.1.contents)) kept
-
--- whether each set is of the type at which it is kept
-abbrev pub own_types : Kept → Bool
-own_types kept = list_all (λ (e : ℕ × TypedSet). e.1.rtype == e.0) kept
-
--- what a node keeps
-abbrev pub IsKept : Kept → Type 0
-IsKept kept = IsTrue (own_types kept) × IsHeld (held_of kept)
+-- sets in a row by type
+abbrev pub held_of : List TypedSet → NodeSets
+held_of sets = map (λ (s : TypedSet). (s.rtype, s.contents)) sets
 
 -- the count of nodes after so many more, which stays at the greatest number
 abbrev pub counted : ℕ → ℕ → ℕ

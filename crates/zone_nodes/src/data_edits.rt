@@ -18,7 +18,7 @@ use crate::set_edit::{Appending, Opening, Thinning};
 use crate::tree::VersionTree;
 use dns_name::{Labelled, Ttl};
 use dns_rdata::{RecordData, StoredRecordData};
-use name_keys::{NameKey, NameKeyRef};
+use name_keys::{KeyOctets, NameKeyRef};
 use std::alloc::{AllocError, Global};
 use zone_values::{PutError, Rrset, SharedRrset};
 
@@ -41,8 +41,9 @@ impl VersionTree {
         ensures steps { OnOk result (steps.new ≡ counted steps.old (built self.old self.new (N.labels owner.now) (rtype_of item))) }
         ensures uncounted { OnErr result (steps.new ≡ steps.old) }
     {
-        let key = NameKey::of(owner);
-        self.append_at(alloc, &key.borrowed(), ttl, item, alone, steps)
+        let mut octets = KeyOctets::new();
+        let key = NameKeyRef::put_labels(&mut octets, owner);
+        self.append_at(alloc, &key, ttl, item, alone, steps)
     }
 
     /// Puts data that a zone opens with in the RRset of their type at an owner: last, unless equal data stand there (RFC 2181, 5). The RRset's TTL is
@@ -61,8 +62,9 @@ impl VersionTree {
         ensures steps { OnOk result (steps.new ≡ counted steps.old (built self.old self.new (N.labels owner.now) (rtype_of item))) }
         ensures uncounted { OnErr result (steps.new ≡ steps.old) }
     {
-        let key = NameKey::of(owner);
-        self.open_at(alloc, &key.borrowed(), ttl, item, steps)
+        let mut octets = KeyOctets::new();
+        let key = NameKeyRef::put_labels(&mut octets, owner);
+        self.open_at(alloc, &key, ttl, item, steps)
     }
 
     /// Takes the data equal to these out of the RRset of their type at an owner, whose TTL is then this one, in seconds; an emptied RRset goes. Where
@@ -82,8 +84,9 @@ impl VersionTree {
         ensures steps { OnOk result (steps.new ≡ counted steps.old (built self.old self.new (N.labels owner.now) (rtype_of item.now))) }
         ensures uncounted { OnErr result (steps.new ≡ steps.old) }
     {
-        let key = NameKey::of(owner);
-        self.take_out_at(alloc, &key.borrowed(), ttl, item, steps)
+        let mut octets = KeyOctets::new();
+        let key = NameKeyRef::put_labels(&mut octets, owner);
+        self.take_out_at(alloc, &key, ttl, item, steps)
     }
 }
 

@@ -15,6 +15,7 @@ mod node_map;
 mod set_edit;
 mod shrinking;
 mod tree;
+mod types;
 mod walk;
 
 pub use node::{NodeCount, ZoneNode};

@@ -4,14 +4,13 @@ ghost use Rattle.std.specs.Ordering.{nat_cmp};
 ghost use Rattle.std.specs.BTreeMap.{insert_entry, is_at};
 ghost use Rattle.std.specs.Map.{lookup, remove_entry};
 ghost use Rattle.zone_values.specs.TypedEntries.{typed};
-ghost use Rattle.zone_nodes.specs.Held.{typed_set_of, typed_sets, after_type, held_of, own_types, IsKept, counted};
+ghost use Rattle.zone_nodes.specs.Held.{typed_set_of, typed_sets, after_type, held_of, counted};
 ghost use Rattle.zone_nodes.specs.Trees.{IsHeld};
 
 use crate::set_edit::SetEdit;
+use crate::types::{count_up_to, edit_set, put_in, set_of, take_out};
 use dns_name::Rtype;
 use std::alloc::{AllocError, Global};
-use std::collections::BTreeMap;
-use std::collections::btree_map::Values;
 use std::marker::Model;
 use zone_values::{Rrset, SharedRrset};
 
@@ -64,25 +63,26 @@ impl NodeCount {
 /// The node of a name: its RRsets by type, none of them empty (RFC 2181, 5). An edit builds another, but for one of an RRset in place.
 #[derive(Drop)]
 pub struct ZoneNode {
-    sets: BTreeMap<Rtype, SharedRrset>,
+    // Their types ascend.
+    sets: Vec<SharedRrset>,
 }
 
 impl Model for ZoneNode {
-    ghost use Rattle.zone_nodes.specs.Trees.{NodeSets};
-    ghost use Rattle.zone_nodes.specs.Held.{held_of, IsKept};
+    ghost use Rattle.zone_nodes.specs.Trees.{NodeSets, IsHeld};
+    ghost use Rattle.zone_nodes.specs.Held.{held_of};
 
     ghost Value = { NodeSets };
 
-    ghost view = { λ n. held_of n.sets.entries };
+    ghost view = { λ n. held_of n.sets.items };
 
-    ghost invariant = { λ n. IsKept n.sets.entries };
+    ghost invariant = { λ n. IsHeld (held_of n.sets.items) };
 }
 
 impl ZoneNode {
     /// A node of these RRsets. Each node is built here.
-    fn build(steps: &mut NodeCount, sets: BTreeMap<Rtype, SharedRrset>) -> ZoneNode
-        requires { IsKept sets.entries }
-        ensures is { result ≡ held_of sets.entries }
+    fn build(steps: &mut NodeCount, sets: Vec<SharedRrset>) -> ZoneNode
+        requires { IsHeld (held_of sets.items) }
+        ensures is { result ≡ held_of sets.items }
         ensures steps { steps.new ≡ counted steps.old 1 }
     {
         steps.add_one();
@@ -94,7 +94,7 @@ impl ZoneNode {
         ensures is { result ≡ [] }
         ensures steps { steps.new ≡ counted steps.old 1 }
     {
-        ZoneNode::build(steps, BTreeMap::new(alloc))
+        ZoneNode::build(steps, Vec::new(alloc))
     }
 
     /// A node of one RRset, of this type and not empty.
@@ -110,8 +110,8 @@ impl ZoneNode {
         ensures steps { OnOk result (steps.new ≡ counted steps.old 1) }
         ensures err { OnErr result (steps.new ≡ steps.old) }
     {
-        let mut sets = BTreeMap::new(alloc);
-        drop(sets.insert(rtype, set)?);
+        let mut sets = Vec::new(alloc);
+        sets.push(set)?;
         Ok(ZoneNode::build(steps, sets))
     }
 
@@ -129,7 +129,7 @@ impl ZoneNode {
         ensures err { OnErr result (steps.new ≡ steps.old) }
     {
         let mut sets = copied(&self.sets)?;
-        drop(sets.insert(rtype, set)?);
+        put_in(&mut sets, rtype, set)?;
         Ok(ZoneNode::build(steps, sets))
     }
 
@@ -144,7 +144,7 @@ impl ZoneNode {
         ensures err { OnErr result (steps.new ≡ steps.old) }
     {
         let mut sets = copied(&self.sets)?;
-        drop(sets.remove(&rtype));
+        take_out(&mut sets, rtype);
         Ok(ZoneNode::build(steps, sets))
     }
 
@@ -167,33 +167,25 @@ impl ZoneNode {
     pub fn get(&self, rtype: Rtype) -> Option<&Rrset>
         ensures { option_copied result ≡ typed_set_of self.now rtype }
     {
-        match self.sets.get(&rtype) {
+        match set_of(&self.sets, rtype) {
             Some(set) => Some(set.as_rrset()),
             None => None,
         }
     }
 
     /// The RRsets by type, ascending.
-    pub fn iter(&self) -> Values<'_, Rtype, SharedRrset>
-        ensures is { result ≡ typed_sets self.now }
+    pub fn sets(&self) -> &[SharedRrset]
+        ensures is { result.now ≡ typed_sets self.now }
         ensures held { IsHeld self.now }
     {
-        self.sets.values()
+        &self.sets
     }
 
     /// The RRsets of types after one, ascending.
-    pub(crate) fn after(&self, rtype: Rtype) -> Values<'_, Rtype, SharedRrset>
-        ensures { result ≡ typed_sets (after_type rtype self.now) }
+    pub(crate) fn after(&self, rtype: Rtype) -> &[SharedRrset]
+        ensures { result.now ≡ typed_sets (after_type rtype self.now) }
     {
-        let mut rest = self.iter();
-        let mut look = self.iter();
-        'sets: while let Some(set) = look.next() {
-            if set.rtype().to_int() > rtype.to_int() {
-                return rest;
-            }
-            let _ = rest.next();
-        }
-        rest
+        &self.sets[count_up_to(&self.sets, rtype)..]
     }
 
     /// How many RRsets there are.
@@ -212,28 +204,10 @@ impl ZoneNode {
 }
 
 /// A copy of a node's RRsets, which shares them.
-fn copied(sets: &BTreeMap<Rtype, SharedRrset>) -> Result<BTreeMap<Rtype, SharedRrset>, AllocError>
-    ensures { IfOk result (λ copy. copy.entries ≡ sets.now.entries) }
+fn copied(sets: &Vec<SharedRrset>) -> Result<Vec<SharedRrset>, AllocError>
+    ensures { IfOk result (λ copy. copy.items ≡ sets.now.items) }
 {
     sets.clone()
-}
-
-/// Edits the RRset of a type, which is there, in place.
-fn edit_set<E: SetEdit + Drop>(
-    sets: &mut BTreeMap<Rtype, SharedRrset>,
-    rtype: Rtype,
-    edit: E,
-) -> Result<(), AllocError>
-    requires there { IsSome (lookup (is_at (nat_cmp rtype)) sets.old.entries) }
-    requires fits { E.fits edit rtype }
-    requires own { IsTrue (own_types sets.old.entries) }
-    ensures ok { OnOk result (sets.new.entries ≡ insert_entry nat_cmp sets.old.entries rtype (typed rtype (E.edited edit (lookup (is_at (nat_cmp rtype)) (held_of sets.old.entries))))) }
-    ensures err { OnErr result (sets.new.entries ≡ sets.old.entries) }
-{
-    match sets.get_mut(&rtype) {
-        Some(set) => edit.edit(set.make_mut()?),
-        None => Ok(()),
-    }
 }
 
 impl Clone for ZoneNode {

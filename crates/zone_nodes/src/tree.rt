@@ -18,7 +18,7 @@ use crate::set_edit::SetEdit;
 use crate::shrinking::remove_set;
 use crate::walk::{TreeSet, TreeSets};
 use dns_name::{Class, Labelled, Rtype, StoredName};
-use name_keys::{NameKey, NameKeyRef};
+use name_keys::{KeyOctets, NameKeyRef};
 use paged_map::Entries;
 use std::alloc::{AllocError, Global};
 use std::marker::Model;
@@ -59,10 +59,11 @@ impl VersionTree {
     {
         let apex = apex.clone()?;
         let mut nodes = NodeMap::new(alloc);
-        let key = NameKey::of_name(&apex);
+        let mut octets = KeyOctets::new();
+        let key = NameKeyRef::put(&mut octets, &apex);
         let before = steps.get();
         let node = ZoneNode::empty(alloc, steps);
-        let done = nodes.insert(alloc, &key.borrowed(), node);
+        let done = nodes.insert(alloc, &key, node);
         steps.keep_if(done.is_ok(), before);
         done?;
         Ok(VersionTree { apex, class, nodes })
@@ -111,7 +112,8 @@ impl VersionTree {
     pub fn node<N: Labelled>(&self, owner: &N) -> Option<&ZoneNode>
         ensures { option_copied result ≡ node_of self.now (N.labels owner.now) }
     {
-        self.node_at(&NameKey::of(owner).borrowed())
+        let mut octets = KeyOctets::new();
+        self.node_at(&NameKeyRef::put_labels(&mut octets, owner))
     }
 
     /// The same of a name's key.
@@ -125,7 +127,8 @@ impl VersionTree {
     pub fn get<N: Labelled>(&self, owner: &N, rtype: Rtype) -> Option<&Rrset>
         ensures { option_copied result ≡ option_map (typed rtype) (set_at self.now (N.labels owner.now) rtype) }
     {
-        self.set_at(&NameKey::of(owner).borrowed(), rtype)
+        let mut octets = KeyOctets::new();
+        self.set_at(&NameKeyRef::put_labels(&mut octets, owner), rtype)
     }
 
     /// The nodes in canonical order of their names (RFC 4034, 6.1), by the names' keys: the version's tree.
@@ -137,11 +140,12 @@ impl VersionTree {
     }
 
     /// The same without the nodes of names before one: the RRsets whose owners aren't before it.
-    pub fn nodes_from<N: Labelled>(&self, owner: &N) -> Entries<'_, ZoneNode>
+    fn nodes_from<N: Labelled>(&self, owner: &N) -> Entries<'_, ZoneNode>
         ensures sets { sets_of (named result) ≡ filter (λ e. is_le (canonical_cmp (N.labels owner.now) e.0.0)) self.now.sets }
         ensures keys { AreKeys result }
     {
-        self.entries_from(&NameKey::of(owner).borrowed())
+        let mut octets = KeyOctets::new();
+        self.entries_from(&NameKeyRef::put_labels(&mut octets, owner))
     }
 
     /// The same of an owner's key.
@@ -198,7 +202,8 @@ impl VersionTree {
     pub fn sets_after<N: Labelled>(&self, owner: &N, rtype: Rtype) -> TreeSets<'_>
         ensures { result ≡ map told (filter (λ e. is_lt (key_cmp (fold (N.labels owner.now), rtype) e.0)) self.now.sets) }
     {
-        self.sets_after_key(&NameKey::of(owner).borrowed(), rtype)
+        let mut octets = KeyOctets::new();
+        self.sets_after_key(&NameKeyRef::put_labels(&mut octets, owner), rtype)
     }
 
     /// The same of an owner's key.
@@ -242,8 +247,8 @@ impl VersionTree {
         ensures steps { OnOk result (steps.new ≡ counted steps.old (built self.old self.new (N.labels owner.now) rtype)) }
         ensures uncounted { OnErr result (steps.new ≡ steps.old) }
     {
-        let key = NameKey::of(owner);
-        let name = key.borrowed();
+        let mut octets = KeyOctets::new();
+        let name = NameKeyRef::put_labels(&mut octets, owner);
         match set {
             Some(set) => self.put(alloc, &name, rtype, set, steps),
             None => self.remove(alloc, &name, rtype, steps),
@@ -381,16 +386,10 @@ impl VersionTree {
         ensures uncounted { OnErr result (steps.new ≡ steps.old) }
     {
         let _ = owner.as_slice();
-        let apex = NameKey::of_name(&self.apex);
+        let mut octets = KeyOctets::new();
+        let apex = NameKeyRef::put(&mut octets, &self.apex);
         let before = steps.get();
-        let done = remove_set(
-            &mut self.nodes,
-            alloc,
-            &apex.borrowed(),
-            owner,
-            rtype,
-            steps,
-        );
+        let done = remove_set(&mut self.nodes, alloc, &apex, owner, rtype, steps);
         steps.keep_if(done.is_ok(), before);
         done
     }
@@ -408,7 +407,8 @@ impl VersionTree {
         ensures steps { OnOk result (steps.new ≡ counted steps.old (built_by_clear self.old (N.labels name.now))) }
         ensures uncounted { OnErr result (steps.new ≡ steps.old) }
     {
-        self.clear_key(alloc, &NameKey::of(name).borrowed(), steps)
+        let mut octets = KeyOctets::new();
+        self.clear_key(alloc, &NameKeyRef::put_labels(&mut octets, name), steps)
     }
 
     /// The same of a name's key.
@@ -436,7 +436,8 @@ impl VersionTree {
     fn is_apex_under(&self, name: &NameKeyRef<'_>) -> bool
         ensures { result ≡ under self.now.apex name.now }
     {
-        NameKey::of_name(&self.apex).is_under(name)
+        let mut octets = KeyOctets::new();
+        NameKeyRef::put(&mut octets, &self.apex).is_under(name)
     }
 
     /// Takes all RRsets out.
@@ -460,7 +461,8 @@ impl VersionTree {
         ensures ok { OnOk result (self.new ≡ edits.clear self.old name.now) }
         ensures err { OnErr result (self.new ≡ self.old) }
     {
-        let apex = NameKey::of_name(&self.apex);
-        clear_below(&mut self.nodes, &apex.borrowed(), name)
+        let mut octets = KeyOctets::new();
+        let apex = NameKeyRef::put(&mut octets, &self.apex);
+        clear_below(&mut self.nodes, &apex, name)
     }
 }

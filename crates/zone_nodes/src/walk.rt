@@ -17,7 +17,6 @@ use crate::node_map::is_same;
 use dns_name::Rtype;
 use name_keys::NameKeyRef;
 use paged_map::Entries;
-use std::collections::btree_map::Values;
 use std::marker::Model;
 use zone_values::{Rrset, SharedRrset};
 
@@ -74,11 +73,11 @@ impl<'v> TreeSet<'v> {
 #[derive(Drop)]
 struct NodeRest<'v> {
     key: &'v [u8],
-    sets: Option<Values<'v, Rtype, SharedRrset>>,
+    sets: &'v [SharedRrset],
 }
 
 impl<'v> Model for NodeRest<'v> {
-    ghost use Rattle.std.specs.Prelude.{List, [], unwrap_or};
+    ghost use Rattle.std.specs.Prelude.{List};
     ghost use Rattle.dns_name.specs.Names.{Name};
     ghost use Rattle.name_keys.specs.NameKeys.{name_of_key, IsNameKey};
     ghost use Rattle.zone_values.specs.TypedSets.{TypedSet};
@@ -86,7 +85,7 @@ impl<'v> Model for NodeRest<'v> {
 
     ghost Value = { List (Name × TypedSet) };
 
-    ghost view = { λ n. told_at (name_of_key n.key.now) (unwrap_or n.sets []) };
+    ghost view = { λ n. told_at (name_of_key n.key.now) n.sets.now };
 
     ghost invariant = { λ n. IsNameKey n.key.now };
 }
@@ -98,7 +97,7 @@ impl<'v> NodeRest<'v> {
     {
         NodeRest {
             key: &[],
-            sets: None,
+            sets: &[],
         }
     }
 
@@ -109,7 +108,7 @@ impl<'v> NodeRest<'v> {
     {
         NodeRest {
             key,
-            sets: Some(node.iter()),
+            sets: node.sets(),
         }
     }
 
@@ -122,7 +121,7 @@ impl<'v> NodeRest<'v> {
         if is_same(name.as_slice(), key) {
             return NodeRest {
                 key,
-                sets: Some(node.after(rtype)),
+                sets: node.after(rtype),
             };
         }
         NodeRest::of(key, node)
@@ -132,17 +131,12 @@ impl<'v> NodeRest<'v> {
     fn next_set(&mut self) -> Option<TreeSet<'v>>
         ensures { YieldsFirst (λ n. n) self.old result self.new }
     {
-        let key = self.key;
-        let Some(sets) = &mut self.sets else {
-            return None;
-        };
-        match sets.next() {
-            Some(set) => Some(TreeSet {
-                owner: NameKeyRef::of_octets(key),
-                set,
-            }),
-            None => None,
-        }
+        let (set, rest) = self.sets.split_first()?;
+        self.sets = rest;
+        Some(TreeSet {
+            owner: NameKeyRef::of_octets(self.key),
+            set,
+        })
     }
 }
 

@@ -6,5 +6,5 @@ use Rattle.zone_nodes.proofs.tree.VersionTree.get.Goals as goal
 
 pub returns : goal.returns
 returns g c =
-    c.set_at.ensures ∙ ap (λ n. option_map (typed c.args.rtype) (set_at c.args.self.now n c.args.rtype)) (c.borrowed.ensures.value ∙ c.of.ensures)
+    c.set_at.ensures ∙ ap (λ n. option_map (typed c.args.rtype) (set_at c.args.self.now n c.args.rtype)) c.put_labels.ensures.value
     ∙ ap (λ n. option_map (typed c.args.rtype) (set_in c.args.self.now.sets (n, c.args.rtype))) (fold-fold (g.N.Labelled.labels c.args.owner.now))

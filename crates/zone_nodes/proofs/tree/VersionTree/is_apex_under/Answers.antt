@@ -6,6 +6,6 @@ use Rattle.zone_nodes.proofs.tree.VersionTree.is_apex_under.Goals as goal
 
 pub returns : goal.returns
 returns c =
-    c.is_under.ensures ∙ ap (λ a. under a c.args.name.now) c.of_name.ensures
+    c.is_under.ensures ∙ ap (λ a. under a c.args.name.now) c.put.ensures.value
     ∙ under_alike (fold c.self.inside.apex) c.self.inside.apex c.args.name.now c.args.name.now (fold-fold c.self.inside.apex) refl
     ∙ ap (λ (v : Version). under v.apex c.args.name.now) c.self.view_is

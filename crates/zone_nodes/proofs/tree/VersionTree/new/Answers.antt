@@ -8,5 +8,5 @@ use Rattle.zone_nodes.proofs.tree.VersionTree.new.Goals as goal
 pub invariant_of-result : goal.invariant_of-result
 invariant_of-result c =
     subst (λ ns. IsTree (version_of c.in_ok-apex.apex c.args.class ns) ns)
-    (sym (was_ok c.insert-done.result c.in_ok-done.field-0 c.in_ok-done.was c.insert-done.ensures.ok ∙ (λ i. put_node (c.new-nodes.ensures i) ((c.borrowed.ensures.value ∙ c.of_name-key.ensures) i) (c.empty-node.ensures.is i))))
+    (sym (was_ok c.insert-done.result c.in_ok-done.field-0 c.in_ok-done.was c.insert-done.ensures.ok ∙ (λ i. put_node (c.new-nodes.ensures i) (c.put-key.ensures.value i) (c.empty-node.ensures.is i))))
     (apex_tree c.in_ok-apex.apex c.args.class)

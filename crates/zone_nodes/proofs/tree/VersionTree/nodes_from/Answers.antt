@@ -6,5 +6,5 @@ use Rattle.zone_nodes.proofs.tree.VersionTree.nodes_from.Goals as goal
 
 pub returns-clause-sets : goal.returns-clause-sets
 returns-clause-sets g c =
-    c.entries_from.ensures.sets ∙ ap (λ n. filter (λ (e : Key × RecordSet). is_le (canonical_cmp n e.0.0)) c.args.self.now.sets) (c.borrowed.ensures.value ∙ c.of.ensures)
+    c.entries_from.ensures.sets ∙ ap (λ n. filter (λ (e : Key × RecordSet). is_le (canonical_cmp n e.0.0)) c.args.self.now.sets) c.put_labels.ensures.value
     ∙ ap (λ m. filter (λ (e : Key × RecordSet). is_le (spelling_cmp m (fold e.0.0))) c.args.self.now.sets) (fold-fold (g.N.Labelled.labels c.args.owner.now))
