@@ -5,7 +5,7 @@ ghost use Rattle.dns_name.specs.Names.{fold, same_name, under};
 ghost use Rattle.zone_model.specs.Version.{IsValid, key_cmp, set_in, set_at, below_apex, is_cut};
 ghost use Rattle.zone_model.specs.Classify.{opened_with};
 ghost use Rattle.zone_model.specs.Answer.{highest_cut};
-ghost use Rattle.zone_model.specs.Walk.{next_stop, shown_owner};
+ghost use Rattle.zone_model.specs.Walk.{next_stop};
 ghost use Rattle.zone_nodes.specs.Held.{told, counted};
 ghost use Rattle.zone_nodes.specs.Trees.{built};
 ghost use Rattle.zone_versions.specs.Stops.{stop_of, first_stop, first_from, entry_told, key_told};
@@ -218,23 +218,15 @@ impl ZoneVersion {
         name.name_eq(self.apex())
     }
 
-    /// An RRset's owner as a walk shows it: the apex as it was given, others in lower case.
-    fn shown_owner(&self, found: &TreeSet<'_>) -> KeyName
-        ensures { result ≡ shown_owner self.now found.now.0 }
-    {
-        let name = found.owner().to_name();
-        if self.is_apex(&name) {
-            return self.apex().to_key_name();
-        }
-        name
-    }
-
-    /// An RRset as a walk shows it.
+    /// An RRset as a walk shows it: at the apex as it was given, at others in lower case.
     pub(crate) fn stop<'v>(&'v self, found: TreeSet<'v>) -> WalkItem<'v>
         ensures { result ≡ stop_of self.now (entry_told found.entry) }
     {
-        let owner = self.shown_owner(&found);
-        WalkItem::of(self, owner, found)
+        let name = found.owner().to_name();
+        if self.is_apex(&name) {
+            return WalkItem::of(self, self.apex().to_key_name(), found);
+        }
+        WalkItem::of(self, name, found)
     }
 
     /// The first stop of the walk.
@@ -255,15 +247,15 @@ impl ZoneVersion {
     }
 
     /// The first RRset after an owner and type.
-    fn first_after(&self, owner: &KeyName, rtype: Rtype) -> Option<TreeSet<'_>>
-        ensures { result ≡ option_map told (find (λ e. is_lt (key_cmp (fold owner.now, rtype) e.0)) self.now.sets) }
+    fn first_after<N: Labelled>(&self, owner: &N, rtype: Rtype) -> Option<TreeSet<'_>>
+        ensures { result ≡ option_map told (find (λ e. is_lt (key_cmp (fold (N.labels owner.now), rtype) e.0)) self.now.sets) }
     {
         self.tree.first_after(owner, rtype)
     }
 
     /// The first stop after an owner and type.
-    pub fn next_stop(&self, owner: &KeyName, rtype: Rtype) -> Option<WalkItem<'_>>
-        ensures { result ≡ next_stop self.now owner.now rtype }
+    pub fn next_stop<N: Labelled>(&self, owner: &N, rtype: Rtype) -> Option<WalkItem<'_>>
+        ensures { result ≡ next_stop self.now (N.labels owner.now) rtype }
     {
         match self.first_after(owner, rtype) {
             Some(found) => Some(self.stop(found)),
@@ -558,7 +550,6 @@ pub(crate) fn put_opening(
     ensures err { OnErr result (tree.new ≡ tree.old) }
 {
     let mut steps = NodeCount::new();
-    let owner = added.owner().to_key_name();
-    let ttl = added.ttl();
-    tree.open_with(alloc, &owner, ttl, added.into_data(), &mut steps)
+    let (owner, _, ttl, item) = added.into_parts();
+    tree.open_with(alloc, &owner, ttl, item, &mut steps)
 }

@@ -9,8 +9,7 @@ use Rattle.zone_versions.proofs.version.put_opening.Goals as goal
 pub returns-clause-ok : goal.returns-clause-ok
 returns-clause-ok c =
     let v = c.args.tree.now in
-    let data_is = c.into_data.ensures in
-    let name : c.to_key_name-owner.result ≡ c.args.added.owner = c.to_key_name-owner.ensures.value ∙ c.owner.ensures in
+    let parts = c.into_parts-owner.ensures in
     on_ok c.open_with.result
-    (λ e. e ∙ (λ i. put_set v (name i) (data_is.rtype i) (opening_set (c.ttl-ttl.ensures i) (data_is.fields i) (set_at v (name i) (data_is.rtype i)))))
+    (λ e. e ∙ (λ i. put_set v (parts.owner i) (parts.rtype i) (opening_set (parts.ttl i) (parts.fields i) (set_at v (parts.owner i) (parts.rtype i)))))
     c.open_with.ensures.ok
