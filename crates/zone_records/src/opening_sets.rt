@@ -212,7 +212,7 @@ fn has_below(tree: &VersionTree, apex: &StoredName) -> bool
     tree.apex().compose_len() == 1 || is_spelled_so(tree.apex(), apex)
 }
 
-/// Puts a record to a tree, which gets the root as its apex where the owner isn't at or below its own.
+/// Puts a record to a tree, which gets the root as its apex where its own is neither the root nor spelled as the zone's.
 fn put_in(
     tree: &mut VersionTree,
     alloc: Global,
@@ -257,9 +257,10 @@ fn open_with(tree: &mut VersionTree, alloc: Global, found: StoredRecord) -> Resu
     ensures ok { OnOk result (tree.new.sets ≡ put_with (opening_set found.ttl found.fields) (fold found.owner, found.rtype) tree.old.sets) }
     ensures err { OnErr result (tree.new ≡ tree.old) }
 {
-    let owner = found.owner().to_key_name();
-    let ttl = found.ttl();
-    tree.open_with(alloc, &owner, ttl, found.into_data(), &mut NodeCount::new())
+    let (owner, _, ttl, fields) = found.into_parts();
+    let put = tree.open_with(alloc, &owner, ttl, fields, &mut NodeCount::new());
+    drop(owner);
+    put
 }
 
 /// A tree of this apex and class with the RRsets of another, whose owners are all at or below the apex. They are shared.

@@ -9,6 +9,7 @@ ghost use Rattle.zone_nodes.specs.Held.{counted};
 ghost use Rattle.zone_nodes.specs.Trees.{built};
 ghost use Rattle.zone_versions.specs.Causes.{refusal_of};
 ghost use Rattle.zone_versions.specs.Puts.{StandsAt, without, with_soa};
+ghost use Rattle.dns_name.specs.Names.{fold};
 ghost use Rattle.dns_rdata.specs.DataFields.{soa_fields};
 ghost use Rattle.dns_rdata.specs.Records.{Record};
 ghost use Rattle.dns_rdata.specs.ZoneData.{rtype_of, data_fields};
@@ -17,7 +18,7 @@ ghost use Rattle.zone_sessions.specs.Pending.{told_of};
 
 use crate::apex::ZoneApex;
 use dns_name::{Labelled, Rtype, StoredName, Ttl};
-use dns_rdata::{ReadRecord, Soa, StoredRecord, StoredRecordData};
+use dns_rdata::{ReadRecord, RecordData, Soa, StoredRecord, StoredRecordData};
 use std::alloc::{AllocError, Global};
 use std::marker::Model;
 use zone_changes::{ClosedDraft, Draft};
@@ -165,9 +166,10 @@ impl<'z> WriteZone<'z> {
         ensures steps { OnOk result (steps.new ≡ counted steps.old (built self.old.pending self.new.pending added.owner added.rtype)) }
         ensures uncounted { OnErr result (steps.new ≡ steps.old) }
     {
-        let key = SetKey::new(added.owner(), added.rtype());
-        let ttl = added.ttl();
-        self.add_at(key, ttl, added.into_data(), steps)
+        let (owner, _, ttl, item) = added.into_parts();
+        let done = self.add_at(&owner, ttl, item, steps);
+        drop(owner);
+        done
     }
 
     /// Adds a record that lies in a message, as `add_record` does. Its data are put in memory of their own first: want of memory for that may come
@@ -179,60 +181,35 @@ impl<'z> WriteZone<'z> {
         ensures err { OnErr result (self.new ≡ self.old) }
     {
         let item = added.data().flatten(self.alloc)?;
-        let key = SetKey::new(added.owner(), added.rtype());
         let mut steps = NodeCount::new();
-        self.add_at(key, added.ttl(), item, &mut steps)
+        self.add_at(added.owner(), added.ttl(), item, &mut steps)
     }
 
-    /// Adds the data of a record, which are of the key's type, at its owner and type. Where nothing was edited, a record that is refused copies nothing.
-    fn add_at(
+    /// Adds the data of a record at its owner. Where nothing was edited, a record that is refused copies nothing.
+    fn add_at<N: Labelled>(
         &mut self,
-        key: SetKey,
+        owner: &N,
         ttl: Ttl,
         item: StoredRecordData,
         steps: &mut NodeCount,
     ) -> Result<(), EditError>
-        requires { rtype_of item ≡ key.1 }
-        ensures ok { (r : Record) → StandsAt key ttl (data_fields item) r → OnOk result (add self.old.pending r ≡ Ok self.new.pending) }
-        ensures refused { (r : Record) → StandsAt key ttl (data_fields item) r → IfErr result (λ e. IfSome (refusal_of e) (λ why. add self.old.pending r ≡ Err why)) }
-        ensures memory { (r : Record) → StandsAt key ttl (data_fields item) r → result ≡ Err EditError.Memory → IsOk (add self.old.pending r) }
+        ensures ok { (r : Record) → StandsAt (fold (N.labels owner.now), rtype_of item) ttl (data_fields item) r → OnOk result (add self.old.pending r ≡ Ok self.new.pending) }
+        ensures refused { (r : Record) → StandsAt (fold (N.labels owner.now), rtype_of item) ttl (data_fields item) r → IfErr result (λ e. IfSome (refusal_of e) (λ why. add self.old.pending r ≡ Err why)) }
+        ensures memory { (r : Record) → StandsAt (fold (N.labels owner.now), rtype_of item) ttl (data_fields item) r → result ≡ Err EditError.Memory → IsOk (add self.old.pending r) }
         ensures else_same { self.new ≡ with_pending self.old self.new.pending }
         ensures err { OnErr result (self.new ≡ self.old) }
-        ensures steps { OnOk result (steps.new ≡ counted steps.old (built self.old.pending self.new.pending key.0 key.1)) }
+        ensures steps { OnOk result (steps.new ≡ counted steps.old (built self.old.pending self.new.pending (fold (N.labels owner.now)) (rtype_of item))) }
         ensures uncounted { OnErr result (steps.new ≡ steps.old) }
     {
-        match self.take_edited() {
-            Some(pending) => self.add_to(pending, key, ttl, item, steps),
-            None => self.add_first(key, ttl, item, steps),
+        let key = SetKey::new(owner, item.rtype());
+        match &mut self.pending {
+            Some(pending) => return pending.add(self.alloc, key, ttl, item, steps),
+            None => {}
         }
+        self.add_first(key, ttl, item, steps)
     }
 
-    /// Adds the data of a record to a version that was edited, and makes that what is pending.
-    fn add_to(
-        &mut self,
-        edited: Draft,
-        key: SetKey,
-        ttl: Ttl,
-        item: StoredRecordData,
-        steps: &mut NodeCount,
-    ) -> Result<(), EditError>
-        requires base { edited.base ≡ self.old.current.version }
-        requires rtype { rtype_of item ≡ key.1 }
-        ensures ok { (r : Record) → StandsAt key ttl (data_fields item) r → OnOk result (add edited.version r ≡ Ok self.new.pending) }
-        ensures refused { (r : Record) → StandsAt key ttl (data_fields item) r → IfErr result (λ e. IfSome (refusal_of e) (λ why. add edited.version r ≡ Err why)) }
-        ensures memory { (r : Record) → StandsAt key ttl (data_fields item) r → result ≡ Err EditError.Memory → IsOk (add edited.version r) }
-        ensures else_same { self.new ≡ with_pending self.old self.new.pending }
-        ensures err { OnErr result (self.new ≡ with_pending self.old edited.version) }
-        ensures steps { OnOk result (steps.new ≡ counted steps.old (built edited.version self.new.pending key.0 key.1)) }
-        ensures uncounted { OnErr result (steps.new ≡ steps.old) }
-    {
-        let mut edited = edited;
-        let added = edited.add(self.alloc, key, ttl, item, steps);
-        self.keep(edited);
-        added
-    }
-
-    /// Adds the data of a record to the published version, which is copied only where they aren't refused.
+    /// Adds the data of a record, which are of the key's type, to the published version, which is copied only where they aren't refused.
     fn add_first(
         &mut self,
         key: SetKey,
@@ -253,13 +230,16 @@ impl<'z> WriteZone<'z> {
             drop(item);
             return Err(error);
         }
-        match self.take_pending() {
-            Ok(pending) => self.add_to(pending, key, ttl, item, steps),
+        let mut pending = match self.take_pending() {
+            Ok(pending) => pending,
             Err(_) => {
                 drop(item);
-                Err(EditError::Memory)
+                return Err(EditError::Memory);
             }
-        }
+        };
+        let added = pending.add(self.alloc, key, ttl, item, steps);
+        self.keep(pending);
+        added
     }
 
     /// Deletes a record: the data equal to its own, whatever the TTL. The data that stay get the TTL of the record, and a set without data is removed.
