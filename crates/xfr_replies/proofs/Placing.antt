@@ -15,7 +15,7 @@ use Rattle.zone_model.specs.TransferText.{is_plain}
 use Rattle.zone_values.specs.TypedSets.{TypedSet}
 use Rattle.zone_values.specs.TypedEntries.{typed}
 use Rattle.xfr_replies.specs.Sides.{behind, shown_records, middle_of, side_text, sides_of, sides_from, first_side}
-use Rattle.xfr_replies.specs.Places.{Begins, IsPlace, KeepsItsSet, place_records, sides_text, text_behind, text_from}
+use Rattle.xfr_replies.specs.Places.{Begins, IsPlace, KeepsItsSet, place_records, sides_text, text_behind, text_from, text_left}
 use Rattle.xfr_replies.specs.Steps.{FindsFrom, Heads, HeadsAt, SkipsSoas, SkipsApexSoa, is_soa_stop, soa_place}
 use Rattle.xfr_replies.specs.declared.place.Side.{Side}
 use Rattle.xfr_replies.specs.declared.place.Part.{Part}
@@ -254,7 +254,18 @@ past_set (x ∷ []) ys zero h e = refl
 past_set (x ∷ y ∷ xs) ys zero h e = absurd (omega (arith, e))
 past_set (x ∷ xs) ys (suc n) h e = past_set xs ys n (omega (arith, h)) (omega (arith, e))
 
+-- what stands behind a set is left past its last record
+pub behind_last : (v : Version) (ds : List Difference) (p : Place) → IsPlace v ds (Some p) → length (place_records v ds p) ≤ p.index + 1
+    → text_behind v ds p.part p.owner p.rtype ≡ drop 1 (text_from v ds p)
+behind_last v ds p h last = sym (past_set (place_records v ds p) (text_behind v ds p.part p.owner p.rtype) p.index h.0 last)
+
 pub next_behind_set : (v : Version) (ds : List Difference) (p : Place) (o : Option Place) → IsPlace v ds (Some p) → length (place_records v ds p) ≤ p.index + 1
     → Begins v ds (text_behind v ds p.part p.owner p.rtype) o → Begins v ds (drop 1 (text_from v ds p)) o
-next_behind_set v ds p o h last b =
-    begins_as v ds (text_behind v ds p.part p.owner p.rtype) (drop 1 (text_from v ds p)) o (sym (past_set (place_records v ds p) (text_behind v ds p.part p.owner p.rtype) p.index h.0 last)) b
+next_behind_set v ds p o h last b = begins_as v ds (text_behind v ds p.part p.owner p.rtype) (drop 1 (text_from v ds p)) o (behind_last v ds p h last) b
+
+-- .. of a place that was looked at and left as it was
+pub next_behind_place : (v : Version) (ds : List Difference) (at : Option Place) (p same : Place) (o : Option Place) → at ≡ Some p → IsPlace v ds at → same ≡ p
+    → length (place_records v ds p) ≤ p.index + 1 → Begins v ds (text_behind v ds same.part same.owner same.rtype) o → Begins v ds (drop 1 (text_left v ds at)) o
+next_behind_place v ds at p same o is place e last b =
+    subst (λ (a : Option Place). Begins v ds (drop 1 (text_left v ds a)) o) (sym is)
+    (next_behind_set v ds p o (subst (IsPlace v ds) is place) last (subst (λ (q : Place). Begins v ds (text_behind v ds q.part q.owner q.rtype) o) e b))

@@ -1,5 +1,6 @@
 // Places in the zone: its SOA record, and its sets in order.
-ghost use Rattle.std.specs.Prelude.{◌≡◌, ◌++◌, IfSome};
+ghost use Rattle.std.specs.Prelude.{◌≡◌, ◌++◌, IfSome, Some};
+ghost use Rattle.std.specs.Bool.{OnFalse, OnTrue};
 ghost use Rattle.dns_name.specs.Names.{fold};
 ghost use Rattle.zone_model.specs.Version.{Sets};
 ghost use Rattle.zone_model.specs.Answer.{apex_soa_record};
@@ -7,6 +8,7 @@ ghost use Rattle.zone_values.specs.TypedEntries.{typed};
 ghost use Rattle.xfr_replies.specs.Places.{Begins};
 ghost use Rattle.xfr_replies.specs.Sides.{behind, middle_of};
 ghost use Rattle.xfr_replies.specs.Steps.{HeadsAt, SkipsApexSoa, is_soa_stop, soa_place};
+ghost use Rattle.xfr_replies.specs.declared.place.Part.TheVariants.{Zone};
 
 use crate::place::{Part, Place};
 use dns_name::{KeyName, Labelled, Rtype, ToName};
@@ -53,7 +55,7 @@ pub(crate) fn stop_behind<'z>(
 {
     // For the proof: the version is valid.
     zone.validity();
-    zone.next_rrset(owner, rtype)
+    zone.contents().next_stop(owner, rtype)
 }
 
 /// Whether a set is the apex SOA's.
@@ -102,4 +104,44 @@ pub(crate) fn zone_place(zone: &ReadZone, first: Option<WalkItem<'_>>) -> Option
         }),
         None => last_place(zone),
     }
+}
+
+/// Goes to the first record of a set of the zone, and keeps that set.
+fn go_to(place: &mut Place, stop: &WalkItem<'_>)
+    ensures is { place.new ≡ record { part = Zone; owner = stop.now.owner; rtype = stop.now.rtype; index = 0; set = place.new.set } }
+    ensures kept { IfSome place.new.set (λ set. set ≡ typed stop.now.rtype stop.now.contents) }
+{
+    place.part = Part::Zone;
+    place.owner = stop.owner().duplicate();
+    place.rtype = stop.rtype();
+    place.index = 0;
+    place.set = kept_set(stop);
+}
+
+/// Goes from a set of the zone to the first record of the next one. Where that is the apex SOA's, or there is none, it does nothing
+/// and says so.
+pub(crate) fn next_in_zone(zone: &ReadZone, place: &mut Place) -> bool
+    ensures moves { (ds : _) → OnTrue result (Begins zone.now.version ds
+        (middle_of zone.now.version (behind (fold place.old.owner, place.old.rtype) zone.now.version.sets)
+        ++ apex_soa_record zone.now.version) (Some place.new)) }
+    ensures stays { OnFalse result (place.new ≡ place.old) }
+{
+    let found = stop_behind(zone, &place.owner, place.rtype);
+    match &found {
+        Some(stop) => go_to_other(zone, place, stop),
+        None => false,
+    }
+}
+
+/// Goes to the first record of a set of the zone, unless that is the apex SOA's, and says whether it does.
+fn go_to_other(zone: &ReadZone, place: &mut Place, stop: &WalkItem<'_>) -> bool
+    ensures moves { (ds : _) (rest : Sets) → HeadsAt zone.now.version rest (Some stop.now) → OnTrue result
+        (Begins zone.now.version ds (middle_of zone.now.version rest ++ apex_soa_record zone.now.version) (Some place.new)) }
+    ensures stays { OnFalse result (place.new ≡ place.old) }
+{
+    if is_soa_stop(zone, stop) {
+        return false;
+    }
+    go_to(place, stop);
+    true
 }

@@ -83,17 +83,4 @@ impl Place {
             set: None,
         }
     }
-
-    /// The record with this index in the same set.
-    pub(crate) fn at_index(self, index: usize) -> Place
-        ensures { result ≡ record self { index = index } }
-    {
-        Place {
-            part: self.part,
-            owner: self.owner,
-            rtype: self.rtype,
-            index,
-            set: self.set,
-        }
-    }
 }

@@ -1,13 +1,14 @@
 // From place to place of a text.
-ghost use Rattle.std.specs.Prelude.{◌≡◌, ◌++◌, ◌<◌, ◌+◌, drop, length, map, Some};
+ghost use Rattle.std.specs.Prelude.{◌≡◌, ◌++◌, ◌≤◌, ◌+◌, drop, length, map, Some};
+ghost use Rattle.std.specs.Bool.{OnFalse, OnTrue};
 ghost use Rattle.std.specs.Arc.{arc_value};
 ghost use Rattle.zone_model.specs.Offer.{changes_text, side_records, whole_text};
-ghost use Rattle.xfr_replies.specs.Places.{Begins, IsPlace, KeepsItsSet, place_records, sides_text, text_behind, text_from};
+ghost use Rattle.xfr_replies.specs.Places.{Begins, IsPlace, KeepsItsSet, place_records, sides_text, text_behind, text_from, text_left};
 ghost use Rattle.xfr_replies.specs.Sides.{behind, first_side, sides_from};
 ghost use Rattle.xfr_replies.specs.Steps.{soa_place};
 
 use crate::of_difference::{first_key, key_behind, plain_place, side_place, side_sets};
-use crate::of_zone::{first_stop, last_place, soa_place, stop_behind, zone_place};
+use crate::of_zone::{first_stop, last_place, next_in_zone, soa_place, stop_behind, zone_place};
 use crate::place::{Part, Place, Side};
 use crate::place_set::set_of_place;
 use std::sync::Arc;
@@ -35,21 +36,49 @@ pub(crate) fn changes_place(zone: &ReadZone, diffs: &[Arc<InMemoryZoneDiff>]) ->
     }
 }
 
-/// The place behind one; None where nothing is left.
-pub(crate) fn next_place(
-    zone: &ReadZone,
-    diffs: &[Arc<InMemoryZoneDiff>],
-    place: Place,
-) -> Option<Place>
-    requires { IsPlace zone.now.version (map arc_value diffs.now) (Some place) }
-    ensures { Begins zone.now.version (map arc_value diffs.now) (drop 1 (text_from zone.now.version (map arc_value diffs.now) place)) result }
+/// Goes to the next record of the text; None where nothing is left. Within a set, and to the zone's next set, the place is changed as it
+/// stands: its owner takes 264 octets, and each move would copy them.
+pub(crate) fn move_on(zone: &ReadZone, diffs: &[Arc<InMemoryZoneDiff>], place: &mut Option<Place>)
+    requires { IsPlace zone.now.version (map arc_value diffs.now) place.old }
+    ensures { Begins zone.now.version (map arc_value diffs.now)
+        (drop 1 (text_left zone.now.version (map arc_value diffs.now) place.old)) place.new }
 {
-    let count = record_count(zone, diffs, &place);
+    let Some(here) = place else {
+        return;
+    };
+    if goes_near(zone, diffs, here) {
+        return;
+    }
+    *place = place_behind(zone, diffs, here);
+}
+
+/// Goes to the next record of a place's set, or to that of the zone's next set, and says whether it does.
+fn goes_near(zone: &ReadZone, diffs: &[Arc<InMemoryZoneDiff>], place: &mut Place) -> bool
+    requires { IsPlace zone.now.version (map arc_value diffs.now) (Some place.old) }
+    ensures moves { OnTrue result (Begins zone.now.version (map arc_value diffs.now)
+        (drop 1 (text_from zone.now.version (map arc_value diffs.now) place.old)) (Some place.new)) }
+    ensures stays { OnFalse result (place.new ≡ place.old) }
+    ensures last { OnFalse result
+        (length (place_records zone.now.version (map arc_value diffs.now) place.old) ≤ place.old.index + 1) }
+{
+    let count = record_count(zone, diffs, place);
     let index = place.index + 1;
     if index < count {
-        Some(place.at_index(index))
-    } else {
-        place_behind(zone, diffs, &place)
+        place.index = index;
+        return true;
+    }
+    goes_to_next_set(zone, place)
+}
+
+/// Goes to the first record of the zone's next set, where the place is in the zone and that is found at once, and says whether it does.
+fn goes_to_next_set(zone: &ReadZone, place: &mut Place) -> bool
+    ensures moves { (ds : _) → OnTrue result (Begins zone.now.version ds
+        (text_behind zone.now.version ds place.old.part place.old.owner place.old.rtype) (Some place.new)) }
+    ensures stays { OnFalse result (place.new ≡ place.old) }
+{
+    match place.part {
+        Part::Zone => next_in_zone(zone, place),
+        _ => false,
     }
 }
 

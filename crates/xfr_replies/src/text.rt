@@ -5,7 +5,7 @@ ghost use Rattle.zone_model.specs.Offer.{changes_text, whole_text};
 
 use crate::place::Place;
 use crate::place_set::set_of_place;
-use crate::steps::{changes_place, next_place, whole_place};
+use crate::steps::{changes_place, move_on, whole_place};
 use dns_rdata::{LentRecord, Record};
 use std::alloc::Global;
 use std::marker::Model;
@@ -75,11 +75,7 @@ impl TransferText {
     pub fn advance(&mut self)
         ensures { self.new ≡ record self.old { records = drop 1 self.old.records } }
     {
-        let next = match self.place.take() {
-            Some(place) => next_place(&self.zone, &self.diffs, place),
-            None => None,
-        };
-        self.place = next;
+        move_on(&self.zone, &self.diffs, &mut self.place);
     }
 
     /// Whether no record is left.
