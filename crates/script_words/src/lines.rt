@@ -4,18 +4,18 @@ ghost use Rattle.std.specs.List.{slice_split};
 ghost use Rattle.std.specs.Option.{option_map_or};
 ghost use Rattle.script_words.specs.ScriptLines.{script_lines, is_skipped as skips};
 
+use memchr::memchr;
+
 /// What stands before the first octet of a kind, and what stands after it if there is one.
 pub(crate) fn cut(octets: &[u8], at: u8) -> (&[u8], Option<&[u8]>)
     ensures split { slice_split (λ o. o == at) octets.now ≡ result.0.now ∷ option_map_or (λ rest. slice_split (λ o. o == at) rest.now) result.1 [] }
     ensures shorter { IfSome result.1 (λ rest. length rest.now < length octets.now) }
     ensures whole { IfNone result.1 (result.0.now ≡ octets.now) }
 {
-    for (place, octet) in octets.iter().enumerate() {
-        if *octet == at {
-            return (&octets[..place], Some(&octets[place + 1..]));
-        }
+    match memchr(at, octets) {
+        Some(place) => (&octets[..place], Some(&octets[place + 1..])),
+        None => (octets, None),
     }
-    (octets, None)
 }
 
 /// The first line, without its end (0x0a), and the octets after it; None where no octet is left. The last line may lack its end.

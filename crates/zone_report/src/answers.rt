@@ -3,7 +3,7 @@ ghost use Rattle.std.specs.Prelude.{◌≡◌, ◌++◌, ◌∷◌, [], OnOk, fl
 ghost use Rattle.dns_rdata.specs.Records.{record_wire};
 ghost use Rattle.zone_report.specs.Lines.{line, flag_word, record_line, answer_lines, query_lines};
 
-use crate::numbers::append_number;
+use crate::numbers::{append_hex, append_number};
 use dns_name::{Rcode, StoredName};
 use dns_rdata::ComposeRecord;
 use std::alloc::{AllocError, Global};
@@ -103,9 +103,8 @@ fn append_record(
 {
     let mut wire = Vec::new(alloc);
     found.compose_record(&mut wire)?;
-    let text = hex::encode(alloc, wire.as_slice())?;
     out.extend_from_slice(word)?;
     out.extend_from_slice(b" ")?;
-    out.extend_from_slice(text.as_bytes())?;
+    append_hex(out, wire.as_slice())?;
     out.extend_from_slice(b"\n")
 }

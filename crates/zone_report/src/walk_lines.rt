@@ -1,10 +1,11 @@
 //! The lines of a version's walk.
-ghost use Rattle.std.specs.Prelude.{◌≡◌, ◌++◌, All, IfOk, OnOk, flat_map, map};
+ghost use Rattle.std.specs.Prelude.{◌≡◌, ◌++◌, All, OnOk, flat_map, map};
 ghost use Rattle.dns_rdata.specs.Records.{record_wire};
 ghost use Rattle.dns_rdata.specs.ZoneData.{rtype_of, data_fields};
 ghost use Rattle.zone_model.specs.Walk.{walk};
 ghost use Rattle.zone_report.specs.Lines.{stop_lines, set_record, item_line};
 
+use crate::numbers::append_hex;
 use dns_name::Class;
 use dns_rdata::{ComposeRecord, Record, StoredRecordData};
 use std::alloc::{AllocError, Global};
@@ -15,8 +16,10 @@ use zone_reads::{ReadZone, WalkItem};
 pub fn append_walk(alloc: Global, out: &mut Vec<u8>, zone: &ReadZone) -> Result<(), AllocError>
     ensures { OnOk result (out.new.items ≡ out.old.items ++ flat_map (stop_lines record_wire zone.now.version) (walk zone.now.version)) }
 {
+    // The octets of one record at a time.
+    let mut wire = Vec::new(alloc);
     for stop in zone.iter_rrsets() {
-        append_stop(alloc, out, zone, &stop)?;
+        append_stop(&mut wire, out, zone, &stop)?;
     }
     Ok(())
 }
@@ -24,19 +27,19 @@ pub fn append_walk(alloc: Global, out: &mut Vec<u8>, zone: &ReadZone) -> Result<
 /// A line for each record of a set.
 #[tactic(auto, using(crate::proofs::WalkLines::stop_lines_of_items))]
 fn append_stop(
-    alloc: Global,
+    wire: &mut Vec<u8>,
     out: &mut Vec<u8>,
     zone: &ReadZone,
     stop: &WalkItem<'_>,
 ) -> Result<(), AllocError>
     ensures { OnOk result (out.new.items ≡ out.old.items ++ stop_lines record_wire zone.now.version stop.now) }
 {
-    append_items(alloc, out, zone.class(), stop, stop.items())
+    append_items(wire, out, zone.class(), stop, stop.items())
 }
 
 /// A line for each of these data of a set.
 fn append_items(
-    alloc: Global,
+    wire: &mut Vec<u8>,
     out: &mut Vec<u8>,
     class: Class,
     stop: &WalkItem<'_>,
@@ -47,7 +50,7 @@ fn append_items(
 {
     let mut rest = items;
     'lines: while let Some((item, behind)) = rest.split_first() {
-        append_item(alloc, out, class, stop, item)?;
+        append_item(wire, out, class, stop, item)?;
         rest = behind;
     }
     Ok(())
@@ -55,7 +58,7 @@ fn append_items(
 
 /// The line of one record.
 fn append_item(
-    alloc: Global,
+    wire: &mut Vec<u8>,
     out: &mut Vec<u8>,
     class: Class,
     stop: &WalkItem<'_>,
@@ -64,29 +67,28 @@ fn append_item(
     requires { rtype_of item.now ≡ stop.now.rtype }
     ensures { OnOk result (out.new.items ≡ out.old.items ++ item_line class stop.now (data_fields item.now)) }
 {
-    let wire = record_octets(alloc, class, stop, item)?;
-    let text = hex::encode(alloc, wire.as_slice())?;
+    write_record(wire, class, stop, item)?;
     if stop.below_cut() {
         out.extend_from_slice(b"rr 1 ")?;
     } else {
         out.extend_from_slice(b"rr 0 ")?;
     }
-    out.extend_from_slice(text.as_bytes())?;
+    append_hex(out, wire.as_slice())?;
     out.extend_from_slice(b"\n")
 }
 
-/// A record in wire form (RFC 1035, 3.2.1), written out.
-fn record_octets(
-    alloc: Global,
+/// Writes a record in wire form (RFC 1035, 3.2.1), written out, in place of what `wire` held.
+fn write_record(
+    wire: &mut Vec<u8>,
     class: Class,
     stop: &WalkItem<'_>,
     item: &StoredRecordData,
-) -> Result<Vec<u8>, AllocError>
+) -> Result<(), AllocError>
     requires { rtype_of item.now ≡ stop.now.rtype }
-    ensures { IfOk result (λ v. v.items ≡ record_wire (set_record class stop.now (data_fields item.now))) }
+    ensures { OnOk result (wire.new.items ≡ record_wire (set_record class stop.now (data_fields item.now))) }
 {
     let record = Record::new(stop.owner().borrowed(), class, stop.ttl(), item);
-    let mut out = Vec::new(alloc);
-    record.compose_record(&mut out)?;
-    Ok(out)
+    wire.clear();
+    record.compose_record(wire)?;
+    Ok(())
 }

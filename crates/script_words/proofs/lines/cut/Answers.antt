@@ -1,11 +1,9 @@
-use Rattle.std.proofs.Common.{rules}
 use Rattle.std.proofs.lemmas.List.{take_rest}
-use Rattle.script_words.proofs.CutSteps.{split_at_place, split_nowhere}
+use Rattle.script_words.proofs.CutSteps.{split_found, split_unfound}
 use Rattle.script_words.proofs.lines.cut.Goals as goal
 
-pub returns-then-octet-at-clause-split : goal.returns-then-octet-at-clause-split
-returns-then-octet-at-clause-split c =
-    rw take_rest (split_at_place c.args.at c.args.octets.now c.loop-place.place (search rules) c.loop-place.invariant (search rules))
+pub returns-in-Some-clause-split : goal.returns-in-Some-clause-split
+returns-in-Some-clause-split c = rw take_rest (split_found c.args.at c.args.octets.now c.memchr.result c.in-Some.place c.memchr.ensures c.in-Some.is)
 
-pub returns-clause-split : goal.returns-clause-split
-returns-clause-split c = split_nowhere c.args.at c.args.octets.now (λ k lt. c.loop-place.invariant k (search rules))
+pub returns-in-None-clause-split : goal.returns-in-None-clause-split
+returns-in-None-clause-split c = split_unfound c.args.at c.args.octets.now c.memchr.result c.memchr.ensures c.in-None.is
