@@ -6,6 +6,6 @@
 //! one that a name lies in (RFC 1034, 4.3.2, step 2). This crate only passes on: each item is proved in the crate that it comes from.
 #![tactic(auto)]
 
-pub use zone_records::{FileError, Owners, Zonefile};
+pub use zone_records::{FileError, OwnerSets, Owners, Zonefile};
 pub use zone_sessions::{InsertCnameError, InsertCutError, ZoneBuilder};
 pub use zone_tree::{AtApex, InsertZoneError, ZoneSetIter, ZoneTree};
