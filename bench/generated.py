@@ -33,10 +33,10 @@ STEPS = [
     ("HMAC", ("sha2::", "tsig_port::signature", "tsig_keys::digests")),
     ("giving memory back", ("::destroy", "drop")),
     ("making and opening the zone", ("zone_generated::",)),
-    ("inserting", ("zone_sessions::", "zone_nodes::tree", "xfr_client::updater")),
-    ("composing", ("zone_sync::sync::serve", "zone_sync::sync::send_replies", "xfr_server::", "xfr_replies::", "xfr_services::", "xfr_batch::")),
-    ("reading replies", ("zone_sync::client", "zone_sync::sync::take_replies", "xfr_client::", "dns_message::", "dns_wire::")),
-    ("comparing and counting", ("zone_sync::report", "zone_report::", "zone_reads::comparing")),
+    ("inserting", ("zone_sessions::", "zone_versions::tree", "xfr_client::updater")),
+    ("composing", ("zone_sync::sync::serve", "zone_sync::sync::send_replies", "xfr_server::", "xfr_replies::", "xfr_services::", "xfr_signing::", "xfr_batch::")),
+    ("reading replies", ("zone_sync::sync::take_replies", "xfr_client::", "dns_message::", "dns_wire::")),
+    ("comparing and counting", ("zone_report::", "zone_reads::comparing")),
 ]
 
 

@@ -1,6 +1,7 @@
 // Octets, names, records and sets that several modules of tests use.
 
-use dns_name::{Class, NameRef, StoredName, Ttl};
+use dns_name::{NameRef, StoredName};
+use dns_numbers::{Class, Ttl};
 use dns_rdata::{A, Record, StoredRecord, ZoneRecordData, record_from_octets};
 use std::alloc::Global;
 use std::fmt::Debug;

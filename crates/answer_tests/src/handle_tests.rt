@@ -1,7 +1,8 @@
 // A zone of two versions: its walk, its answers, and what the versions have in common.
 
 use crate::common::{address, is, name};
-use dns_name::{Class, Labelled, Rcode, Rtype, ToName};
+use dns_name::{Labelled, ToName};
+use dns_numbers::{Class, Rcode, Rtype};
 use dns_rdata::RecordData;
 use std::alloc::Global;
 use std::process::Abort;

@@ -1,7 +1,8 @@
 // Answers of the zone of RFC 4592 and of a referral with glue.
 
 use crate::common::{is, name, octets, record};
-use dns_name::{Class, Labelled, Rtype};
+use dns_name::Labelled;
+use dns_numbers::{Class, Rtype};
 use dns_rdata::ComposeRecord;
 use dns_wire::{Message, MessageBuf};
 use std::alloc::Global;

@@ -1,7 +1,7 @@
 // Messages that say an answer: the octets by hand from RFC 1035, 4.1, and what is left out from RFC 2181, 9.
 
 use crate::common::{name, octets, record, set_of};
-use dns_name::Rcode;
+use dns_numbers::Rcode;
 use dns_rdata::StoredRecord;
 use dns_wire::Message;
 use std::alloc::Global;

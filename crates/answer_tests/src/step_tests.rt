@@ -2,7 +2,8 @@
 
 use crate::common::{address, is, name};
 use crate::handle_tests::zone;
-use dns_name::{OwnedLabel, Rcode, Rtype};
+use dns_name::OwnedLabel;
+use dns_numbers::{Rcode, Rtype};
 use std::alloc::Global;
 use std::process::Abort;
 use zone_store::{AskError, NodeEdit, ReadZone, Step, WriteZone, ZoneEdit, ask, make_steps};

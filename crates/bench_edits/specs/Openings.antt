@@ -1,11 +1,11 @@
 -- The zone before its edits.
 use Rattle.std.specs.Prelude.{ℕ, zero, suc, ◌+◌, ◌*◌, ◌/◌, ◌%◌, List, [], ◌∷◌, codes, false}
 use Rattle.dns_name.specs.Names.{Name}
-use Rattle.dns_name.specs.Codes.{type_a, type_soa}
+use Rattle.dns_numbers.specs.Codes.{type_a, type_soa}
 use Rattle.dns_rdata.specs.Records.{Record}
 use Rattle.dns_rdata.specs.Records.Field.{Octets}
 use Rattle.dns_rdata.specs.DataFields.{soa_fields}
-use Rattle.rdata_types.specs.declared.soa.Soa.{Soa}
+use Rattle.dns_rdata.specs.declared.soa.Soa.{Soa}
 use Rattle.zone_model.specs.Version.{Version}
 use Rattle.zone_model.specs.Edits.{close}
 use Rattle.zone_model.specs.Classify.{opened_with}

@@ -7,7 +7,8 @@ ghost use Rattle.zone_versions.specs.Puts.{adds_alias};
 ghost use Rattle.bench_edits.specs.Openings as openings;
 ghost use Rattle.bench_edits.specs.Openings.{zone_name, zone_of};
 
-use dns_name::{Class, NameRef, Serial, StoredName, Ttl};
+use dns_name::{NameRef, StoredName};
+use dns_numbers::{Class, Serial, Ttl};
 use dns_rdata::{A, Record, Soa, StoredRecord, ZoneRecordData};
 use std::alloc::{AllocError, Global};
 use zone_sessions::{InsertError, ZoneApex, ZoneBuilder};

@@ -6,7 +6,7 @@ ghost use Rattle.dns_message.specs.Numbers.{counts_in};
 ghost use Rattle.dns_message.specs.Reply.{answer_header};
 
 use crate::numbers::{flag, is_set, number_at, set_number};
-use dns_name::{Opcode, Rcode};
+use dns_numbers::{Opcode, Rcode};
 use std::marker::Model;
 
 /// The id and the flags of a message, its first four octets (RFC 1035, 4.1.1). Opcode and rcode are below 16.

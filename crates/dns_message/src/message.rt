@@ -1,7 +1,7 @@
 // Messages as they were received (RFC 1035, 4.1).
 
 ghost use Rattle.std.specs.Prelude.{◌≡◌, ◌≢◌, ◌↔◌, ◌^◌, ◌<◌, ◌≤◌, ◌++◌, drop, length, IsTrue, IfOk, OnOk, OnErr, Some, None};
-ghost use Rattle.dns_name.specs.Codes.{noerror};
+ghost use Rattle.dns_numbers.specs.Codes.{noerror};
 ghost use Rattle.dns_message.specs.Wire.{header_in, header_wire, qdcount_in, without_last_additional};
 ghost use Rattle.dns_message.specs.Numbers.{counts_in, with_number};
 ghost use Rattle.dns_message.specs.Reads.{ReadsAs};
@@ -11,7 +11,8 @@ use crate::header::{Header, HeaderCounts, counts_from, header_from, write_header
 use crate::numbers::{number_at, set_number};
 use crate::question::Question;
 use crate::sections::{QuestionSection, RecordSection, after_questions, after_records};
-use dns_name::{ParseError, ParsedName, Rcode, Rtype};
+use dns_name::{ParseError, ParsedName};
+use dns_numbers::{Rcode, Rtype};
 use std::marker::Model;
 use thiserror::Error;
 

@@ -4,7 +4,8 @@ ghost use Rattle.std.specs.Prelude.{◌≡◌, ◌++◌, OnOk, OnErr, IfOk, Some
 ghost use Rattle.dns_message.specs.Wire.{question_wire};
 ghost use Rattle.dns_message.specs.Parse.{question_at};
 
-use dns_name::{Class, Labelled, ParseError, ParsedName, Rtype, parse_u16};
+use dns_name::{Labelled, ParseError, ParsedName, parse_u16};
+use dns_numbers::{Class, Rtype};
 use std::alloc::AllocError;
 use std::marker::Model;
 

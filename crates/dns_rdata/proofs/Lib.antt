@@ -1,3 +1,6 @@
+pub mod Numbers
+pub mod Strings
+pub mod Texts
 pub mod Fronts
 pub mod FrontNames
 pub mod Comparing

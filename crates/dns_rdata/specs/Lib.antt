@@ -1,6 +1,9 @@
 pub use Rattle.dns_name.specs.Records
-pub use Rattle.rdata_types.specs.Soa
-pub use Rattle.rdata_types.specs.DataFields
+pub use Rattle.dns_name.specs.Soa
+pub mod DataFields
+pub mod DataValues
+pub mod Texts
+pub mod OctetFields
 pub use Rattle.dns_name.specs.SameData
 pub mod DataOrder
 pub mod DataTies

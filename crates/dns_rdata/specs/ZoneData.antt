@@ -5,8 +5,8 @@ use Rattle.std.specs.declared.cmp.Ordering.{Ordering}
 use Rattle.dns_name.specs.Names.{Name}
 use Rattle.dns_name.specs.Records.{Field, same_data}
 use Rattle.dns_rdata.specs.DataOrder.{data_cmp}
-use Rattle.rdata_octets.specs.OctetFields.{a_fields, aaaa_fields, txt_fields, ds_fields, unknown_fields}
-use Rattle.rdata_types.specs.DataFields.{name_fields, minfo_fields, mx_fields, srv_fields, soa_fields}
+use Rattle.dns_rdata.specs.OctetFields.{a_fields, aaaa_fields, txt_fields, ds_fields, unknown_fields}
+use Rattle.dns_rdata.specs.DataFields.{name_fields, minfo_fields, mx_fields, srv_fields, soa_fields}
 use Rattle.dns_rdata.specs.declared.zone_data.ZoneRecordData.{ZoneRecordData}
 use Rattle.dns_rdata.specs.declared.zone_data.ZoneRecordData.TheVariants.{A, Aaaa, Ns, Md, Mf, Mb, Mg, Mr, Cname, Ptr, Minfo, Mx, Srv, Soa, Txt, Ds, Unknown}
 

@@ -5,8 +5,9 @@ ghost use Rattle.dns_name.specs.NameOrder.{name_hash};
 ghost use Rattle.dns_name.specs.LentFields.{field_of, fields_in};
 ghost use Rattle.dns_rdata.specs.DataHash.{field_hash, fields_hash, zone_data_hash, same_zone_data_hash};
 
+use crate::record_data::RecordData;
 use crate::zone_data::ZoneRecordData;
-use dns_name::{Labelled, LentField, LentFields, RecordData, ToName};
+use dns_name::{Labelled, LentField, LentFields, ToName};
 use std::convert::AsSlice;
 use std::hash::{Hash, Hasher};
 

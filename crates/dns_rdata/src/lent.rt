@@ -2,8 +2,10 @@
 ghost use Rattle.dns_rdata.specs.ZoneData.{rtype_of, data_fields};
 
 use crate::record::Record;
+use crate::record_data::RecordData;
 use crate::zone_data::StoredRecordData;
-use dns_name::{NameRef, RecordData, Rtype};
+use dns_name::NameRef;
+use dns_numbers::Rtype;
 use std::alloc::AllocError;
 
 /// A record whose owner and data are lent, as one of an RRset that is sent from where it is kept.

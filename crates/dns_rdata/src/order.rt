@@ -7,8 +7,9 @@ ghost use Rattle.dns_name.specs.LentFields.{field_of, fields_in};
 ghost use Rattle.dns_rdata.specs.DataOrder.{data_cmp, field_cmp as field_order};
 ghost use Rattle.dns_rdata.specs.ZoneData.{fields_of};
 
+use crate::record_data::RecordData;
 use crate::zone_data::ZoneRecordData;
-use dns_name::{Labelled, LentField, LentFields, RecordData, ToName};
+use dns_name::{Labelled, LentField, LentFields, ToName};
 use std::cmp::Ordering;
 use std::convert::AsSlice;
 

@@ -4,7 +4,8 @@ ghost use Rattle.dns_rdata.specs.Heads.{raw_record_at, readable, record_in};
 
 use crate::record::{ReadRecord, Record};
 use crate::zone_data::ParsedRecordData;
-use dns_name::{Class, ParseError, ParsedName, Rtype, Ttl, parse_octets, parse_u16, parse_u32};
+use dns_name::{ParseError, ParsedName, parse_octets, parse_u16, parse_u32};
+use dns_numbers::{Class, Rtype, Ttl};
 use std::marker::Model;
 
 /// A record within a message of which only the head was read; the data lie where RDLENGTH says (RFC 1035, 3.2.1 and 4.1.3).

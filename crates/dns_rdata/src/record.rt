@@ -5,9 +5,11 @@ ghost use Rattle.dns_name.specs.Records.{Record as RecordOf, data_wire, record_w
 ghost use Rattle.dns_rdata.specs.RecordHead.{head_wire};
 ghost use Rattle.dns_rdata.specs.ZoneData.{data_fields};
 
+use crate::record_data::RecordData;
 use crate::spelling::{after_front, after_name};
 use crate::zone_data::{ParsedRecordData, StoredRecordData};
-use dns_name::{Class, Labelled, ParsedName, RecordData, Rtype, StoredName, Ttl};
+use dns_name::{Labelled, ParsedName, StoredName};
+use dns_numbers::{Class, Rtype, Ttl};
 use std::alloc::{AllocError, Global};
 use std::marker::Model;
 

@@ -5,13 +5,19 @@ ghost use Rattle.dns_name.specs.Records.{data_wire, fields_at, parts};
 ghost use Rattle.dns_name.specs.LentFields.{fields_in};
 ghost use Rattle.dns_rdata.specs.ZoneData.{rtype_of, fields_of, data_fields, same_zone_data};
 
+use crate::addresses::{A, Aaaa};
+use crate::ds::Ds;
+use crate::mail::{Minfo, Mx};
+use crate::names::{Cname, Mb, Md, Mf, Mg, Mr, Ns, Ptr};
+use crate::record_data::RecordData;
+use crate::soa::Soa;
 use crate::spelling::are_fields;
+use crate::srv::Srv;
+use crate::text::Txt;
+use crate::unknown::{UnknownRecordData, is_known_type};
 use bytes::Bytes;
-use dns_name::{
-    Labelled, LentFields, ParseError, ParsedName, RecordData, Rtype, StoredName, ToName,
-};
-use rdata_octets::{A, Aaaa, Ds, Txt, UnknownRecordData, is_known_type};
-use rdata_types::{Cname, Mb, Md, Mf, Mg, Minfo, Mr, Mx, Ns, Ptr, Soa, Srv};
+use dns_name::{Labelled, LentFields, ParseError, ParsedName, StoredName, ToName};
+use dns_numbers::Rtype;
 use std::alloc::{AllocError, Global};
 use std::convert::AsSlice;
 

@@ -1,7 +1,7 @@
 // Messages read: octets that aren't messages, sections and where they end.
 
 use crate::common::{composed, is, prints};
-use dns_name::{Rcode, Rtype};
+use dns_numbers::{Rcode, Rtype};
 use dns_rdata::ParsedRecord;
 use dns_wire::{Message, MessageBuf, RecordSection, ShortMessage};
 use std::alloc::Global;

@@ -1,10 +1,8 @@
 // Vectors from outside, and each kind of call once.
 
 use crate::common::{is, prints};
-use dns_name::{
-    Class, Opcode, ParseError, Rcode, Rtype, Serial, TsigRcode, Ttl, parse_octets, parse_u16,
-    parse_u32, parse_u48,
-};
+use dns_name::{ParseError, parse_octets, parse_u16, parse_u32, parse_u48};
+use dns_numbers::{Class, Opcode, Rcode, Rtype, Serial, TsigRcode, Ttl};
 use std::cmp::Ordering;
 use std::fmt;
 use std::process::Abort;

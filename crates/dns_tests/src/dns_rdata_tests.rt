@@ -1,7 +1,8 @@
 // Octets of records, composed and read back; octets that aren't records; records compared.
 
 use crate::common::{data_are_read, hash_of, is, is_record, name, read, reads_back};
-use dns_name::{Class, Name, NameRef, Rtype, Serial, Ttl};
+use dns_name::{Name, NameRef};
+use dns_numbers::{Class, Rtype, Serial, Ttl};
 use dns_rdata::{A, ComposeRecord, Ns, Record, Soa, ZoneRecordData, record_from_octets};
 use std::alloc::Global;
 use std::cmp::Ordering;

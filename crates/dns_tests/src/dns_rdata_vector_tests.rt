@@ -1,7 +1,8 @@
 // Records as dnspython makes them, record data that are damaged, and records in their order.
 
 use crate::common::{data_are_read, digits, is, is_record, octets, read, reads_back};
-use dns_name::{Labelled, ParsedName, Rtype};
+use dns_name::{Labelled, ParsedName};
+use dns_numbers::Rtype;
 use dns_rdata::{
     Ds, LongRecordData, ParsedRecord, ParsedRecordData, Txt, UnknownRecordData, ZoneRecordData,
     are_strings, is_known_type,

@@ -1,7 +1,7 @@
 // Texts that are built, their strings, and what data and errors print.
 
 use crate::common::{is, prints};
-use dns_name::Rtype;
+use dns_numbers::Rtype;
 use dns_rdata::{Ds, LongRecordData, RecordData, Txt, TxtAppendError, UnknownRecordData};
 
 #[test]

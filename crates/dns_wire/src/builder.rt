@@ -15,7 +15,8 @@ use dns_message::{
     Header, HeaderCounts, Message, MessageBuf, Question, QuestionSection, number_at, set_number,
     write_header,
 };
-use dns_name::{Labelled, Rcode};
+use dns_name::Labelled;
+use dns_numbers::Rcode;
 use dns_rdata::ComposeRecord;
 use std::alloc::{AllocError, Global};
 use std::marker::{Model, PhantomData};

@@ -1,6 +1,7 @@
 //! What these tests share: octets, keys and zones.
 
-use dns_name::{Class, Labelled, NameRef};
+use dns_name::{Labelled, NameRef};
+use dns_numbers::Class;
 use dns_rdata::{ComposeRecord, Record, RecordData, StoredRecordData};
 use std::alloc::Global;
 use std::fmt::Debug;

@@ -3,7 +3,8 @@ ghost use Rattle.std.specs.Prelude.{◌≡◌};
 
 use crate::common::{append_set, line_of, octets_of};
 use crate::incremental_vectors::RECORDS;
-use dns_name::{Class, NameRef};
+use dns_name::NameRef;
+use dns_numbers::Class;
 use dns_rdata::{StoredRecord, record_from_octets};
 use std::alloc::Global;
 use std::process::Abort;

@@ -10,7 +10,8 @@ ghost use Rattle.script_words.specs.Lines.{line_of, change_of, is_of_class, key_
 
 use crate::lines::cut;
 use crate::numbers::{number_below, octets_of_hex};
-use dns_name::{Class, KeyName, Labelled, ParsedName, Rtype, StoredName};
+use dns_name::{KeyName, Labelled, ParsedName, StoredName};
+use dns_numbers::{Class, Rtype};
 use dns_rdata::{StoredRecord, record_from_octets};
 use std::alloc::{AllocError, Global};
 use std::marker::Model;

@@ -4,7 +4,8 @@ use crate::common::{
     APEX, HOST, SERVER, add, address, aliases, count_records, is, name, says, server, set_of,
     signer, target, three,
 };
-use dns_name::{Class, NameRef, Rtype, Ttl};
+use dns_name::NameRef;
+use dns_numbers::{Class, Rtype, Ttl};
 use dns_rdata::StoredRecord;
 use std::alloc::Global;
 use std::process::Abort;

@@ -1,7 +1,8 @@
 // What commits tell of their differences.
 
 use crate::common::{HOST, add, address, commit, is, name, put_soa, three, zone};
-use dns_name::{Label, NameRef, Rtype, Serial};
+use dns_name::{Label, NameRef};
+use dns_numbers::{Rtype, Serial};
 use dns_rdata::ZoneRecordData;
 use std::alloc::Global;
 use std::process::Abort;

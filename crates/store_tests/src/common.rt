@@ -1,6 +1,7 @@
 // Names, records, sets and zones that several modules of tests use.
 
-use dns_name::{Class, NameRef, Rtype, Serial, StoredName, Ttl};
+use dns_name::{NameRef, StoredName};
+use dns_numbers::{Class, Rtype, Serial, Ttl};
 use dns_rdata::{
     A, Cname, Ds, Ns, Record, RecordData, Soa, StoredRecord, StoredRecordData, ZoneRecordData,
 };

@@ -1,7 +1,7 @@
 // A difference built of sets, told by index and by key, and what is refused.
 
 use crate::common::{APEX, HOST, changes_the_ttl, is, name, soa_set, three};
-use dns_name::Serial;
+use dns_numbers::Serial;
 use std::alloc::Global;
 use std::process::Abort;
 use zone_types::{EmptyZoneDiff, InMemoryZoneDiffBuilder, SharedRrset, ZoneDiff, ZoneDiffError};

@@ -1,6 +1,7 @@
 // The examples of the documentation of `zone_types` and `zone_store`.
 
-use dns_name::{Class, NameRef, Rcode, Rtype, Ttl};
+use dns_name::NameRef;
+use dns_numbers::{Class, Rcode, Rtype, Ttl};
 use dns_rdata::{A, Record, ZoneRecordData};
 use zone_store::{ReadableZone, Zone, ZoneBuilder, ZoneStore};
 use zone_types::{Answer, Rrset};

@@ -2,7 +2,7 @@
 ghost use Rattle.zone_model.specs.Version.{IsValid};
 
 use crate::common::{APEX, HOST, address, changes_the_ttl, is, name, soa};
-use dns_name::{Class, Rtype, Ttl};
+use dns_numbers::{Class, Rtype, Ttl};
 use dns_rdata::StoredRecord;
 use std::alloc::Global;
 use std::process::Abort;

@@ -1,7 +1,7 @@
 // What each error of zones says, the owners of refused records, and lists of refusals.
 
 use crate::common::{HOST, address, is, name, says};
-use dns_name::{Class, Rtype};
+use dns_numbers::{Class, Rtype};
 use dns_rdata::StoredRecord;
 use std::alloc::Global;
 use std::process::Abort;

@@ -1,7 +1,8 @@
 // Node calls on one zone.
 
 use crate::common::{address, aliases, commit, filled, host, is, name, push, target};
-use dns_name::{Label, NameRef, Rtype, Ttl};
+use dns_name::{Label, NameRef};
+use dns_numbers::{Rtype, Ttl};
 use dns_rdata::{Ns, ZoneRecordData};
 use std::alloc::Global;
 use std::process::Abort;

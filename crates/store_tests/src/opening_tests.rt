@@ -4,7 +4,8 @@ use crate::common::{
     APEX, HOST, SERVER, address, alias, count_records, is, name, says, server, signer, soa,
 };
 use crate::zonefile_tests::{CUT, OTHER, file, of_class, takes, text};
-use dns_name::{Class, NameRef, Rcode, Rtype, ToName, Ttl};
+use dns_name::{NameRef, ToName};
+use dns_numbers::{Class, Rcode, Rtype, Ttl};
 use dns_rdata::ZoneRecordData;
 use std::alloc::Global;
 use std::process::Abort;

@@ -3,7 +3,8 @@
 use crate::common::{
     APEX, HOST, SERVER, add, address, alias, commit, is, name, put_soa, server, signer, zone,
 };
-use dns_name::{Class, Label, Rtype, ToName};
+use dns_name::{Label, ToName};
+use dns_numbers::{Class, Rtype};
 use std::alloc::Global;
 use std::process::Abort;
 use zone_store::{CommitError, NodeChildren, NodeRrsets, Special, ZoneApex, ZoneNode};

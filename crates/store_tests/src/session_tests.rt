@@ -2,7 +2,8 @@
 
 use crate::common::{APEX, SERVER, add, address, alias, commit, filled, is, name, server, zone};
 use crate::zonefile_tests::text;
-use dns_name::{Class, NameRef, Rtype, Ttl};
+use dns_name::NameRef;
+use dns_numbers::{Class, Rtype, Ttl};
 use dns_rdata::{StoredRecord, record_from_octets};
 use std::alloc::Global;
 use std::process::Abort;

@@ -1,7 +1,8 @@
 // Each type once.
 
 use crate::common::{APEX, address, is, name, server, set_of};
-use dns_name::{Rtype, StoredName, Ttl};
+use dns_name::StoredName;
+use dns_numbers::{Rtype, Ttl};
 use dns_rdata::StoredRecord;
 use std::alloc::Global;
 use std::process::Abort;

@@ -1,7 +1,8 @@
 // The zones of a server by class and apex, and the one that a name lies in.
 
 use crate::common::{APEX, is, name, says};
-use dns_name::{Class, NameRef, StoredName};
+use dns_name::{NameRef, StoredName};
+use dns_numbers::Class;
 use std::alloc::Global;
 use std::process::Abort;
 use zone_file::{AtApex, InsertZoneError, ZoneTree};

@@ -1,7 +1,8 @@
 // Zone files: which records are taken, and what is told of the others and of files that make no zone.
 
 use crate::common::{APEX, HOST, SERVER, address, alias, is, name, says, server, signer, soa};
-use dns_name::{Class, Rtype, ToName, Ttl};
+use dns_name::ToName;
+use dns_numbers::{Class, Rtype, Ttl};
 use dns_rdata::{Record, StoredRecord, StoredRecordData, Txt, ZoneRecordData};
 use std::alloc::Global;
 use std::process::Abort;

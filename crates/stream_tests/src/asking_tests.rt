@@ -2,7 +2,8 @@
 //! and the TSIG record (RFC 5936, 2.1; RFC 8945, 4.2); its MAC is by Python's `hmac`, request and reply are what dnspython makes.
 
 use crate::common::{at, is, next_len, only, sink, source};
-use dns_name::{Class, Labelled, NameRef};
+use dns_name::{Labelled, NameRef};
+use dns_numbers::Class;
 use std::alloc::Global;
 use std::process::Abort;
 use tsig_port::{Algorithm, Key};

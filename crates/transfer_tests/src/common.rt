@@ -1,7 +1,8 @@
 //! What these tests share: octets, names, keys, zones and printed texts.
 
 use bytes::Bytes;
-use dns_name::{Class, Labelled, Name, NameRef, StoredName};
+use dns_name::{Labelled, Name, NameRef, StoredName};
+use dns_numbers::Class;
 use dns_rdata::RecordData;
 use std::alloc::Global;
 use std::fmt::{self, Debug};

@@ -3,7 +3,8 @@ ghost use Rattle.std.specs.Prelude.{◌≡◌};
 
 use crate::common::{EXAMPLE, KEY, NS_EXAMPLE, empty_zone, is, shared_key, stored_name};
 use crate::xfr_server_tests::at;
-use dns_name::{Class, Rtype, Serial, StoredName, Ttl};
+use dns_name::StoredName;
+use dns_numbers::{Class, Rtype, Serial, Ttl};
 use dns_rdata::Soa;
 use dns_wire::{Header, MessageBuf, MessageBuilder, Question};
 use std::alloc::Global;

@@ -3,7 +3,7 @@
 use crate::common::{digits_of, is};
 use crate::transfer_vectors::{MESSAGES, RECORDS, digits_at, octets_at};
 use crate::updater_tests::{COM, FIRST, JAIN, applies_anew, walks, zone_at};
-use dns_name::Serial;
+use dns_numbers::Serial;
 use dns_rdata::{ComposeRecord, ReadRecord};
 use dns_wire::MessageBuf;
 use std::alloc::Global;

@@ -5,7 +5,8 @@ ghost use Rattle.xfr_server.specs.Items.{Calls, all_given};
 use crate::common::{EXAMPLE, KEY, is, octets_of, shared_key};
 use crate::service_tests::pulled;
 use crate::xfr_server_tests::{example_zone, primary};
-use dns_name::{Class, Labelled, NameRef, Rcode, Rtype};
+use dns_name::{Labelled, NameRef};
+use dns_numbers::{Class, Rcode, Rtype};
 use dns_rdata::record_from_octets;
 use dns_wire::{
     AdditionalBuilder, AnswerBuilder, Header, Message, MessageBuf, MessageBuilder, Question,

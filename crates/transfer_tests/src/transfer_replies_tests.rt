@@ -3,7 +3,7 @@
 
 use crate::common::is;
 use crate::xfr_server_tests::{axfr_question, example_zone};
-use dns_name::Class;
+use dns_numbers::Class;
 use std::alloc::Global;
 use std::process::Abort;
 use xfr_replies::{TransferReplies, TransferText};

@@ -2,7 +2,8 @@
 
 use crate::common::{append_set, digits_of, is, octets_of, stored_name};
 use crate::transfer_vectors::{RECORDS, octets_at};
-use dns_name::{Class, Rtype, StoredName};
+use dns_name::StoredName;
+use dns_numbers::{Class, Rtype};
 use dns_rdata::{ReadRecord, RecordData, record_from_octets};
 use std::alloc::Global;
 use std::process::Abort;

@@ -1,7 +1,7 @@
 //! Messages built octet by octet, read and applied (RFC 5936, 2.2).
 
 use crate::common::{assert_texts, empty_zone, is, octets_of};
-use dns_name::Rtype;
+use dns_numbers::Rtype;
 use dns_wire::MessageBuf;
 use std::alloc::Global;
 use std::process::Abort;

@@ -3,7 +3,8 @@
 use crate::common::{
     EXAMPLE, KEY, NS_EXAMPLE, assert_texts, digits_of, empty_zone, is, shared_key, stored_name,
 };
-use dns_name::{Class, Rtype, Serial, StoredName, Ttl};
+use dns_name::StoredName;
+use dns_numbers::{Class, Rtype, Serial, Ttl};
 use dns_rdata::{A, Ns, Record, Soa, StoredRecord, StoredRecordData, ZoneRecordData};
 use dns_wire::{AdditionalBuilder, Header, MessageBuf, MessageBuilder, Question};
 use std::alloc::Global;

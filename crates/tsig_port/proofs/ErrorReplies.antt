@@ -3,7 +3,7 @@ use Rattle.std.proofs.Common.{◌≡◌, ℕ, List, [], ap, ◌∙◌, subst, Re
 use Rattle.std.specs.Prelude.{IsSomeAnd}
 use Rattle.std.proofs.lemmas.Nat.{from_be_bytes-to_be_bytes_2}
 use Rattle.dns_name.specs.Names.{Name}
-use Rattle.dns_name.specs.Codes.{notauth}
+use Rattle.dns_numbers.specs.Codes.{notauth}
 use Rattle.dns_wire.specs.Wire.{Building, id_in, arcount_in, message_wire, with_additional}
 use Rattle.dns_wire.specs.Reply.{empty_answer}
 use Rattle.dns_wire.specs.Builds.{Builds, building}

@@ -1,7 +1,7 @@
 -- The TSIG that a signer makes, where some octets were digested before the message.
 use Rattle.std.specs.Prelude.{ℕ, Bool, true, false, List, [], ◌++◌}
 use Rattle.dns_name.specs.Names.{Name}
-use Rattle.dns_name.specs.Codes.{noerror}
+use Rattle.dns_numbers.specs.Codes.{noerror}
 use Rattle.dns_wire.specs.Wire.{id_in}
 use Rattle.tsig_port.specs.Tsig.{TsigKey, Tsig, blank_tsig, with_mac, variables, timers}
 

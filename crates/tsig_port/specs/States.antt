@@ -1,7 +1,7 @@
 -- Which messages the state of a signed exchange stands for, one fact for each of its fields.
 use Rattle.std.specs.Prelude.{◌≡◌, ◌↔◌, ℕ, Bool, true, false, List, [], length, nat_lt, not, ◌≢◌, IsTrue, Option, Some, None, unwrap_or, IsSomeAnd, Result, Ok, Err, if◌then◌else◌}
 use Rattle.std.specs.List.{last_or}
-use Rattle.dns_name.specs.Codes.{formerr, badsig, badtime, badtrunc}
+use Rattle.dns_numbers.specs.Codes.{formerr, badsig, badtime, badtrunc}
 use Rattle.tsig_port.specs.Tsig.{TsigKey, Tsig, Signature, with_len, tsig_in, mac_in, is_mac}
 use Rattle.tsig_port.specs.Tsig.Signature.{Malformed, Unsigned, Signed}
 use Rattle.tsig_port.specs.Checked.{answer_fault, prior_mac, taken_message}

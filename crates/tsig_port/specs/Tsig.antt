@@ -3,7 +3,7 @@ use Rattle.std.specs.Prelude.{ℕ, ◌-◌, ◌==◌, Bool, List, [], ◌∷◌,
 use Rattle.std.specs.Option.{option_map_or}
 use Rattle.std.specs.List.{starts_with}
 use Rattle.dns_name.specs.Octets.{u16_octets, u32_octets, u48_octets}
-use Rattle.dns_name.specs.Codes.{noerror, badtime, type_tsig, class_any}
+use Rattle.dns_numbers.specs.Codes.{noerror, badtime, type_tsig, class_any}
 use Rattle.dns_name.specs.Names.{Name, name_wire, fold}
 use Rattle.dns_wire.specs.Wire.{id_in, arcount_in, with_additional}
 use Rattle.dns_wire.specs.Parse.{Parsed, parsed}

@@ -1,6 +1,6 @@
 // The replies to refused requests (RFC 8945, 5.2 and 5.3.2).
 ghost use Rattle.std.specs.Prelude.{◌≡◌, ℕ, List, []};
-ghost use Rattle.dns_name.specs.Codes.{badtime, notauth};
+ghost use Rattle.dns_numbers.specs.Codes.{badtime, notauth};
 ghost use Rattle.dns_name.specs.Octets.{u48_octets};
 ghost use Rattle.dns_wire.specs.Builds.{Builds};
 ghost use Rattle.dns_wire.specs.Reply.{empty_answer};
@@ -13,7 +13,8 @@ ghost use Rattle.tsig_port.specs.Tsig.{badtime_tsig as badtime_tsig_of, blank_ts
 use crate::server::ServerError;
 use crate::signature::{SignedBy, signature, update_variables};
 use crate::signing::{record_of, sent_mac};
-use dns_name::{Labelled, Rcode, TsigRcode};
+use dns_name::Labelled;
+use dns_numbers::{Rcode, TsigRcode};
 use dns_wire::{AdditionalBuilder, Message, MessageBuilder, PushError};
 use tsig_keys::{Hmac, Key, KeyRef, Mac};
 use tsig_rdata::{SigningTsig, Time48, Tsig, TsigRecord};

@@ -9,7 +9,8 @@ ghost use Rattle.tsig_port.specs.Tsig.{algorithm_of, answer_tsig, digested_messa
 
 use crate::signature::{SignedBy, signature, update_message, update_variables};
 use crate::signing::{DEFAULT_FUDGE, chained, record_of, sign_first, sign_later};
-use dns_name::{Labelled, TsigRcode};
+use dns_name::Labelled;
+use dns_numbers::TsigRcode;
 use dns_wire::{AdditionalBuilder, Message, MessageBuf, PushError};
 use tsig_keys::{Algorithm, Hmac, Key, KeyRef, KeyStore};
 use tsig_rdata::{SigningTsig, Time48};

@@ -6,7 +6,8 @@ ghost use Rattle.tsig_port.specs.Tsig.{signature_of, signature_by, tsig_of, dige
 ghost use Rattle.tsig_port.specs.Tsig.Signature.{Malformed, Unsigned, Signed};
 ghost use Rattle.tsig_keys.specs.declared.algorithms.Algorithm.{Algorithm};
 
-use dns_name::{Labelled, ParseError, ParsedName, Rtype};
+use dns_name::{Labelled, ParseError, ParsedName};
+use dns_numbers::Rtype;
 use dns_rdata::ParsedRecord;
 use dns_wire::Message;
 use std::convert::AsSlice;

@@ -2,7 +2,7 @@
 use Rattle.std.specs.Prelude.{ℕ, ◌+◌, ◌==◌, ◌&&◌, ◌<◌, ◌^◌, nat_lt, nat_le, Bool, List, [], ◌∷◌, ◌++◌, length, Option, Some, None, IsTrue, if◌then◌else◌}
 use Rattle.std.specs.Int.{abs_diff}
 use Rattle.dns_name.specs.Octets.{◌>>=◌, u16_octets, u48_octets, octets_at, u16_at, u48_at}
-use Rattle.dns_name.specs.Codes.{type_tsig, class_any}
+use Rattle.dns_numbers.specs.Codes.{type_tsig, class_any}
 use Rattle.dns_name.specs.Names.{Name, name_wire, is_name}
 use Rattle.dns_name.specs.Compression.{name_at}
 use Rattle.dns_rdata.specs.Records.{Record}

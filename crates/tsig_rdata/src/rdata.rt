@@ -1,15 +1,14 @@
 // The data of a TSIG record, and the record (RFC 8945, 4.2).
 ghost use Rattle.std.specs.Prelude.{◌≡◌, ◌≤◌, ◌<◌, ◌++◌, length, IfOk, IfSome, OnOk, OnErr, Some, None, take};
 ghost use Rattle.dns_rdata.specs.Records.{record_wire};
-ghost use Rattle.dns_name.specs.Codes.{type_tsig};
+ghost use Rattle.dns_numbers.specs.Codes.{type_tsig};
 ghost use Rattle.tsig_rdata.specs.TsigData.{tsig_at, tsig_of, tsig_wire, tsig_record, within_fudge};
 ghost use Rattle.tsig_rdata.specs.TsigParts.{tsig_with, time_in};
 
 use crate::time::Time48;
 use bytes::Bytes;
-use dns_name::{
-    Class, KeyName, Labelled, ParseError, ParsedName, Rtype, StoredName, parse_octets, parse_u16,
-};
+use dns_name::{KeyName, Labelled, ParseError, ParsedName, StoredName, parse_octets, parse_u16};
+use dns_numbers::{Class, Rtype};
 use dns_rdata::{ComposeRecord, LongRecordData, ParsedRecord};
 use std::alloc::{AllocError, Global};
 use std::convert::AsSlice;

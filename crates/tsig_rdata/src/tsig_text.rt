@@ -5,7 +5,8 @@ ghost use Rattle.tsig_rdata.specs.TsigText.{absolute_text, base64_text, tsig_tex
 use crate::rdata::Tsig;
 use base64::display::Base64Display;
 use base64::engine::general_purpose::STANDARD;
-use dns_name::{KeyName, Labelled, TsigRcode};
+use dns_name::{KeyName, Labelled};
+use dns_numbers::TsigRcode;
 use std::convert::AsSlice;
 use std::fmt;
 

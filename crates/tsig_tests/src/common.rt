@@ -1,5 +1,6 @@
 // What several tests build: octets, names, a key, moments, messages and texts.
-use dns_name::{Class, KeyName, NameOctets, Rtype};
+use dns_name::{KeyName, NameOctets};
+use dns_numbers::{Class, Rtype};
 use dns_wire::{AdditionalBuilder, Header, MessageBuf, MessageBuilder, Question};
 use std::alloc::Global;
 use std::fmt::{Debug, Display};

@@ -4,7 +4,7 @@ use crate::common::{
     accepted, asked, is, is_at, key, moment, name, octets, received, refused, says_of,
 };
 use crate::tsig_port_vector_tests::{TIME, flipped, key_of_len, word};
-use dns_name::{Class, Rtype};
+use dns_numbers::{Class, Rtype};
 use dns_rdata::record_from_octets;
 use dns_wire::{AdditionalBuilder, AnswerBuilder, Header, MessageBuf, MessageBuilder, Question};
 use std::alloc::Global;

@@ -1,6 +1,6 @@
 // The texts of refusals, each of each kind.
 use crate::common::{is, key, says};
-use dns_name::TsigRcode;
+use dns_numbers::TsigRcode;
 use std::alloc::Global;
 use std::process::Abort;
 use tsig_port::{Key, ServerError, Time48, ValidationError};

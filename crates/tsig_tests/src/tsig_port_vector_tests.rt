@@ -3,7 +3,7 @@
 use crate::common::{
     accepted, asked, is, key_of, moment, name, octets, received, refused, says_of,
 };
-use dns_name::{Class, Rtype};
+use dns_numbers::{Class, Rtype};
 use dns_rdata::record_from_octets;
 use dns_wire::{AdditionalBuilder, Header, MessageBuf, MessageBuilder, Question};
 use std::alloc::Global;

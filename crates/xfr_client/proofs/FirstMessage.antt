@@ -9,7 +9,7 @@ use Rattle.zone_model.specs.TransferText.{Axfr, Ixfr, is_soa}
 use Rattle.xfr_model.specs.Interpreter.{mode_asked}
 use Rattle.xfr_model.specs.Machine.{first_step}
 use Rattle.xfr_client.specs.declared.interpreter_state.Place.{Place}
-use Rattle.xfr_client.specs.declared.protocol.Error.{Error}
+use Rattle.xfr_outcomes.specs.declared.protocol.Error.{Error}
 use Rattle.xfr_client.specs.Interpreting.{BeginsAt, IsPlaceAt}
 
 pub fault_head : (m : ReadMessage) (first : Bool) → is_transfer_head first m ≡ false → message_fault first m ≡ Some NotValid

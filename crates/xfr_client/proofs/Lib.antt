@@ -14,3 +14,18 @@ pub mod EditsLead
 pub mod UpdatesLead
 pub mod Named
 pub mod WhatIsRead
+mod Steps
+mod ReplyPlaces
+pub mod Standings
+mod Answering
+pub mod Outcomes
+mod Messages
+mod Room
+mod TakingReplies
+mod Unended
+pub mod Checking
+pub mod Clients
+pub mod Requests
+pub mod Replying
+pub mod Handles
+pub mod Unasked

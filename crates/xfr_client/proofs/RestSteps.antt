@@ -8,7 +8,7 @@ use Rattle.xfr_model.specs.Machine.{Run, went, then_run, step, run_items}
 use Rattle.xfr_model.specs.Machine as machine
 use Rattle.xfr_client.specs.declared.interpreter_state.Place.{Place}
 use Rattle.xfr_client.specs.declared.interpreter_state.Told.TheVariants as told
-use Rattle.xfr_client.specs.declared.protocol.IterationError.TheVariants as error
+use Rattle.xfr_outcomes.specs.declared.protocol.IterationError.TheVariants as error
 use Rattle.xfr_client.specs.Places.{place_of}
 use Rattle.xfr_client.specs.Told.{run_of}
 use Rattle.xfr_client.specs.Items.{items_left}

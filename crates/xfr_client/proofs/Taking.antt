@@ -13,9 +13,9 @@ use Rattle.xfr_model.specs.Machine as machine
 use Rattle.xfr_client.specs.declared.interpreter_state.Place.{Place}
 use Rattle.xfr_client.specs.declared.interpreter_state.Stage.{Stage}
 use Rattle.xfr_client.specs.declared.interpreter_state.Stage.TheVariants.{AtSecond, InWhole, InDeletes, InAdds, AtEnd}
-use Rattle.xfr_client.specs.declared.protocol.Error.{Error}
-use Rattle.xfr_client.specs.declared.protocol.Error.TheVariants as error
-use Rattle.xfr_client.specs.declared.update.ZoneUpdate.{ZoneUpdate}
+use Rattle.xfr_outcomes.specs.declared.protocol.Error.{Error}
+use Rattle.xfr_outcomes.specs.declared.protocol.Error.TheVariants as error
+use Rattle.xfr_outcomes.specs.declared.update.ZoneUpdate.{ZoneUpdate}
 use Rattle.xfr_client.specs.Places.{place_at, place_of, is_at_second}
 use Rattle.xfr_client.specs.Items.{items_left}
 use Rattle.xfr_client.specs.Rest.{Rest, rest_of, asks_again, updates_in_hand}

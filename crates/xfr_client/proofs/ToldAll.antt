@@ -1,6 +1,6 @@
 -- Updates told in turn are those of the message's run.
 use Rattle.std.proofs.Common.{[], ◌∷◌, sym, ap, ◌∙◌}
-use Rattle.xfr_client.specs.Causes.{update_of}
+use Rattle.xfr_outcomes.specs.ZoneUpdates.{update_of}
 use Rattle.xfr_client.specs.Rest.{Rest}
 use Rattle.xfr_client.specs.CallsInTurn.{TellsAll}
 

@@ -6,7 +6,7 @@ use Rattle.std.specs.Cmp.Derive.{both_true}
 use Rattle.std.specs.Cmp.Lexicographic.{pointwise}
 use Rattle.std.specs.BTreeMap.{insert_entry}
 use Rattle.dns_name.specs.Names.{Name, fold}
-use Rattle.dns_name.specs.Codes.{type_soa}
+use Rattle.dns_numbers.specs.Codes.{type_soa}
 use Rattle.dns_rdata.specs.Records.{Record}
 use Rattle.zone_model.specs.Version.{Version, Key, Same, same_version, key_cmp, set_in}
 use Rattle.zone_model.specs.Edits.{Refusal, with_sets, and_then, add, add_all, delete, delete_all, set_soa, close}

@@ -17,8 +17,8 @@ use Rattle.xfr_model.specs.Read.{message_fault, read_by}
 use Rattle.xfr_model.specs.Interpreter.{mode_of, updates_in, is_finished}
 use Rattle.xfr_model.specs.Machine.{AtStart, no_messages}
 use Rattle.xfr_model.specs.Applying.{commits}
-use Rattle.xfr_client.specs.declared.update.ZoneUpdate.{ZoneUpdate}
-use Rattle.xfr_client.specs.Causes.{update_of}
+use Rattle.xfr_outcomes.specs.declared.update.ZoneUpdate.{ZoneUpdate}
+use Rattle.xfr_outcomes.specs.ZoneUpdates.{update_of}
 use Rattle.xfr_client.specs.Rest.{Rest, NextTold}
 use Rattle.xfr_client.specs.Interpreting.{Interpreting, Interprets, is_over}
 use Rattle.xfr_client.specs.Updating.{Updating, progress_of, new_version, told_by}

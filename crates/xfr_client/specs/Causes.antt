@@ -1,23 +1,12 @@
--- The updates and refusals of the calls, as those of the definitions.
+-- The refusals of the calls, as those of the definitions.
 use Rattle.std.specs.Prelude.{Option, Some, None}
-use Rattle.dns_rdata.specs.Records.{Record}
 use Rattle.zone_model.specs.Edits as edits
 use Rattle.zone_model.specs.Updates as updates
 use Rattle.xfr_model.specs.Read as faults
-use Rattle.xfr_client.specs.declared.update.ZoneUpdate.{ZoneUpdate}
-use Rattle.xfr_client.specs.declared.update.ZoneUpdate.TheVariants as update
-use Rattle.xfr_client.specs.declared.update.Error.{Error}
-use Rattle.xfr_client.specs.declared.update.Error.TheVariants as error
-use Rattle.xfr_client.specs.declared.protocol.Error as protocol
-use Rattle.xfr_client.specs.declared.protocol.Error.TheVariants as refusal
-
-abbrev pub update_of : ZoneUpdate Record → updates.Update
-update_of update.DeleteAllRecords = updates.DeleteAllRecords
-update_of (update.DeleteRecord r) = updates.DeleteRecord r
-update_of (update.AddRecord r) = updates.AddRecord r
-update_of (update.BeginBatchDelete r) = updates.BeginBatchDelete r
-update_of (update.BeginBatchAdd r) = updates.BeginBatchAdd r
-update_of (update.Finished r) = updates.Finished r
+use Rattle.xfr_outcomes.specs.declared.update.Error.{Error}
+use Rattle.xfr_outcomes.specs.declared.update.Error.TheVariants as error
+use Rattle.xfr_outcomes.specs.declared.protocol.Error as protocol
+use Rattle.xfr_outcomes.specs.declared.protocol.Error.TheVariants as refusal
 
 -- why an update is refused; want of memory, and of a version's number, is no refusal of the update
 abbrev pub update_fault_of : Error → Option updates.UpdateFault

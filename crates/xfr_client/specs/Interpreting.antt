@@ -12,8 +12,8 @@ use Rattle.xfr_model.specs.Interpreter.{mode_asked}
 use Rattle.xfr_model.specs.Machine.{Run, run_items, is_at_end, first_step}
 use Rattle.xfr_model.specs.Machine as machine
 use Rattle.xfr_client.specs.declared.interpreter_state.Place.{Place}
-use Rattle.xfr_client.specs.declared.protocol.Error.{Error}
-use Rattle.xfr_client.specs.declared.protocol.Error.TheVariants as error
+use Rattle.xfr_outcomes.specs.declared.protocol.Error.{Error}
+use Rattle.xfr_outcomes.specs.declared.protocol.Error.TheVariants as error
 use Rattle.xfr_client.specs.Places.{place_of, is_at_second}
 use Rattle.xfr_client.specs.Items.{item_in}
 use Rattle.xfr_client.specs.Rest.{Rest, asks_again}

@@ -5,5 +5,12 @@ pub mod Rest
 pub mod Interpreting
 pub mod Causes
 pub mod Updating
-pub mod UpdateTexts
 pub mod CallsInTurn
+pub mod Ending
+pub mod SoFar
+pub mod Steps
+pub mod Room
+pub mod Standing
+pub mod Replies
+pub mod Transfers
+pub mod Handles

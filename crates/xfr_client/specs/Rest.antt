@@ -7,11 +7,11 @@ use Rattle.zone_model.specs.TransferText.{Axfr}
 use Rattle.xfr_model.specs.Read.{Unreadable, AfterEnd}
 use Rattle.xfr_model.specs.Machine.{Run, went, then_run, run_items}
 use Rattle.xfr_client.specs.declared.interpreter_state.Place.{Place}
-use Rattle.xfr_client.specs.declared.update.ZoneUpdate.{ZoneUpdate}
-use Rattle.xfr_client.specs.declared.protocol.IterationError.{IterationError}
-use Rattle.xfr_client.specs.declared.protocol.IterationError.TheVariants as error
+use Rattle.xfr_outcomes.specs.declared.update.ZoneUpdate.{ZoneUpdate}
+use Rattle.xfr_outcomes.specs.declared.protocol.IterationError.{IterationError}
+use Rattle.xfr_outcomes.specs.declared.protocol.IterationError.TheVariants as error
 use Rattle.xfr_client.specs.Places.{place_of, is_at_second}
-use Rattle.xfr_client.specs.Causes.{update_of}
+use Rattle.xfr_outcomes.specs.ZoneUpdates.{update_of}
 use Rattle.xfr_client.specs.Items.{items_left}
 
 -- what an iterator over a message has still to tell: a run, and whether after it the message asks for another way of transfer

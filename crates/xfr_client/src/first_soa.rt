@@ -5,14 +5,15 @@ ghost use Rattle.dns_rdata.specs.DataFields.{soa_fields};
 ghost use Rattle.dns_rdata.specs.Soa.{serial_of};
 ghost use Rattle.zone_model.specs.TransferText.{is_soa, is_same_soa};
 
-use dns_name::{KeyName, Labelled, Serial, ToName};
+use dns_name::{KeyName, Labelled, ToName};
+use dns_numbers::Serial;
 use dns_rdata::{ReadRecord, Record, RecordData, Soa, ZoneRecordData};
 
 /// The first SOA record of a transfer, its names in place.
 pub type FirstSoa = Record<KeyName, Soa<KeyName>>;
 
 // SOA data with their names in place.
-#[tactic(auto, unfolding(rdata_types::specs::DataFields::soa_times))]
+#[tactic(auto, unfolding(dns_rdata::specs::DataFields::soa_times))]
 fn in_place<N: Labelled + Drop>(soa: &Soa<N>) -> Soa<KeyName>
     ensures { ⟦<Soa<KeyName> as RecordData>⟧.fields result ≡ ⟦<Soa<N> as RecordData>⟧.fields soa.now }
 {

@@ -5,7 +5,7 @@ ghost use Rattle.xfr_model.specs.Messages.{ReadMessage, message_of};
 ghost use Rattle.zone_model.specs.TransferText.{Axfr, Ixfr};
 ghost use Rattle.xfr_model.specs.Read.{first_fault, is_transfer_head, record_item};
 ghost use Rattle.xfr_model.specs.Machine.{run_items, first_step, AtStart};
-ghost use Rattle.xfr_client.specs.declared.protocol.Error.TheVariants.{Finished, ParseError};
+ghost use Rattle.xfr_outcomes.specs.declared.protocol.Error.TheVariants.{Finished, ParseError};
 ghost use Rattle.dns_wire.specs.Parse.{answers_start};
 ghost use Rattle.xfr_client.specs.Places.{place_at, place_of, is_at_second, first_serial};
 ghost use Rattle.xfr_client.specs.Items.{items_left};
@@ -15,13 +15,13 @@ ghost use Rattle.xfr_client.specs.Interpreting.{Interprets, Refuses, interpretin
 use crate::first_soa::{first_soa, serial_of};
 use crate::interpreter_state::{Place, Stage, step};
 use crate::iterator::XfrZoneUpdateIterator;
-use crate::protocol::Error;
 use crate::section::next_found;
-use crate::update::ZoneUpdate;
-use dns_name::{Opcode, Rcode, Rtype, Serial};
+use dns_numbers::{Opcode, Rcode, Rtype, Serial};
 use dns_rdata::ReadRecord;
 use dns_wire::{Header, HeaderCounts, MessageBuf, RecordSection};
 use std::marker::Model;
+use xfr_outcomes::ZoneUpdate;
+use xfr_outcomes::protocol::Error;
 
 /// Reads the messages of one transfer in turn (RFC 5936, 2.2; RFC 1995, 4).
 ///

@@ -8,7 +8,7 @@ ghost use Rattle.xfr_client.specs.Places.{place_of, is_at_second, first_serial};
 ghost use Rattle.xfr_client.specs.Told.{run_of, EndsBefore};
 
 use crate::first_soa::{FirstSoa, duplicate, is_same_soa, serial_of};
-use dns_name::{Rtype, Serial};
+use dns_numbers::{Rtype, Serial};
 use dns_rdata::ReadRecord;
 
 /// How far a text was read.

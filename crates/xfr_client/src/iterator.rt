@@ -3,12 +3,12 @@ ghost use Rattle.std.specs.Prelude.{◌≡◌, false};
 ghost use Rattle.xfr_client.specs.Rest.{NextTold, rest_of};
 
 use crate::interpreter_state::{Place, Told, step};
-use crate::protocol::IterationError;
 use crate::section::next_found;
-use crate::update::ZoneUpdate;
 use dns_rdata::ReadRecord;
 use dns_wire::RecordSection;
 use std::marker::Model;
+use xfr_outcomes::ZoneUpdate;
+use xfr_outcomes::protocol::IterationError;
 
 /// The updates that one message says, in turn; an error, if there is one, is the last answer.
 ///

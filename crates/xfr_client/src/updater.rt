@@ -7,17 +7,20 @@ ghost use Rattle.zone_model.specs.Session.{with_pending, committed, told_differe
 ghost use Rattle.zone_model.specs.Updates as updates;
 ghost use Rattle.zone_model.specs.Updates.{UpdateFault, apply_update, after_refusal};
 ghost use Rattle.xfr_model.specs.Applying.{commits};
-ghost use Rattle.xfr_client.specs.declared.update.Error.TheVariants.{VersionsExhausted, Memory};
+ghost use Rattle.xfr_outcomes.specs.declared.update.Error.TheVariants.{VersionsExhausted, Memory};
 ghost use Rattle.dns_rdata.specs.DataFields.{soa_fields};
 ghost use Rattle.zone_versions.specs.Puts.{with_soa};
-ghost use Rattle.xfr_client.specs.Causes.{update_of, update_fault_of};
+ghost use Rattle.xfr_outcomes.specs.ZoneUpdates.{update_of};
+ghost use Rattle.xfr_client.specs.Causes.{update_fault_of};
 ghost use Rattle.xfr_client.specs.Updating.{Leaves, progress_of, new_version, next_commit, lacks_number, told_by, wants_after};
 
-use crate::update::{Error, ZoneUpdate};
-use dns_name::{StoredName, Ttl};
+use dns_name::StoredName;
+use dns_numbers::Ttl;
 use dns_rdata::{ReadRecord, RecordData, Soa, ZoneRecordData};
 use std::alloc::{AllocError, Global};
 use std::marker::Model;
+use xfr_outcomes::ZoneUpdate;
+use xfr_outcomes::update::Error;
 use zone_diffs::InMemoryZoneDiff;
 use zone_reads::ReadZone;
 use zone_sessions::{CommitError, EditError, WriteZone};

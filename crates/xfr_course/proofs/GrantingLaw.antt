@@ -4,7 +4,7 @@ use Rattle.std.specs.List.{AllByRecursion, last_or}
 use Rattle.std.specs.Cmp.{first_so, second_so}
 use Rattle.std.specs.Cmp.Lexicographic.{pointwise}
 use Rattle.dns_rdata.specs.Records.{Record}
-use Rattle.dns_name.specs.Serial.{serial_lt, serial_upto}
+use Rattle.dns_numbers.specs.Serial.{serial_lt, serial_upto}
 use Rattle.zone_model.specs.Version.{Version, Same, same_version, has_one_apex_soa}
 use Rattle.zone_model.specs.Answer.{apex_soa_record}
 use Rattle.zone_model.specs.Edits.{with_sets}

@@ -5,9 +5,9 @@ use Rattle.std.specs.List.{AllByRecursion, last_or}
 use Rattle.std.specs.Cmp.{first_so, second_so}
 use Rattle.std.proofs.lemmas.Bool.{lt-leb}
 use Rattle.std.proofs.lemmas.List.{take_all}
-use Rattle.dns_name.specs.Serial.{serial_lt, serial_upto}
+use Rattle.dns_numbers.specs.Serial.{serial_lt, serial_upto}
 use Rattle.dns_rdata.specs.Records.{Field, Record}
-use Rattle.dns_name.specs.Codes.{type_soa}
+use Rattle.dns_numbers.specs.Codes.{type_soa}
 use Rattle.dns_rdata.specs.Soa.{serial_of}
 use Rattle.zone_model.specs.Version.{RecordSet, first_or_none, Version, Same, data_at, has_one_apex_soa}
 use Rattle.zone_model.specs.Answer.{apex_soa_record}

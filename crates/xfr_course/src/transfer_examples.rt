@@ -1,7 +1,7 @@
 // Worked transfers, proved by computation.
 ghost use Rattle.std.specs.Prelude.{map, ◌≡◌, [], ◌∷◌, ◌++◌, true, false, Some, None, take, drop, replicate, length};
 ghost use Rattle.zone_model.specs.Version.{same_version};
-ghost use Rattle.dns_name.specs.Codes.{type_axfr, type_ixfr};
+ghost use Rattle.dns_numbers.specs.Codes.{type_axfr, type_ixfr};
 ghost use Rattle.zone_model.specs.Edits.{Incompatible, OutOfZone};
 ghost use Rattle.zone_model.specs.TransferText.{Axfr, Ixfr};
 ghost use Rattle.zone_model.specs.Spells.{spelling};

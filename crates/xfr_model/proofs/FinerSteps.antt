@@ -3,7 +3,7 @@ use Rattle.std.proofs.Common.{◌≡◌, ℕ, ◌+◌, ◌-◌, ◌≤◌, ◌&&
 use Rattle.std.specs.Prelude.{nat_lt}
 use Rattle.std.specs.Option.{option_map, option_or}
 use Rattle.dns_rdata.specs.Records.{Record}
-use Rattle.dns_name.specs.Codes.{type_ixfr}
+use Rattle.dns_numbers.specs.Codes.{type_ixfr}
 use Rattle.zone_model.specs.Version.{Version}
 use Rattle.zone_model.specs.Edits.{Refusal, has_data, set_soa, close, add, delete}
 use Rattle.zone_model.specs.TransferText.{Mode, Axfr, Ixfr, is_soa, is_same_soa}

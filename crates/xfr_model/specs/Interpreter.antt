@@ -1,7 +1,7 @@
 -- What an interpreter of transfer messages says, message by message (RFC 5936, 2.2; RFC 1995, 4).
 use Rattle.std.specs.Prelude.{Bool, ◌||◌, ◌==◌, if◌then◌else◌, List, [], ◌∷◌, ◌++◌, length, drop, Option, is_some}
 use Rattle.dns_rdata.specs.Records.{Record}
-use Rattle.dns_name.specs.Codes.{type_ixfr}
+use Rattle.dns_numbers.specs.Codes.{type_ixfr}
 use Rattle.zone_model.specs.TransferText.{Mode, Axfr, Ixfr, read_text}
 use Rattle.dns_wire.specs.Wire.{Question}
 use Rattle.xfr_model.specs.Messages.{ReadMessage}

@@ -1,7 +1,7 @@
 -- Messages as a transfer reads them (RFC 1035, 4.1).
 use Rattle.std.specs.Prelude.{◌≡◌, ℕ, List, ◌++◌, length, map, Option, Some, option_map, IsTrue}
 use Rattle.std.specs.List.{AllByRecursion}
-use Rattle.dns_name.specs.Codes.{type_ixfr, type_axfr}
+use Rattle.dns_numbers.specs.Codes.{type_ixfr, type_axfr}
 use Rattle.dns_rdata.specs.Records.{Record, is_data}
 use Rattle.dns_wire.specs.Wire.{Header, header_of, flags_word, Question, Message, message_wire}
 use Rattle.dns_wire.specs.Parse.{Parsed, parsed}

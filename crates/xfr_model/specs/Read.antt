@@ -3,7 +3,7 @@ use Rattle.std.specs.Prelude.{ℕ, Bool, true, false, ◌&&◌, ◌||◌, not, �
 use Rattle.std.specs.Option.{option_or}
 use Rattle.dns_rdata.specs.Records.{Record}
 use Rattle.dns_rdata.specs.Soa.{serial_of}
-use Rattle.dns_name.specs.Codes.{type_ixfr, type_axfr}
+use Rattle.dns_numbers.specs.Codes.{type_ixfr, type_axfr}
 use Rattle.zone_model.specs.Version.{Version}
 use Rattle.zone_model.specs.Edits.{Refusal}
 use Rattle.zone_model.specs.TransferText.{Mode, Axfr, Ixfr, Ending, is_soa, ending, read_text}

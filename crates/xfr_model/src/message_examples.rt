@@ -1,6 +1,6 @@
 // Worked examples of messages as a client sees them: what it refuses, and how long a question is, proved by computation.
 ghost use Rattle.std.specs.Prelude.{◌≡◌, [], ◌∷◌, map, Some, None, false, true, length};
-ghost use Rattle.dns_name.specs.Codes.{type_a, type_axfr, type_ixfr};
+ghost use Rattle.dns_numbers.specs.Codes.{type_a, type_axfr, type_ixfr};
 ghost use Rattle.dns_wire.specs.Wire.{question_wire};
 ghost use Rattle.zone_model.specs.ZoneRows as rows;
 ghost use Rattle.xfr_model.specs.Read as reads;

@@ -1,6 +1,6 @@
 // Worked examples of reading the records of messages, proved by computation.
 ghost use Rattle.std.specs.Prelude.{◌≡◌, [], ◌∷◌, Some, None};
-ghost use Rattle.dns_name.specs.Codes.{type_axfr, type_ixfr};
+ghost use Rattle.dns_numbers.specs.Codes.{type_axfr, type_ixfr};
 ghost use Rattle.zone_model.specs.TransferText.{Axfr, Ixfr};
 ghost use Rattle.zone_model.specs.Updates as updates;
 ghost use Rattle.zone_model.specs.ZoneRows as rows;

@@ -3,7 +3,7 @@ ghost use Rattle.std.specs.Prelude.{◌≡◌, ◌≤◌, [], Some, IfOk, OnOk, 
 ghost use Rattle.std.specs.Arc.{arc_value};
 ghost use Rattle.zone_model.specs.Offer.{from_serial, after_serial, has_start, pushed};
 
-use dns_name::Serial;
+use dns_numbers::Serial;
 use std::alloc::{AllocError, Global};
 use std::marker::Model;
 use std::sync::Arc;

@@ -8,7 +8,8 @@ ghost use Rattle.zone_model.specs.Offer.{MayPush, after_push, is_granted, offer_
 ghost use Rattle.xfr_providers.specs.Offers.{algorithm_number, key_id};
 
 use crate::kept_diffs::KeptDiffs;
-use dns_name::{KeyName, ParseError, ParsedName, Serial, ToName};
+use dns_name::{KeyName, ParseError, ParsedName, ToName};
+use dns_numbers::Serial;
 use dns_wire::Question;
 use std::alloc::{AllocError, Global};
 use std::marker::Model;

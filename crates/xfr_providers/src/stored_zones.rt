@@ -3,7 +3,7 @@ ghost use Rattle.std.specs.Prelude.{◌≡◌, IfOk};
 ghost use Rattle.xfr_providers.specs.Offers.{offer_alone};
 
 use crate::providers::{XfrData, XfrDataProvider, XfrDataProviderError};
-use dns_name::Serial;
+use dns_numbers::Serial;
 use std::alloc::{AllocError, Global};
 use xfr_services::Request;
 use zone_reads::ReadZone;

@@ -4,7 +4,7 @@ use Rattle.std.specs.Prelude.{IfSome, flat_map, option_map, slice_get}
 use Rattle.std.specs.Option.{option_map_or}
 use Rattle.std.proofs.lemmas.List.{append_assoc, append-nil, length-map}
 use Rattle.dns_name.specs.Names.{Name, fold}
-use Rattle.dns_name.specs.Codes.{type_soa}
+use Rattle.dns_numbers.specs.Codes.{type_soa}
 use Rattle.dns_name.specs.Records.{Record}
 use Rattle.zone_model.specs.Version.{RecordSet, Key, Sets, Version, set_in}
 use Rattle.zone_model.specs.Answer.{records_of, records_of_option, apex_soa_record}

@@ -10,7 +10,7 @@ use Rattle.std.proofs.lemmas.List.{length-map}
 use Rattle.std.proofs.lemmas.List.Elements.{All-head, All-tail}
 use Rattle.std.proofs.lemmas.Option.{slice_get_read}
 use Rattle.dns_name.specs.Names.{Name, fold}
-use Rattle.dns_name.specs.Codes.{type_soa}
+use Rattle.dns_numbers.specs.Codes.{type_soa}
 use Rattle.dns_name.specs.Records.{Field, Record}
 use Rattle.zone_model.specs.Version.{RecordSet, Key, Sets, Version, key_cmp, set_in}
 use Rattle.zone_model.specs.Answer.{records_of, records_of_option}

@@ -1,7 +1,7 @@
 -- Sets that a loop passes over.
 use Rattle.std.proofs.Common.{◌≡◌, ℕ, ◌<◌, ◌==◌, true, false, refl, ◌∙◌, Option, Some, None}
 use Rattle.dns_name.specs.Names.{fold}
-use Rattle.dns_name.specs.Codes.{type_soa}
+use Rattle.dns_numbers.specs.Codes.{type_soa}
 use Rattle.zone_model.specs.Version.{Key, Sets, Version}
 use Rattle.zone_model.specs.Walk.{Stop}
 use Rattle.zone_model.specs.Offer.{side_records}

@@ -2,7 +2,7 @@
 use Rattle.std.specs.Prelude.{◌≡◌, ℕ, Bool, List, [], ◌∷◌, ◌++◌, map, if◌then◌else◌}
 use Rattle.std.specs.Option.{option_map_or}
 use Rattle.std.specs.List.{list_all}
-use Rattle.dns_name.specs.Codes.{servfail}
+use Rattle.dns_numbers.specs.Codes.{servfail}
 use Rattle.dns_rdata.specs.Records.{Record}
 use Rattle.zone_model.specs.Offer.{IsCutInto}
 use Rattle.xfr_services.specs.Items.{Sending, reply_item, feedback_item}

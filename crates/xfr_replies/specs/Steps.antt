@@ -1,7 +1,7 @@
 -- What the steps from place to place find.
 use Rattle.std.specs.Prelude.{◌≡◌, ◌++◌, ◌<◌, Bool, false, ◌&&◌, ◌==◌, if◌then◌else◌, List, [], ◌∷◌, length, Option, Some, None}
 use Rattle.dns_name.specs.Names.{fold, same_name}
-use Rattle.dns_name.specs.Codes.{type_soa}
+use Rattle.dns_numbers.specs.Codes.{type_soa}
 use Rattle.dns_name.specs.Records.{Record}
 use Rattle.zone_model.specs.Version.{RecordSet, Key, Sets, Version, set_at, set_in}
 use Rattle.zone_model.specs.Answer.{apex_soa_record}

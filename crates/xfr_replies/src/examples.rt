@@ -1,6 +1,6 @@
 // Worked examples of places, proved by computation: the text from a place on.
 ghost use Rattle.std.specs.Prelude.{◌≡◌, [], ◌∷◌, true, false, None};
-ghost use Rattle.dns_name.specs.Codes.{type_a, type_soa};
+ghost use Rattle.dns_numbers.specs.Codes.{type_a, type_soa};
 ghost use Rattle.zone_model.specs.ZoneRows as rows;
 ghost use Rattle.xfr_replies.specs.Places.{text_from};
 ghost use Rattle.xfr_replies.specs.declared.place.Part.TheVariants.{BeforeZone, Zone, BeforeChanges, SideSoas, SideSets, Last};

@@ -4,7 +4,7 @@ ghost use Rattle.dns_rdata.specs.ZoneData.{rtype_of, data_fields};
 ghost use Rattle.zone_model.specs.Answer.{first_only};
 ghost use Rattle.zone_values.specs.TypedEntries.{typed};
 
-use dns_name::{Rtype, Ttl};
+use dns_numbers::{Rtype, Ttl};
 use dns_rdata::StoredRecordData;
 use std::marker::Model;
 use zone_values::Rrset;

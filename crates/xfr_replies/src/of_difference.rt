@@ -1,7 +1,7 @@
 // Places in the sides of differences.
 ghost use Rattle.std.specs.Prelude.{◌≡◌, ◌==◌, ◌<◌, ◌∷◌, List, length, map, not, IsSome, option_copied, slice_get};
 ghost use Rattle.std.specs.Arc.{arc_value};
-ghost use Rattle.dns_name.specs.Codes.{type_soa};
+ghost use Rattle.dns_numbers.specs.Codes.{type_soa};
 ghost use Rattle.zone_model.specs.Version.{Sets};
 ghost use Rattle.zone_model.specs.Difference.{Difference};
 ghost use Rattle.zone_model.specs.Offer.{side_records, side_soas};
@@ -11,7 +11,8 @@ ghost use Rattle.xfr_replies.specs.Sides.{behind, side_text, sides_from};
 ghost use Rattle.xfr_replies.specs.Steps.{FindsFrom, Heads, SkipsSoas};
 
 use crate::place::{Part, Place, Side};
-use dns_name::{KeyName, Labelled, Rtype, ToName};
+use dns_name::{KeyName, Labelled, ToName};
+use dns_numbers::Rtype;
 use std::sync::Arc;
 use zone_diffs::{DiffSets, InMemoryZoneDiff};
 use zone_reads::ReadZone;

@@ -11,7 +11,8 @@ ghost use Rattle.xfr_replies.specs.Steps.{HeadsAt, SkipsApexSoa, is_soa_stop, so
 ghost use Rattle.xfr_replies.specs.declared.place.Part.TheVariants.{Zone};
 
 use crate::place::{Part, Place};
-use dns_name::{KeyName, Labelled, Rtype, ToName};
+use dns_name::{KeyName, Labelled, ToName};
+use dns_numbers::Rtype;
 use zone_reads::{ReadZone, WalkItem};
 use zone_values::SharedRrset;
 

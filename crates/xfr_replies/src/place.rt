@@ -2,7 +2,8 @@
 ghost use Rattle.std.specs.Prelude.{◌≡◌, ◌<◌, ◌^◌, ◌+◌, drop, None};
 ghost use Rattle.xfr_replies.specs.Sides.{sides_from, sides_of};
 
-use dns_name::{KeyName, Rtype};
+use dns_name::KeyName;
+use dns_numbers::Rtype;
 use zone_values::SharedRrset;
 
 /// One side of a difference: of which one, counted from 0, and whether it is what that adds.

@@ -4,7 +4,7 @@ ghost use Rattle.std.specs.Arc.{arc_value};
 ghost use Rattle.std.specs.List.{list_all};
 ghost use Rattle.zone_model.specs.Offer.{is_sendable, side_soas};
 
-use dns_name::Rtype;
+use dns_numbers::Rtype;
 use std::sync::Arc;
 use zone_diffs::{DiffSets, InMemoryZoneDiff};
 use zone_reads::ReadZone;

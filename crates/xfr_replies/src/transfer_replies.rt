@@ -5,7 +5,7 @@ ghost use Rattle.xfr_replies.specs.PulledStreams.{Continues, PulledLeft, Pulls, 
 ghost use Rattle.xfr_replies.specs.declared.transfer_replies.Stage.TheVariants.{Records};
 
 use crate::text::TransferText;
-use dns_name::Rcode;
+use dns_numbers::Rcode;
 use dns_wire::{AnswerBuilder, MessageBuf, PushError};
 use std::alloc::Global;
 use xfr_batch::{CallbackBatcher, PushResult, ReadyMessages, XfrRrBatcher};

@@ -5,7 +5,7 @@ use Rattle.std.specs.Option.{option_map_or}
 use Rattle.std.specs.List.{AllByRecursion}
 use Rattle.std.proofs.lemmas.Bool.Decides.{nat_tests}
 use Rattle.dns_name.specs.Names.{same_name}
-use Rattle.dns_name.specs.Codes.{type_soa, type_axfr, type_ixfr}
+use Rattle.dns_numbers.specs.Codes.{type_soa, type_axfr, type_ixfr}
 use Rattle.dns_rdata.specs.Records.{Field, Record}
 use Rattle.dns_wire.specs.Wire.{Header, Question, same_question, flags_word, header_of, header_in, id_in, qdcount_in}
 use Rattle.dns_wire.specs.Parse.{Parsed, parsed, readings, question_at, questions_in, sole_question_in, message_end}

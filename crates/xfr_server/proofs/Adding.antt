@@ -1,10 +1,9 @@
 -- Calls that add records to a message.
-use Rattle.std.proofs.Common.{◌≡◌, ℕ, ◌≤◌, true, List, [], ◌∷◌, ◌++◌, length, Some, None, sym, ap, ◌∙◌, subst, arith}
-use Rattle.std.specs.Prelude.{Result, Ok, Err, option_map}
+use Rattle.std.proofs.Common.{◌≡◌, ℕ, ◌≤◌, true, List, [], ◌∷◌, ◌++◌, length, sym, ap, ◌∙◌, subst, arith}
+use Rattle.std.specs.Prelude.{Result, Ok, Err}
 use Rattle.std.specs.Result.{result_map_both}
 use Rattle.std.proofs.lemmas.List.{append_assoc, append-nil}
-use Rattle.dns_name.specs.Codes.{type_soa}
-use Rattle.dns_rdata.specs.Records.{Field, Record, record_wire}
+use Rattle.dns_rdata.specs.Records.{Record, record_wire}
 use Rattle.dns_wire.specs.Wire.{Building, Header, Question, header_in, in_answer, fits, message_wire}
 use Rattle.dns_wire.specs.Parse.{questions_in}
 use Rattle.dns_wire.specs.Builds.{Adds, Builds, building}
@@ -12,8 +11,6 @@ use Rattle.dns_wire.specs.declared.builder.PushError.{PushError}
 use Rattle.dns_wire.specs.declared.builder.PushError.TheVariants.{ShortBuf, CountOverflow, Memory}
 use Rattle.dns_wire.proofs.Pushing.{message_wire-more_answers, answers-counted}
 use Rattle.dns_wire.proofs.Questions.{not_fitting}
-use Rattle.zone_model.specs.Version.{RecordSet, Version, set_at}
-use Rattle.zone_model.specs.Answer.{apex_soa_record, first_only, records_of, records_of_option}
 use Rattle.xfr_batch.specs.XfrBatches.{axfr_header}
 use Rattle.xfr_replies.specs.TransferPages.{page_answer}
 use Rattle.xfr_server.specs.TransferMessage.{AddsAnswers}
@@ -71,19 +68,3 @@ pub not_begun : (request : List ℕ) (rs : List Record) (limit : ℕ) (e : PushE
     → Builds (message_wire (page_answer request rs)) limit (Err e)
 not_begun request rs limit e refused =
     refused_more (message_wire (page_answer request [])) (message_wire (page_answer request rs)) limit e (longer (axfr_header (header_in request)) (questions_in request) [] rs) refused
-
--- ---- the apex SOA
-
-pub soa_none : (v : Version) → set_at v v.apex type_soa ≡ None → apex_soa_record v ≡ []
-soa_none v e = ap (λ s. records_of_option v.apex type_soa v.class (option_map first_only s)) e
-
-pub soa_empty : (v : Version) (s : RecordSet) → set_at v v.apex type_soa ≡ Some s → s.items ≡ [] → apex_soa_record v ≡ []
-soa_empty v s e none =
-    ap (λ o. records_of_option v.apex type_soa v.class (option_map first_only o)) e
-    ∙ ap (λ items. records_of v.apex type_soa v.class (first_only (record { ttl = s.ttl; items = items }))) none
-
-pub soa_first : (v : Version) (s : RecordSet) (d : List Field) (more : List (List Field)) → set_at v v.apex type_soa ≡ Some s → s.items ≡ d ∷ more
-    → apex_soa_record v ≡ record { owner = v.apex; rtype = type_soa; class = v.class; ttl = s.ttl; fields = d } ∷ []
-soa_first v s d more e first =
-    ap (λ o. records_of_option v.apex type_soa v.class (option_map first_only o)) e
-    ∙ ap (λ items. records_of v.apex type_soa v.class (first_only (record { ttl = s.ttl; items = items }))) first

@@ -4,7 +4,7 @@ use Rattle.std.specs.Prelude.{IsTrue, flat_map, option_map, is_some, Result, Ok}
 use Rattle.std.specs.Option.{option_map_or}
 use Rattle.std.specs.List.{AllByRecursion, list_all}
 use Rattle.std.proofs.lemmas.List.{append-nil}
-use Rattle.dns_name.specs.Codes.{type_soa}
+use Rattle.dns_numbers.specs.Codes.{type_soa}
 use Rattle.dns_wire.specs.Wire.{message_wire, fits}
 use Rattle.dns_rdata.specs.Records.{Field, Record}
 use Rattle.dns_wire.specs.Parse.{sole_question_in}
@@ -27,14 +27,15 @@ use Rattle.xfr_server.specs.Transfers.Choice.{Refuse, SoaAlone, Text}
 use Rattle.xfr_server.specs.Signing.{Signer, signed_items}
 use Rattle.xfr_server.specs.Serving.{SendsIn, SendsTransfer}
 use Rattle.xfr_server.specs.SignedServing.{SendsBy, SendsSigned, accepted_request, signer_for, SendsChecked}
-use Rattle.xfr_server.specs.SentTexts.{mode_of, sent_records, in_singles}
+use Rattle.xfr_outcomes.specs.Modes.{mode_of}
+use Rattle.xfr_server.specs.SentTexts.{sent_records, in_singles}
 use Rattle.xfr_server.specs.GrantedTransfers.{begins_with_soa, IsSentWhole, SendsWhole}
 use Rattle.xfr_providers.specs.declared.providers.XfrDataProviderError.{XfrDataProviderError}
 use Rattle.xfr_services.specs.declared.requests.Request.{Request}
 use Rattle.xfr_services.specs.declared.requests.TransportSpecificContext.{TransportSpecificContext}
 use Rattle.xfr_services.specs.declared.requests.TransportSpecificContext.TheVariants.{NonUdp}
 use Rattle.xfr_services.specs.declared.services.ServiceFeedback.TheVariants.{BeginTransaction, EndTransaction}
-use Rattle.xfr_services.specs.declared.signing.Signing.TheVariants.{First}
+use Rattle.xfr_signing.specs.declared.signing.Signing.TheVariants.{First}
 use Rattle.xfr_services.specs.declared.modes.XfrMode.{XfrMode}
 use Rattle.xfr_services.specs.declared.modes.XfrMode.TheVariants.{Axfr, Ixfr}
 use Rattle.xfr_server.proofs.Choice.{chosen_offer}

@@ -4,7 +4,7 @@ use Rattle.std.specs.Prelude.{flat_map, nat_le}
 use Rattle.std.specs.List.{list_all}
 use Rattle.std.proofs.lemmas.Bool.{and_parts}
 use Rattle.std.proofs.lemmas.List.{append-nil}
-use Rattle.dns_name.specs.Codes.{servfail, type_soa}
+use Rattle.dns_numbers.specs.Codes.{servfail, type_soa}
 use Rattle.dns_rdata.specs.Records.{Record}
 use Rattle.dns_wire.specs.Wire.{Message, message_wire, fits}
 use Rattle.dns_wire.specs.Reply.{empty_answer}

@@ -3,7 +3,7 @@ use Rattle.std.proofs.Common.{◌≡◌, ℕ, ◌<◌, Bool, true, false, List, 
 use Rattle.std.specs.Prelude.{Result, if◌then◌else◌}
 use Rattle.std.specs.Option.{option_map_or}
 use Rattle.std.specs.List.{list_all}
-use Rattle.dns_name.specs.Codes.{servfail}
+use Rattle.dns_numbers.specs.Codes.{servfail}
 use Rattle.dns_rdata.specs.Records.{Record}
 use Rattle.dns_wire.specs.Wire.{Building, message_wire, fits}
 use Rattle.zone_model.specs.Version.{Version}
@@ -14,11 +14,11 @@ use Rattle.xfr_services.specs.Items.Sending.{Given, Failed}
 use Rattle.xfr_services.specs.Replying.{error_reply}
 use Rattle.tsig_port.specs.Tsig.{TsigKey}
 use Rattle.tsig_port.specs.ServerCheck.{Keys, verdict}
-use Rattle.xfr_services.specs.Failing.{fails, bare_len, FailsWhereLong, IsTooLong}
-use Rattle.xfr_services.specs.SignedServing.{SendsChecked}
+use Rattle.xfr_signing.specs.Failing.{fails, bare_len, FailsWhereLong, IsTooLong}
+use Rattle.xfr_signing.specs.SignedServing.{SendsChecked}
 use Rattle.xfr_services.specs.declared.requests.Request.{Request}
 use Rattle.xfr_services.specs.declared.services.ServiceFeedback.TheVariants.{EndTransaction}
-use Rattle.xfr_services.proofs.Failing.{errors_fail, checked_fails}
+use Rattle.xfr_signing.proofs.Failing.{errors_fail, checked_fails}
 use Rattle.xfr_replies.specs.TransferPages.{page_answer, page_message, page_room, has_page}
 use Rattle.xfr_replies.specs.PagedReplies.{page_sent, servfail_sent, end_sent}
 use Rattle.xfr_replies.specs.PulledStreams.{SendsText}

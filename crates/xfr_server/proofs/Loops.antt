@@ -1,32 +1,17 @@
 -- Records that a loop adds one after another, by what is left.
-use Rattle.std.proofs.Common.{◌≡◌, ℕ, List, [], ◌∷◌, ◌++◌, All, drop, map, Option, Some, None, is_some, option_map, true≢false, refl, sym, ap, ◌∙◌, subst}
+use Rattle.std.proofs.Common.{◌≡◌, List, [], ◌∷◌, ◌++◌, map, Some, refl, sym, ap, ◌∙◌, subst}
 use Rattle.std.specs.Prelude.{Result, Ok, Err, slice_get}
 use Rattle.std.proofs.lemmas.List.{append_assoc, append-nil}
-use Rattle.std.proofs.lemmas.List.Elements.{All-head}
-use Rattle.dns_name.specs.Codes.{type_soa}
-use Rattle.dns_name.specs.Names.{Name}
+use Rattle.dns_numbers.specs.Codes.{type_soa}
 use Rattle.dns_rdata.specs.Records.{Field, Record, record_wire}
 use Rattle.dns_wire.specs.Wire.{Building}
 use Rattle.dns_wire.specs.Builds.{Adds}
 use Rattle.dns_wire.specs.declared.builder.PushError.{PushError}
 use Rattle.zone_model.specs.Version.{RecordSet, Version, set_at}
 use Rattle.zone_model.specs.Answer.{apex_soa_record}
-use Rattle.zone_values.specs.TypedSets.{TypedSet}
-use Rattle.zone_values.specs.TypedEntries.{typed}
 use Rattle.xfr_server.specs.TransferMessage.{AddsAnswers}
-use Rattle.xfr_server.proofs.Adding.{adds_none, adds_one, adds_behind, refused_front, soa_empty, soa_first}
-
-abbrev pub record_with : Name → ℕ → ℕ → ℕ → List Field → Record
-record_with owner rtype class ttl fields = record { owner = owner; rtype = rtype; class = class; ttl = ttl; fields = fields }
-
--- ---- lists
-
-pub no_first : {X : Type 0} (xs : List X) → None ≡ slice_get xs 0 → xs ≡ []
-no_first [] e = refl
-no_first (x ∷ xs) e = cc
-
-some_inj : {X : Type 0} (x y : X) → Some x ≡ Some y → x ≡ y
-some_inj x y e = cc
+use Rattle.xfr_server.proofs.Adding.{adds_none, adds_one, adds_behind, refused_front}
+use Rattle.xfr_outcomes.proofs.ApexSoa.{soa_first, record_with, has_first}
 
 -- ---- what a loop keeps
 
@@ -66,34 +51,12 @@ pub record_refused : (r made : Record) (behind rest all : List Record) (now old 
 record_refused r made behind rest all now old new e split is kept added =
     kept_refused (r ∷ []) behind rest all now old new e split kept (adds_one r made now new (Err e) is added)
 
--- what is left begins with the record that was lent
-pub first_left : {X : Type 0} (xs : List X) (x : X) → Some x ≡ slice_get xs 0 → xs ≡ x ∷ drop 1 xs
-first_left [] x e = cc
-first_left (y ∷ xs) x e = ap (λ z. z ∷ xs) (sym (some_inj x y e))
-
 pub kept_last : (rest all : List Record) (now old : Building) (u : Unit {0}) → rest ≡ [] → Kept now old rest all → AddsAnswers all old (Ok u) now
 kept_last rest all now old u none kept =
     let P : List Record → Type 0 = λ rs. AddsAnswers rs old (Ok u) now in
     subst P (sym (append-nil kept.done) ∙ ap (λ rs. kept.done ++ rs) (sym none) ∙ kept.whole) kept.added
 
 -- ---- the apex SOA
-
-has_first : {X : Type 0} (xs : List X) (x : X) → Some x ≡ slice_get xs 0 → (more : List X) × (xs ≡ x ∷ more)
-has_first [] x e = cc
-has_first (y ∷ xs) x e = (xs, ap (λ z. z ∷ xs) (sym (some_inj x y e)))
-
--- the first data of a set that was looked up are of its type
-pub looked_up_type : {X : Type 0} (t : X → ℕ) (rtype : ℕ) (xs : List X) (x : X) (s : TypedSet) (o : Option RecordSet) → Some x ≡ slice_get xs 0 → All (λ d. t d ≡ s.rtype) xs
-    → Some s ≡ option_map (typed rtype) o → t x ≡ rtype
-looked_up_type t rtype xs x s None first types found = absurd (true≢false (ap is_some found))
-looked_up_type t rtype xs x s (Some r) first types found =
-    let split = has_first xs x first in
-    All-head (λ d. t d ≡ s.rtype) x split.0 (subst (All (λ d. t d ≡ s.rtype)) split.1 types)
-    ∙ ap (λ (y : Option TypedSet). elim y as (λ z. ℕ) [ Some z ↦ z.rtype | None ↦ s.rtype ]) found
-
-pub no_soa_data : {X : Type 0} (f : X → List Field) (xs : List X) (v : Version) (s : RecordSet) → Some s ≡ set_at v v.apex type_soa → None ≡ slice_get xs 0 → map f xs ≡ s.items
-    → apex_soa_record v ≡ []
-no_soa_data f xs v s is none items = soa_empty v s (sym is) (sym items ∙ ap (map f) (no_first xs none))
 
 pub pushed_soa : {X : Type 0} (f : X → List Field) (xs : List X) (x : X) (v : Version) (s : RecordSet) (made : Record) (old new : Building) (result : Result (Unit {0}) PushError)
     → Some s ≡ set_at v v.apex type_soa → Some x ≡ slice_get xs 0 → map f xs ≡ s.items → made ≡ record_with v.apex type_soa v.class s.ttl (f x)

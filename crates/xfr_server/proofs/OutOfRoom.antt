@@ -4,7 +4,7 @@ use Rattle.std.specs.Prelude.{IsTrue, ◌==◌, nat_le, is_some, option_map, Res
 use Rattle.std.specs.Option.{option_map_or}
 use Rattle.std.specs.List.{list_all}
 use Rattle.std.proofs.lemmas.Bool.Decides.{nat_tests}
-use Rattle.dns_name.specs.Codes.{formerr, servfail}
+use Rattle.dns_numbers.specs.Codes.{formerr, servfail}
 use Rattle.dns_rdata.specs.Records.{Record, record_wire}
 use Rattle.dns_wire.specs.Wire.{Building, Question, message_wire, header_in, arcount_in, fits}
 use Rattle.dns_wire.specs.Parse.{sole_question_in, questions_in}
@@ -28,11 +28,11 @@ use Rattle.xfr_server.specs.Signing.{can_be_signed, signed_reply, signed_step, s
 use Rattle.xfr_server.specs.SignedServing.{signer_for}
 use Rattle.xfr_server.specs.GrantedTransfers.{begins_with_soa}
 use Rattle.xfr_server.specs.SignedAnswers.{SendsNothing}
-use Rattle.xfr_services.specs.Failing.{bare_len}
+use Rattle.xfr_signing.specs.Failing.{bare_len}
 use Rattle.xfr_providers.specs.declared.providers.XfrDataProviderError.{XfrDataProviderError}
 use Rattle.xfr_services.specs.declared.requests.Request.{Request}
 use Rattle.xfr_services.specs.declared.services.ServiceFeedback.TheVariants.{BeginTransaction, EndTransaction}
-use Rattle.xfr_services.specs.declared.signing.Signing.TheVariants.{First, All}
+use Rattle.xfr_signing.specs.declared.signing.Signing.TheVariants.{First, All}
 use Rattle.xfr_services.specs.declared.modes.XfrMode.{XfrMode}
 use Rattle.xfr_server.proofs.Answers.{wire_length, record_long}
 use Rattle.xfr_server.proofs.Room.{signed_length}

@@ -3,7 +3,7 @@ use Rattle.std.proofs.Common.{◌≡◌, ℕ, ◌+◌, ◌≤◌, List, [], ◌+
 use Rattle.std.specs.Prelude.{IsTrue, Option}
 use Rattle.std.proofs.lemmas.List.{length-take-le}
 use Rattle.dns_name.specs.Octets.{u16_octets, u32_octets, u48_octets}
-use Rattle.dns_name.specs.Codes.{type_tsig, class_any}
+use Rattle.dns_numbers.specs.Codes.{type_tsig, class_any}
 use Rattle.dns_name.specs.Names.{Name, name_wire}
 use Rattle.dns_rdata.specs.Records.{record_wire, data_wire}
 use Rattle.dns_wire.specs.Wire.{with_item, header_number, id_in}

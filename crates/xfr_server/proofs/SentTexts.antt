@@ -4,8 +4,8 @@ use Rattle.std.specs.Prelude.{◌==◌, flat_map}
 use Rattle.std.specs.List.{list_all}
 use Rattle.std.proofs.lemmas.Bool.Decides.{nat_tests}
 use Rattle.dns_rdata.specs.Records.{Record}
-use Rattle.dns_name.specs.Codes.{type_soa}
-use Rattle.dns_name.specs.Serial.{serial_upto}
+use Rattle.dns_numbers.specs.Codes.{type_soa}
+use Rattle.dns_numbers.specs.Serial.{serial_upto}
 use Rattle.zone_model.specs.Version.{Version, set_at, has_one_apex_soa}
 use Rattle.zone_model.specs.Answer.{apex_soa_record}
 use Rattle.zone_model.specs.Walk.{records_of_version}

@@ -3,7 +3,7 @@ use Rattle.std.proofs.Common.{◌≡◌, ℕ, ◌+◌, ◌-◌, ◌≤◌, Bool,
 use Rattle.std.specs.Prelude.{IsTrue, option_map, Result, if◌then◌else◌}
 use Rattle.std.specs.Option.{option_map_or}
 use Rattle.std.specs.List.{list_all}
-use Rattle.dns_name.specs.Codes.{servfail}
+use Rattle.dns_numbers.specs.Codes.{servfail}
 use Rattle.dns_rdata.specs.Records.{Record}
 use Rattle.dns_wire.specs.Wire.{Building, Message, message_wire, fits}
 use Rattle.dns_wire.specs.Reply.{empty_answer}
@@ -26,11 +26,11 @@ use Rattle.xfr_server.specs.Serving.{SendsIn, SendsTransfer}
 use Rattle.xfr_server.specs.SignedServing.{SendsBy, SendsSigned, accepted_request, signer_for, SendsChecked}
 use Rattle.xfr_server.specs.GrantedTransfers.{IsSentInTurn}
 use Rattle.xfr_server.specs.SignedAnswers.{soa_answer, udp_answer, Tell, IsAccepted, TransferIsAnswered, OtherIsHandedOn}
-use Rattle.xfr_services.specs.Failing.{bare_len}
+use Rattle.xfr_signing.specs.Failing.{bare_len}
 use Rattle.xfr_providers.specs.declared.providers.XfrDataProviderError.{XfrDataProviderError}
 use Rattle.xfr_services.specs.declared.requests.Request.{Request}
 use Rattle.xfr_services.specs.declared.services.ServiceFeedback.TheVariants.{BeginTransaction, EndTransaction}
-use Rattle.xfr_services.specs.declared.signing.Signing.TheVariants.{First, All}
+use Rattle.xfr_signing.specs.declared.signing.Signing.TheVariants.{First, All}
 use Rattle.xfr_services.specs.declared.modes.XfrMode.{XfrMode}
 use Rattle.xfr_server.proofs.OutOfRoom.{chosen_begins, choice_fails}
 use Rattle.xfr_server.proofs.Pages.{each_page}

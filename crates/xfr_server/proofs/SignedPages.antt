@@ -15,8 +15,8 @@ use Rattle.xfr_replies.specs.PagedReplies.{page_sent}
 use Rattle.xfr_server.specs.Items.{Sending, sent_by, reply_item}
 use Rattle.xfr_server.specs.Items.Sending.{Given}
 use Rattle.xfr_server.specs.Signing.{Signer, can_be_signed, reply_tsig, signed_reply, signed_items}
-use Rattle.xfr_services.specs.declared.signing.Signing.TheVariants.{First, All}
-use Rattle.xfr_services.proofs.Puts.{has_both}
+use Rattle.xfr_signing.specs.declared.signing.Signing.TheVariants.{First, All}
+use Rattle.xfr_signing.proofs.Puts.{has_both}
 use Rattle.xfr_server.proofs.Answers.{wire_length, records_long}
 use Rattle.xfr_server.proofs.Pages.{IsPage}
 use Rattle.xfr_server.proofs.Room.{signed_length}

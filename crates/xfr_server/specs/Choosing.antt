@@ -1,6 +1,6 @@
 -- What is chosen to be sent, as it is kept.
 use Rattle.std.specs.Prelude.{◌≡◌, ℕ, Bool, false, List, Option, Some, None, Result, Ok, Err}
-use Rattle.dns_name.specs.Serial.{serial_upto}
+use Rattle.dns_numbers.specs.Serial.{serial_upto}
 use Rattle.dns_wire.specs.Wire.{Building}
 use Rattle.xfr_server.specs.Replying.{error_reply}
 use Rattle.xfr_server.specs.Transfers.{Choice, soa_reply}

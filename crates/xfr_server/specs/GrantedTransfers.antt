@@ -18,7 +18,8 @@ use Rattle.xfr_model.specs.Read.{request_fault}
 use Rattle.xfr_replies.specs.TransferPages.{page_answer, page_room}
 use Rattle.xfr_server.specs.Items.{Sending, sent_by}
 use Rattle.xfr_server.specs.Transfers.{transfer_mode, asked_serial, asks_for_apex}
-use Rattle.xfr_server.specs.SentTexts.{mode_of, in_singles}
+use Rattle.xfr_outcomes.specs.Modes.{mode_of}
+use Rattle.xfr_server.specs.SentTexts.{in_singles}
 use Rattle.xfr_providers.specs.declared.providers.XfrDataProviderError.{XfrDataProviderError}
 use Rattle.xfr_services.specs.declared.requests.Request.{Request}
 use Rattle.xfr_services.specs.declared.requests.TransportSpecificContext.TheVariants.{NonUdp}

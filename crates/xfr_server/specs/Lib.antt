@@ -1,8 +1,8 @@
 pub use Rattle.xfr_services.specs.Requests
 pub use Rattle.xfr_services.specs.Items
 pub use Rattle.xfr_services.specs.Replying
-pub use Rattle.xfr_services.specs.Signing
-pub use Rattle.xfr_services.specs.SignedServing
+pub use Rattle.xfr_signing.specs.Signing
+pub use Rattle.xfr_signing.specs.SignedServing
 pub mod TransferMessage
 pub mod Transfers
 pub mod Choosing

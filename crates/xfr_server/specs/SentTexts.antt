@@ -10,12 +10,7 @@ use Rattle.zone_model.specs.Offer.{Offer, text_of}
 use Rattle.xfr_server.specs.Transfers.{Choice, is_ixfr, asks_for_apex, choice_of}
 use Rattle.xfr_server.specs.Transfers.Choice.{Refuse, SoaAlone, Text}
 use Rattle.xfr_services.specs.declared.modes.XfrMode.{XfrMode}
-use Rattle.xfr_services.specs.declared.modes.XfrMode.TheVariants as kind
-
--- the model's mode of a kind of transfer
-abbrev pub mode_of : XfrMode → Mode
-mode_of kind.Axfr = texts.Axfr
-mode_of kind.Ixfr = texts.Ixfr
+use Rattle.xfr_outcomes.specs.Modes.{mode_of}
 
 -- the records that are sent of a choice, and whether each message holds one of them; none of a refusal
 abbrev pub sent_records : Choice → Option (List Record × Bool)

@@ -2,7 +2,7 @@
 use Rattle.std.specs.Prelude.{◌≡◌, ℕ, ◌+◌, ◌≤◌, ◌<◌, Bool, true, false, List, [], ◌∷◌, ◌++◌, map, min, Option, Some, None, option_map, IsTrue, Result, if◌then◌else◌}
 use Rattle.std.specs.List.{list_all}
 use Rattle.dns_name.specs.Names.{fold}
-use Rattle.dns_name.specs.Codes.{servfail}
+use Rattle.dns_numbers.specs.Codes.{servfail}
 use Rattle.dns_rdata.specs.Records.{Record}
 use Rattle.dns_wire.specs.Wire.{Message, message_wire, fits}
 use Rattle.dns_wire.specs.Reply.{empty_answer}
@@ -21,10 +21,10 @@ use Rattle.xfr_server.specs.SignedServing.{accepted_request, signer_for}
 use Rattle.xfr_server.specs.Transfers.{Choice, chosen, transfer_mode, most_octets, reply_limit, SendsAnswer}
 use Rattle.xfr_server.specs.Transfers.Choice.{Refuse, SoaAlone, Text}
 use Rattle.xfr_server.specs.GrantedTransfers.{IsSentInTurn}
-use Rattle.xfr_services.specs.Failing.{bare_len}
+use Rattle.xfr_signing.specs.Failing.{bare_len}
 use Rattle.xfr_providers.specs.declared.providers.XfrDataProviderError.{XfrDataProviderError}
 use Rattle.xfr_services.specs.declared.requests.Request.{Request}
-use Rattle.xfr_services.specs.declared.signing.Signing.TheVariants.{First}
+use Rattle.xfr_signing.specs.declared.signing.Signing.TheVariants.{First}
 use Rattle.xfr_services.specs.declared.modes.XfrMode.{XfrMode}
 
 -- ---- the messages, before they are signed

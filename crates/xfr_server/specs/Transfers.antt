@@ -2,8 +2,8 @@
 use Rattle.std.specs.Prelude.{◌≡◌, ℕ, ◌-◌, Bool, true, false, ◌&&◌, ◌||◌, not, ◌==◌, List, [], ◌∷◌, length, Option, Some, None, is_some, option_map, option_and_then, unwrap_or, Result, Ok, Err, if◌then◌else◌}
 use Rattle.std.specs.List.{list_all}
 use Rattle.dns_name.specs.Names.{same_name}
-use Rattle.dns_name.specs.Serial.{serial_upto}
-use Rattle.dns_name.specs.Codes.{formerr, servfail, notauth, type_soa}
+use Rattle.dns_numbers.specs.Serial.{serial_upto}
+use Rattle.dns_numbers.specs.Codes.{formerr, servfail, notauth, type_soa}
 use Rattle.dns_rdata.specs.Heads.{RawRecord, readable}
 use Rattle.dns_rdata.specs.Records.{Record}
 use Rattle.dns_rdata.specs.Soa.{serial_of}

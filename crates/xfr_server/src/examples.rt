@@ -1,6 +1,6 @@
 // Worked replies of a primary, proved by computation.
 ghost use Rattle.std.specs.Prelude.{map, ◌≡◌, [], ◌∷◌, true, false, Some, None};
-ghost use Rattle.dns_name.specs.Codes.{servfail, type_axfr, type_ixfr, type_soa};
+ghost use Rattle.dns_numbers.specs.Codes.{servfail, type_axfr, type_ixfr, type_soa};
 ghost use Rattle.dns_wire.specs.Reply.{empty_answer};
 ghost use Rattle.zone_model.specs.Difference.{difference};
 ghost use Rattle.zone_model.specs.Offer.{offer_of, whole_text};

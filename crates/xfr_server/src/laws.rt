@@ -7,7 +7,7 @@ ghost use Rattle.xfr_server.specs.SentTexts.{TextIsChosen};
 ghost use Rattle.xfr_server.specs.GrantedTransfers.{SendsWhole, TextsBegin, WholeIsTaken, TransferIsMessage};
 ghost use Rattle.xfr_server.specs.SignedAnswers.{OtherIsHandedOn, TransferIsAnswered};
 ghost use Rattle.xfr_server.specs.JoinedAnswers.{AnswersJoin};
-ghost use Rattle.xfr_services.specs.Failing.{fails, FailsWhereLong, IsTooLong};
+ghost use Rattle.xfr_signing.specs.Failing.{fails, FailsWhereLong, IsTooLong};
 ghost use Rattle.xfr_services.specs.declared.requests.Request.{Request as RequestOf};
 ghost use Rattle.xfr_services.specs.declared.modes.XfrMode.{XfrMode as ModeOf};
 ghost use Rattle.tsig_port.specs.ServerCheck.{verdict};

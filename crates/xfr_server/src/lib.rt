@@ -1,6 +1,6 @@
 //! What a primary answers: the transfer service, and the stack of services with it. What it may send, and to whom, it asks the providers of
-//! `xfr_providers` (RFC 5936, 5). Requests, services and signing stand in `xfr_services`, what puts records into many messages in `xfr_batch`, a
-//! transfer's text and the stream of its messages in `xfr_replies`; all can be had here too.
+//! `xfr_providers` (RFC 5936, 5). Requests and services stand in `xfr_services`, the one that checks and signs in `xfr_signing`, what puts records into
+//! many messages in `xfr_batch`, a transfer's text and the stream of its messages in `xfr_replies`; all can be had here too.
 #![tactic(auto)]
 
 mod examples;
@@ -21,10 +21,10 @@ pub use xfr_providers::{
 };
 pub use xfr_replies::{TransferReplies, TransferText, are_sendable};
 pub use xfr_services::{
-    CallResult, PostprocessingState, RefuseSvc, Replies, ReplyStream, Request, Service,
-    ServiceError, ServiceFeedback, TransportSpecificContext, TsigMiddlewareSvc, TsigStream,
-    XfrMode, modes, requests, services, signing,
+    CallResult, RefuseSvc, Replies, ReplyStream, Request, Service, ServiceError, ServiceFeedback,
+    TransportSpecificContext, XfrMode, modes, requests, services,
 };
+pub use xfr_signing::{PostprocessingState, TsigMiddlewareSvc, TsigStream, signing};
 
 /// The services of a primary: signatures, then transfers, then whatever answers other requests.
 pub type PrimaryStack<N, X, KS> = TsigMiddlewareSvc<XfrMiddlewareSvc<N, X>, KS>;

@@ -4,7 +4,7 @@ ghost use Rattle.dns_wire.specs.Wire.{message_wire};
 ghost use Rattle.dns_wire.specs.Builds.{Builds};
 ghost use Rattle.xfr_replies.specs.TransferPages.{page_answer};
 
-use dns_name::{Opcode, Rcode};
+use dns_numbers::{Opcode, Rcode};
 use dns_wire::{AnswerBuilder, MessageBuf, MessageBuilder, PushError};
 use std::alloc::Global;
 

@@ -1,7 +1,7 @@
 // The service that answers transfer requests (RFC 5936; RFC 1995).
 ghost use Rattle.std.specs.Prelude.{◌≡◌, ◌&&◌, not, is_some, List, Option, option_map};
-ghost use Rattle.dns_name.specs.Codes.{type_soa};
-ghost use Rattle.dns_name.specs.Serial.{serial_upto};
+ghost use Rattle.dns_numbers.specs.Codes.{type_soa};
+ghost use Rattle.dns_numbers.specs.Serial.{serial_upto};
 ghost use Rattle.dns_rdata.specs.Heads.{readable};
 ghost use Rattle.dns_rdata.specs.Soa as soas;
 ghost use Rattle.dns_wire.specs.Parse.{sole_question_in};
@@ -13,7 +13,8 @@ ghost use Rattle.xfr_server.specs.Streams.{items_left, TransferLeft};
 ghost use Rattle.xfr_services.specs.declared.services.CallResult.{CallResult as Item};
 
 use crate::transfer_message;
-use dns_name::{Opcode, Rcode, Rtype, Serial, ToName};
+use dns_name::ToName;
+use dns_numbers::{Opcode, Rcode, Rtype, Serial};
 use dns_rdata::{ParsedRecord, ZoneRecordData};
 use dns_wire::{Message, MessageBuf, PushError, RecordSection};
 use std::alloc::Global;

@@ -11,7 +11,8 @@ ghost use Rattle.xfr_replies.specs.TransferPages.{page_answer};
 ghost use Rattle.xfr_server.specs.TransferMessage.{AddsAnswers};
 
 use crate::replies::start_transfer;
-use dns_name::{Labelled, Rtype, Serial, ToName};
+use dns_name::{Labelled, ToName};
+use dns_numbers::{Rtype, Serial};
 use dns_rdata::{Record, StoredRecordData, ZoneRecordData};
 use dns_wire::{AdditionalBuilder, AnswerBuilder, MessageBuf, PushError};
 use std::alloc::Global;

@@ -1,6 +1,6 @@
 -- The kinds of transfer, and the types of question that ask for them (RFC 5936, 2.1; RFC 1995, 3).
 use Rattle.std.specs.Prelude.{ℕ, codes, Bool, true, false, ◌==◌, List, Option, Some, None, if◌then◌else◌}
-use Rattle.dns_name.specs.Codes.{type_axfr, type_ixfr}
+use Rattle.dns_numbers.specs.Codes.{type_axfr, type_ixfr}
 use Rattle.xfr_services.specs.declared.modes.XfrMode.{XfrMode}
 use Rattle.xfr_services.specs.declared.modes.XfrMode.TheVariants.{Axfr, Ixfr}
 

@@ -2,7 +2,7 @@
 ghost use Rattle.std.specs.Prelude.{◌≡◌};
 ghost use Rattle.xfr_services.specs.Modes as modes;
 
-use dns_name::Rtype;
+use dns_numbers::Rtype;
 use std::fmt;
 
 /// Which kind of transfer is asked for.

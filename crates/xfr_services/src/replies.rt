@@ -1,15 +1,11 @@
 // Replies without records.
-ghost use Rattle.std.specs.Prelude.{ℕ};
-ghost use Rattle.tsig_port.specs.ServerCheck.{Verdict, reply_to};
-ghost use Rattle.tsig_port.specs.States.{RefusalOf};
 ghost use Rattle.xfr_services.specs.Items.{Makes};
-ghost use Rattle.xfr_services.specs.Replying.{built, error_reply, error_replies, truncated_reply};
+ghost use Rattle.xfr_services.specs.Replying.{error_reply, error_replies, truncated_reply};
 
 use crate::services::{Replies, ServiceError};
-use dns_name::Rcode;
+use dns_numbers::Rcode;
 use dns_wire::{AdditionalBuilder, MessageBuf, MessageBuilder};
 use std::alloc::Global;
-use tsig_port::{KeyRef, ServerError};
 
 /// A reply without records: the request's id, opcode, RD and questions, and an rcode (RFC 1035, 4.1.1).
 pub fn error_reply(
@@ -30,18 +26,6 @@ pub fn refuse(alloc: Global, request: &MessageBuf, rcode: Rcode) -> Result<Repli
 {
     let reply = error_reply(alloc, request, rcode)?;
     Ok(Replies::single(alloc, reply)?)
-}
-
-/// The reply to a request that was refused for this (RFC 8945, 5.2; BADTRUNC unsigned).
-pub fn refusal_reply<K: KeyRef>(
-    alloc: Global,
-    refusal: ServerError<K>,
-    request: &MessageBuf,
-) -> Result<AdditionalBuilder, ServiceError>
-    ensures { (found : Verdict) (now : ℕ) → RefusalOf K.the_key found request.now now refusal → Makes (built (reply_to found request.now request.now now)) result }
-{
-    let builder = MessageBuilder::new(alloc)?;
-    Ok(refusal.build_message(&request.as_message(), builder)?)
 }
 
 /// A reply without records with NOERROR and TC, which says that the reply was cut (RFC 8945, 5.3).

@@ -3,7 +3,7 @@ ghost use Rattle.std.specs.Prelude.{◌≡◌, ◌+◌, min};
 ghost use Rattle.xfr_services.specs.Requests.{is_udp};
 
 use dns_wire::MessageBuf;
-use tsig_port::Time48;
+use tsig_rdata::Time48;
 
 /// How a request came.
 #[derive(Clone, Copy, Debug, PartialEq, Eq)]

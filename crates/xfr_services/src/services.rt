@@ -4,7 +4,7 @@ ghost use Rattle.xfr_services.specs.Items.{one_reply};
 
 use crate::replies;
 use crate::requests::Request;
-use dns_name::Rcode;
+use dns_numbers::Rcode;
 use dns_wire::{AdditionalBuilder, PushError};
 use std::alloc::{AllocError, Global};
 use std::collections::VecDeque;

@@ -1,7 +1,7 @@
 -- The message that says an answer (RFC 1035, 4.1; RFC 2181, 9).
 use Rattle.std.specs.Prelude.{◌≡◌, ℕ, ◌==◌, Bool, true, false, List, [], ◌∷◌, ◌++◌, find, Option, Some, None, unwrap_or, option_map, Result, Ok, Err, not, if◌then◌else◌}
 use Rattle.std.specs.Option.{option_map_or}
-use Rattle.dns_name.specs.Codes.{formerr}
+use Rattle.dns_numbers.specs.Codes.{formerr}
 use Rattle.dns_name.specs.Names.{Name}
 use Rattle.dns_rdata.specs.Records.{Record}
 use Rattle.dns_wire.specs.Wire.{Building, Header, Question, Message, header_in, qdcount_in, message_wire, fits}

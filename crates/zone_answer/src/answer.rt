@@ -5,7 +5,7 @@ ghost use Rattle.zone_answer.specs.declared.content.AnswerContent.TheVariants.{D
 
 use crate::content::AnswerContent;
 use crate::parts::{AnswerAdditional, AnswerAuthority};
-use dns_name::Rcode;
+use dns_numbers::Rcode;
 use std::marker::Model;
 use std::mem;
 use zone_values::{SharedRr, SharedRrset};

@@ -7,7 +7,8 @@ ghost use Rattle.zone_answer.specs.Sending.{record_at, set_at_name, content_reco
 
 use crate::content::AnswerContent;
 use crate::parts::AnswerAuthority;
-use dns_name::{Class, NameRef};
+use dns_name::NameRef;
+use dns_numbers::Class;
 use dns_rdata::{Record, StoredRecord};
 use dns_wire::{AdditionalBuilder, AnswerBuilder, AuthorityBuilder, PushError};
 use zone_values::{Rrset, SharedRr, SharedRrset};

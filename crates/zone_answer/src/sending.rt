@@ -8,7 +8,8 @@ ghost use Rattle.zone_answer.specs.Sending.{answers_of, required_of, discardable
 
 use crate::answer::Answer;
 use crate::sections::{push_content, push_records};
-use dns_name::{Labelled, ParsedName, Rcode};
+use dns_name::{Labelled, ParsedName};
+use dns_numbers::Rcode;
 use dns_rdata::StoredRecord;
 use dns_wire::{
     AdditionalBuilder, AnswerBuilder, AuthorityBuilder, Message, MessageBuilder, PushError,

@@ -13,17 +13,18 @@ use Rattle.zone_script.specs.Script.{script_of}
 use Rattle.zone_script.specs.ScriptReaders.{wire_readers}
 use Rattle.zone_script.specs.Keeping.{Gives}
 use Rattle.zone_script.specs.declared.script.Script.{Script}
-use Rattle.zone_sync.specs.SoFar.{Asking, asks_with}
-use Rattle.zone_sync.specs.Notices.{bad_line, is_reported}
-use Rattle.zone_sync.specs.Report.{report}
-use Rattle.zone_sync.specs.Reported.{NamesLine, Reports, Took, TookFirst, Wrote, status_by}
-use Rattle.zone_sync.specs.declared.outcome.SyncOk.{SyncOk}
-use Rattle.zone_sync.specs.declared.outcome.SyncError.{SyncError}
-use Rattle.zone_sync.specs.declared.outcome.SyncError.TheVariants as why
-use Rattle.zone_sync.specs.declared.program.Status.{Status}
-use Rattle.zone_sync.specs.declared.program.Status.TheVariants as ends
-use Rattle.zone_sync.proofs.ReportLaw.{reports_so, ends_reported}
-use Rattle.zone_sync.proofs.Dues.{along, first_part, not_sink, with_nothing, wrote_nothing}
+use Rattle.xfr_client.specs.SoFar.{Asking, asks_with}
+use Rattle.zone_script.specs.BadLines.{bad_line, NamesLine}
+use Rattle.zone_report.specs.Notices.{is_reported}
+use Rattle.zone_report.specs.Report.{report}
+use Rattle.zone_report.specs.ReportsWritten.{Reports, Took, TookFirst, Wrote, status_by}
+use Rattle.xfr_outcomes.specs.declared.outcome.SyncOk.{SyncOk}
+use Rattle.xfr_outcomes.specs.declared.outcome.SyncError.{SyncError}
+use Rattle.xfr_outcomes.specs.declared.outcome.SyncError.TheVariants as why
+use Rattle.zone_report.specs.declared.status.Status.{Status}
+use Rattle.zone_report.specs.declared.status.Status.TheVariants as ends
+use Rattle.zone_report.proofs.ReportedAnswers.{reports_so, ends_reported}
+use Rattle.zone_report.proofs.WrittenParts.{along, first_part, not_sink, with_nothing, wrote_nothing}
 use Rattle.zone_asking.specs.declared.errors.AskError.{AskError}
 use Rattle.zone_asking.specs.Answers.{sync_answer}
 use Rattle.zone_asking.specs.Limiting.{unlimited}

@@ -7,19 +7,19 @@ use Rattle.dns_message.specs.declared.message.ShortMessage.{ShortMessage}
 use Rattle.zone_model.specs.Commits.{Commit}
 use Rattle.zone_model.specs.Session.{Session}
 use Rattle.xfr_course.specs.Courses.{has_header, most_replies}
-use Rattle.xfr_client.specs.declared.protocol.Error.TheVariants as message
+use Rattle.xfr_outcomes.specs.declared.protocol.Error.TheVariants as message
 use Rattle.message_frames.specs.declared.reading.FrameError.{FrameError}
 use Rattle.message_frames.specs.declared.reading.FrameError.TheVariants as frame
-use Rattle.zone_sync.specs.SoFar.{Asking, client_so_far}
-use Rattle.zone_sync.specs.Standing.{ClientState, asking_of, Stands, RefusesReply, TakesReply}
-use Rattle.zone_sync.specs.Steps.{numbers_left}
-use Rattle.zone_sync.specs.Room.{AllHaveRoom, KeepsRoom, reply_updates, ReplyStopsAt}
-use Rattle.zone_sync.specs.Transfers.{HasShort, Transfers}
-use Rattle.zone_sync.specs.Transfers as over_link
-use Rattle.zone_sync.specs.declared.outcome.SyncOk.{SyncOk}
-use Rattle.zone_sync.specs.declared.outcome.SyncError.{SyncError}
-use Rattle.zone_sync.specs.declared.outcome.SyncError.TheVariants as why
-use Rattle.zone_sync.proofs.Replying.{no_end, no_link_fault, comes_later, refuses, finishes, link_fails, link_ends, memory_ends, too_many}
+use Rattle.xfr_client.specs.SoFar.{Asking, client_so_far}
+use Rattle.xfr_client.specs.Standing.{ClientState, asking_of, Stands, RefusesReply, TakesReply}
+use Rattle.xfr_client.specs.Steps.{numbers_left}
+use Rattle.xfr_client.specs.Room.{AllHaveRoom, KeepsRoom, reply_updates, ReplyStopsAt}
+use Rattle.xfr_client.specs.Transfers.{HasShort, Transfers}
+use Rattle.xfr_client.specs.Transfers as over_link
+use Rattle.xfr_outcomes.specs.declared.outcome.SyncOk.{SyncOk}
+use Rattle.xfr_outcomes.specs.declared.outcome.SyncError.{SyncError}
+use Rattle.xfr_outcomes.specs.declared.outcome.SyncError.TheVariants as why
+use Rattle.xfr_client.proofs.Replying.{no_end, no_link_fault, comes_later, refuses, finishes, link_fails, link_ends, memory_ends, too_many}
 use Rattle.zone_asking.specs.declared.limits.Limits.{Limits}
 use Rattle.zone_asking.specs.declared.limits.Limit as kinds
 use Rattle.zone_asking.specs.declared.errors.AskError.{AskError}

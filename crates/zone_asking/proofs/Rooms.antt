@@ -2,14 +2,14 @@
 use Rattle.std.proofs.Common.{◌≡◌, ℕ, Bool, true, List, [], ◌∷◌, ◌++◌, append_assoc, append-nil, refl, sym, ap, subst, Option, Some, Result, Ok, Err, inl, inr}
 use Rattle.zone_model.specs.Commits.{Commit}
 use Rattle.zone_model.specs.Session.{Session, rolled_back}
-use Rattle.zone_sync.specs.SoFar.{Asking, client_so_far}
-use Rattle.zone_sync.specs.Steps.{numbers_left}
-use Rattle.zone_sync.specs.Standing.{ClientState, asking_of, Stands}
-use Rattle.zone_sync.specs.Room.{AllHaveRoom, KeepsRoom, reply_updates, ReplyKeepsRoom, ReplyStopsAt}
-use Rattle.zone_sync.specs.declared.outcome.SyncOk.{SyncOk}
-use Rattle.zone_sync.specs.declared.outcome.SyncError.{SyncError}
-use Rattle.zone_sync.specs.declared.outcome.SyncError.TheVariants.{Memory}
-use Rattle.zone_sync.proofs.Clients.{made_rolled}
+use Rattle.xfr_client.specs.SoFar.{Asking, client_so_far}
+use Rattle.xfr_client.specs.Steps.{numbers_left}
+use Rattle.xfr_client.specs.Standing.{ClientState, asking_of, Stands}
+use Rattle.xfr_client.specs.Room.{AllHaveRoom, KeepsRoom, reply_updates, ReplyKeepsRoom, ReplyStopsAt}
+use Rattle.xfr_outcomes.specs.declared.outcome.SyncOk.{SyncOk}
+use Rattle.xfr_outcomes.specs.declared.outcome.SyncError.{SyncError}
+use Rattle.xfr_outcomes.specs.declared.outcome.SyncError.TheVariants.{Memory}
+use Rattle.xfr_client.proofs.Clients.{made_rolled}
 use Rattle.zone_asking.specs.Limiting.{RepliesHaveRoom, LastHadRoom, KeepsSets, AddsToFull}
 
 -- the updates of one reply

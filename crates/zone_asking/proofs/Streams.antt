@@ -12,8 +12,8 @@ use Rattle.message_frames.specs.Frames.{frame_of, frames_of, first_frame, frame_
 use Rattle.message_frames.specs.Passing.{Gives, TakesAtMost, IsCutOff, TakesWithinFrame}
 use Rattle.message_frames.specs.declared.reading.FrameError.{FrameError}
 use Rattle.message_frames.specs.declared.reading.FrameError.TheVariants as frame
-use Rattle.zone_sync.specs.declared.outcome.SyncOk.{SyncOk}
-use Rattle.zone_sync.specs.declared.outcome.SyncError.TheVariants.{Ended}
+use Rattle.xfr_outcomes.specs.declared.outcome.SyncOk.{SyncOk}
+use Rattle.xfr_outcomes.specs.declared.outcome.SyncError.TheVariants.{Ended}
 use Rattle.zone_asking.specs.declared.limits.Limits.{Limits}
 use Rattle.zone_asking.specs.declared.limits.Limit as kinds
 use Rattle.zone_asking.specs.declared.errors.AskError.{AskError}

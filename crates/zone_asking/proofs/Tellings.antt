@@ -1,9 +1,9 @@
 -- What an answer over streams tells.
 use Rattle.std.proofs.Common.{◌≡◌, ◌≢◌, ℕ, Bool, true, false, ◌==◌, if◌then◌else◌, List, [], ◌∷◌, ◌++◌, refl, sym, ap, ◌∙◌, eqb-true, Result, Ok, Err}
-use Rattle.xfr_client.specs.declared.protocol.Error.TheVariants as message
-use Rattle.zone_sync.specs.declared.outcome.SyncOk.{SyncOk}
-use Rattle.zone_sync.specs.declared.outcome.SyncError.{SyncError}
-use Rattle.zone_sync.specs.declared.outcome.SyncError.TheVariants as why
+use Rattle.xfr_outcomes.specs.declared.protocol.Error.TheVariants as message
+use Rattle.xfr_outcomes.specs.declared.outcome.SyncOk.{SyncOk}
+use Rattle.xfr_outcomes.specs.declared.outcome.SyncError.{SyncError}
+use Rattle.xfr_outcomes.specs.declared.outcome.SyncError.TheVariants as why
 use Rattle.zone_asking.specs.declared.errors.AskError.{AskError}
 use Rattle.zone_asking.specs.declared.errors.AskError.TheVariants.{Transfer, Response, Cut, SourceFault, SinkFault}
 use Rattle.zone_asking.specs.Answers.{sync_error, code_in, last_code, told_by, TellsCode}

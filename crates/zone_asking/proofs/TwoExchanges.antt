@@ -5,11 +5,11 @@ use Rattle.zone_model.specs.Version.{Version}
 use Rattle.zone_model.specs.Commits.{Commit}
 use Rattle.zone_model.specs.Session.{Session, commits_after}
 use Rattle.zone_devices.specs.Calls.{Rose}
-use Rattle.zone_sync.specs.SoFar.{Asking, asks_with, asked_id}
-use Rattle.zone_sync.specs.Steps.{HasMade, commit_after}
-use Rattle.zone_sync.specs.Handles.{KeepsHandles}
-use Rattle.zone_sync.proofs.Handles.{keeps_handles}
-use Rattle.zone_sync.specs.declared.outcome.SyncOk.{SyncOk}
+use Rattle.xfr_client.specs.SoFar.{Asking, asks_with, asked_id}
+use Rattle.xfr_client.specs.Steps.{HasMade, commit_after}
+use Rattle.xfr_client.specs.Handles.{KeepsHandles}
+use Rattle.xfr_client.proofs.Handles.{keeps_handles}
+use Rattle.xfr_outcomes.specs.declared.outcome.SyncOk.{SyncOk}
 use Rattle.zone_asking.specs.declared.limits.Limits.{Limits}
 use Rattle.zone_asking.specs.declared.errors.AskError.{AskError}
 use Rattle.zone_asking.specs.declared.errors.AskError.TheVariants.{SourceFault, SinkFault}

@@ -2,10 +2,10 @@
 use Rattle.std.specs.Prelude.{◌≡◌, ◌≢◌, Bool, true, false, ℕ, ◌==◌, if◌then◌else◌, List, [], ◌∷◌, Result, Ok, Err}
 use Rattle.dns_wire.specs.Wire.{header_in}
 use Rattle.xfr_course.specs.Courses.{has_header}
-use Rattle.xfr_client.specs.declared.protocol.Error.TheVariants.{NotValidXfrResponse}
-use Rattle.zone_sync.specs.declared.outcome.SyncOk.{SyncOk}
-use Rattle.zone_sync.specs.declared.outcome.SyncError.{SyncError}
-use Rattle.zone_sync.specs.declared.outcome.SyncError.TheVariants as why
+use Rattle.xfr_outcomes.specs.declared.protocol.Error.TheVariants.{NotValidXfrResponse}
+use Rattle.xfr_outcomes.specs.declared.outcome.SyncOk.{SyncOk}
+use Rattle.xfr_outcomes.specs.declared.outcome.SyncError.{SyncError}
+use Rattle.xfr_outcomes.specs.declared.outcome.SyncError.TheVariants as why
 use Rattle.zone_asking.specs.declared.errors.AskError.{AskError}
 use Rattle.zone_asking.specs.declared.errors.AskError.TheVariants.{Transfer, Response, Cut, Limit, FullSet, SourceFault, SinkFault}
 

@@ -5,11 +5,11 @@ use Rattle.zone_model.specs.Commits.{Commit}
 use Rattle.zone_model.specs.Session.{Session}
 use Rattle.zone_devices.specs.Streams.{with_more}
 use Rattle.message_frames.specs.Frames.{frame_of}
-use Rattle.zone_sync.specs.SoFar.{Asking, asked_octets, CanAsk, CantAsk}
-use Rattle.zone_sync.specs.Standing.{ClientState, Stands}
-use Rattle.zone_sync.specs.Transfers.{HasShort, Transfers}
-use Rattle.zone_sync.specs.declared.outcome.SyncOk.{SyncOk}
-use Rattle.zone_sync.specs.declared.outcome.SyncError.TheVariants as why
+use Rattle.xfr_client.specs.SoFar.{Asking, asked_octets, CanAsk, CantAsk}
+use Rattle.xfr_client.specs.Standing.{ClientState, Stands}
+use Rattle.xfr_client.specs.Transfers.{HasShort, Transfers}
+use Rattle.xfr_outcomes.specs.declared.outcome.SyncOk.{SyncOk}
+use Rattle.xfr_outcomes.specs.declared.outcome.SyncError.TheVariants as why
 use Rattle.zone_asking.specs.declared.limits.Limits.{Limits}
 use Rattle.zone_asking.specs.declared.errors.AskError.{AskError}
 use Rattle.zone_asking.specs.declared.errors.AskError.TheVariants.{Transfer, FullSet, SinkFault}

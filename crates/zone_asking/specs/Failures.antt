@@ -2,7 +2,7 @@
 use Rattle.std.specs.Prelude.{◌≡◌, ◌⊎◌}
 use Rattle.message_frames.specs.declared.reading.FrameError.{FrameError}
 use Rattle.message_frames.specs.declared.reading.FrameError.TheVariants as frame
-use Rattle.zone_sync.specs.declared.outcome.SyncError.TheVariants.{Memory}
+use Rattle.xfr_outcomes.specs.declared.outcome.SyncError.TheVariants.{Memory}
 use Rattle.zone_asking.specs.declared.limits.Limit as limits
 use Rattle.zone_asking.specs.declared.errors.AskError.{AskError}
 use Rattle.zone_asking.specs.declared.errors.AskError.TheVariants.{Transfer, Cut, Limit, SourceFault}

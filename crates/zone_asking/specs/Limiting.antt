@@ -4,9 +4,9 @@ use Rattle.dns_wire.specs.Wire.{ancount_in}
 use Rattle.xfr_course.specs.Courses.{has_header}
 use Rattle.zone_model.specs.Commits.{Commit}
 use Rattle.zone_model.specs.Session.{Session}
-use Rattle.zone_sync.specs.SoFar.{Asking, client_so_far}
-use Rattle.zone_sync.specs.Steps.{numbers_left}
-use Rattle.zone_sync.specs.Room.{AllHaveRoom, KeepsRoom, reply_updates, ReplyStopsAt}
+use Rattle.xfr_client.specs.SoFar.{Asking, client_so_far}
+use Rattle.xfr_client.specs.Steps.{numbers_left}
+use Rattle.xfr_client.specs.Room.{AllHaveRoom, KeepsRoom, reply_updates, ReplyStopsAt}
 use Rattle.zone_asking.specs.declared.limits.Limits.{Limits}
 use Rattle.zone_asking.specs.declared.limits.Limit.{Limit}
 use Rattle.zone_asking.specs.declared.limits.Limit.TheVariants.{Replies, Octets, Records}

@@ -3,10 +3,10 @@ use Rattle.std.specs.Prelude.{◌≡◌, ◌⊎◌, ◌||◌, ◌==◌, ◌+◌,
 use Rattle.zone_model.specs.Commits.{Commit}
 use Rattle.zone_model.specs.Session.{Session}
 use Rattle.zone_model.specs.TransferText.{Mode, Axfr, Ixfr}
-use Rattle.xfr_client.specs.declared.protocol.IterationError.TheVariants.{SingleSoaIxfrTcpRetrySignal}
-use Rattle.zone_sync.specs.SoFar.{Asking, asks_with, asked_id}
-use Rattle.zone_sync.specs.declared.outcome.SyncOk.{SyncOk}
-use Rattle.zone_sync.specs.declared.outcome.SyncError.TheVariants.{Iteration}
+use Rattle.xfr_outcomes.specs.declared.protocol.IterationError.TheVariants.{SingleSoaIxfrTcpRetrySignal}
+use Rattle.xfr_client.specs.SoFar.{Asking, asks_with, asked_id}
+use Rattle.xfr_outcomes.specs.declared.outcome.SyncOk.{SyncOk}
+use Rattle.xfr_outcomes.specs.declared.outcome.SyncError.TheVariants.{Iteration}
 use Rattle.zone_asking.specs.declared.limits.Limits.{Limits}
 use Rattle.zone_asking.specs.declared.errors.AskError.{AskError}
 use Rattle.zone_asking.specs.declared.errors.AskError.TheVariants.{Transfer, Response}

@@ -10,12 +10,13 @@ use Rattle.zone_script.specs.Script.{script_of, secondary_version}
 use Rattle.zone_script.specs.ScriptReaders.{wire_readers}
 use Rattle.zone_script.specs.Words.{form_of, Transfer}
 use Rattle.zone_script.specs.declared.script.Script as read_scripts
-use Rattle.zone_sync.specs.SoFar.{Asking, asks_with}
-use Rattle.zone_sync.specs.Notices.{fault_line, long_line, is_fault, is_reported}
-use Rattle.zone_sync.specs.Reported.{NamesLine, Reports}
-use Rattle.zone_sync.specs.declared.outcome.SyncOk.{SyncOk}
-use Rattle.zone_sync.specs.declared.program.Status.{Status}
-use Rattle.zone_sync.specs.declared.program.Status.TheVariants as ends
+use Rattle.xfr_client.specs.SoFar.{Asking, asks_with}
+use Rattle.zone_report.specs.Notices.{fault_line, long_line, is_fault, is_reported}
+use Rattle.zone_script.specs.BadLines.{NamesLine}
+use Rattle.zone_report.specs.ReportsWritten.{Reports}
+use Rattle.xfr_outcomes.specs.declared.outcome.SyncOk.{SyncOk}
+use Rattle.zone_report.specs.declared.status.Status.{Status}
+use Rattle.zone_report.specs.declared.status.Status.TheVariants as ends
 use Rattle.zone_asking.specs.declared.errors.AskError.{AskError}
 use Rattle.zone_asking.specs.Answers.{sync_answer}
 use Rattle.zone_asking.specs.Limiting.{unlimited}

@@ -4,8 +4,8 @@ use Rattle.dns_wire.specs.Wire.{id_in}
 use Rattle.xfr_course.specs.Courses.{has_header}
 use Rattle.message_frames.specs.Frames.{frames_of, cut_frames}
 use Rattle.message_frames.specs.Passing.{IsCutOff, TakesWithinFrame}
-use Rattle.zone_sync.specs.declared.outcome.SyncOk.{SyncOk}
-use Rattle.zone_sync.specs.declared.outcome.SyncError.TheVariants.{Ended, Memory}
+use Rattle.xfr_outcomes.specs.declared.outcome.SyncOk.{SyncOk}
+use Rattle.xfr_outcomes.specs.declared.outcome.SyncError.TheVariants.{Ended, Memory}
 use Rattle.zone_asking.specs.declared.limits.Limits.{Limits}
 use Rattle.zone_asking.specs.declared.limits.Limit.{Limit}
 use Rattle.zone_asking.specs.declared.errors.AskError.{AskError}

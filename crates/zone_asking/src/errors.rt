@@ -3,12 +3,11 @@ ghost use Rattle.std.specs.Prelude.{◌≡◌};
 ghost use Rattle.zone_asking.specs.Answers.{sync_error, sync_answer, told_by};
 
 use crate::limits::Limit;
-use dns_name::Rcode;
+use dns_numbers::Rcode;
 use message_frames::reading::FrameError;
 use message_frames::writing::WriteFrameError;
 use thiserror::Error;
-use xfr_client::protocol;
-use zone_sync::{SyncError, SyncOk};
+use xfr_outcomes::{SyncError, SyncOk, protocol};
 
 /// Why an exchange didn't end well. Nothing is pending then, and what was committed stays.
 #[derive(Clone, Copy, Debug, PartialEq, Eq, Error)]

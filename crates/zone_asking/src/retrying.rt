@@ -1,26 +1,26 @@
 //! A zone is asked for again, whole, where what is newer alone isn't to be had.
 ghost use Rattle.std.specs.Prelude.{◌≡◌, ◌≢◌, ◌%◌, ◌^◌, false, Err};
 ghost use Rattle.zone_devices.specs.Calls.{Rose};
-ghost use Rattle.zone_sync.specs.Modes.{mode_of};
+ghost use Rattle.xfr_outcomes.specs.Modes.{mode_of};
 ghost use Rattle.zone_model.specs.TransferText.{Ixfr};
-ghost use Rattle.zone_sync.specs.SoFar.{asks_with};
-ghost use Rattle.zone_sync.specs.Handles.{KeepsHandles};
+ghost use Rattle.xfr_client.specs.SoFar.{asks_with};
+ghost use Rattle.xfr_client.specs.Handles.{KeepsHandles};
 ghost use Rattle.zone_asking.specs.Exchanges.{crossing};
 ghost use Rattle.zone_asking.specs.Retries.{asks_again, refuses_ixfr, next_moment, ExchangesByRule};
 
 use crate::asking::{ask_passing_over, ask_zone};
 use crate::errors::AskError;
 use crate::limits::Limits;
-use dns_name::Rcode;
+use dns_numbers::Rcode;
 use std::alloc::Global;
 use tsig_port::{Key, Time48};
-use xfr_client::protocol::IterationError;
+use xfr_outcomes::protocol::IterationError;
+use xfr_outcomes::{SyncError, SyncOk};
 use xfr_services::XfrMode;
 use zone_devices::sinks::Sink;
 use zone_devices::sources::Source;
 use zone_reads::ReadZone;
 use zone_sessions::WriteZone;
-use zone_sync::{SyncError, SyncOk};
 
 /// Brings a zone up to date over a stream each way, as `ask_zone`. Where what is newer was asked for, and the primary answered by its SOA
 /// record alone with another serial (RFC 1995, 4), or by FORMERR, NOTIMP or REFUSED in a signed reply, the whole zone is asked for

@@ -1,7 +1,7 @@
 -- An edit of a draft at keys that were noted before: done or refused, the keys cover what the draft and its base differ in.
 use Rattle.std.proofs.Common.{◌≡◌, ℕ, ◌+◌, ◌%◌, ◌^◌, ◌==◌, length, Bool, true, false, not, ◌||◌, if◌then◌else◌, List, [], ◌∷◌, refl, sym, ap, ◌∙◌, subst, Option, Some, None, option_map, Result, Ok, Err, OnOk, OnErr}
 use Rattle.dns_name.specs.Names.{Name, fold, under}
-use Rattle.dns_name.specs.Codes.{type_ns, type_cname, type_soa, type_ds}
+use Rattle.dns_numbers.specs.Codes.{type_ns, type_cname, type_soa, type_ds}
 use Rattle.dns_rdata.specs.Records.{Field, Record}
 use Rattle.dns_rdata.specs.Soa.{serial_of, with_serial}
 use Rattle.std.specs.BTreeMap.{insert_entry}

@@ -1,7 +1,7 @@
 -- What a commit publishes of an edited version: the keys that are noted before cover what it and the base differ in.
 use Rattle.std.proofs.Common.{◌≡◌, List, sym, ap, ◌∙◌, subst, Option}
 use Rattle.dns_name.specs.Names.{fold}
-use Rattle.dns_name.specs.Codes.{type_soa}
+use Rattle.dns_numbers.specs.Codes.{type_soa}
 use Rattle.zone_model.specs.Version.{Key, Sets, Version}
 use Rattle.zone_model.specs.Edits.{bump, close}
 use Rattle.zone_changes.specs.Touched.{is_touched, noted, noted_all, noted_in, noted_all_in, stray_keys, CoversIn}

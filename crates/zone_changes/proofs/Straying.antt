@@ -5,7 +5,7 @@ use Rattle.std.specs.Cmp.{Equal-is, first_so, second_so, tied_itself}
 use Rattle.std.specs.Cmp.Derive.{both_true}
 use Rattle.std.specs.Map.{keys_of}
 use Rattle.dns_name.specs.Names.{Name, fold}
-use Rattle.dns_name.specs.Codes.{type_ns, type_ds}
+use Rattle.dns_numbers.specs.Codes.{type_ns, type_ds}
 use Rattle.zone_model.specs.Version.{RecordSet, Key, Sets, Version, IsValid, is_kept, key_cmp, set_in, set_at, below_apex}
 use Rattle.zone_model.proofs.Folded.{IsFolded, key_total, key_from_tie, fold-fold}
 use Rattle.zone_model.proofs.Steps.{below_alike}

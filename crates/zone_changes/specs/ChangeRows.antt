@@ -2,7 +2,7 @@
 use Rattle.std.specs.Prelude.{ℕ, List, [], ◌∷◌}
 use Rattle.zone_model.specs.Version.{Key, Sets, Version}
 use Rattle.zone_model.specs.ZoneRows.{e, t}
-use Rattle.dns_name.specs.Codes.{type_ns, type_ds}
+use Rattle.dns_numbers.specs.Codes.{type_ns, type_ds}
 use Rattle.zone_diffs.specs.DiffRows.{apex_soa, host_a, hosts, host, set, soa_set}
 
 -- the sets of a zone with this serial, whose host's addresses have this TTL

@@ -1,7 +1,7 @@
 -- A version that is edited, and the one that it began as.
 use Rattle.std.specs.Prelude.{◌≡◌}
 use Rattle.dns_name.specs.Names.{Name}
-use Rattle.dns_name.specs.Codes.{type_ns, type_cname, type_ds}
+use Rattle.dns_numbers.specs.Codes.{type_ns, type_cname, type_ds}
 use Rattle.zone_model.specs.Version.{Version, IsValid}
 use Rattle.zone_model.specs.Edits.{remove_set}
 

@@ -4,7 +4,7 @@ use Rattle.std.specs.List.{list_any}
 use Rattle.std.specs.BTreeSet.{insert_key}
 use Rattle.std.specs.Map.{keys_of}
 use Rattle.dns_name.specs.Names.{Name, under}
-use Rattle.dns_name.specs.Codes.{type_ns, type_ds}
+use Rattle.dns_numbers.specs.Codes.{type_ns, type_ds}
 use Rattle.zone_model.specs.Version.{Key, Sets, Version, key_cmp, has_key, set_in, set_at, below_apex}
 use Rattle.zone_versions.specs.Strays.{is_stray_at}
 

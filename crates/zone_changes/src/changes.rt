@@ -11,7 +11,7 @@ ghost use Rattle.zone_changes.specs.Touched.{Covers};
 ghost use Rattle.zone_changes.specs.Changes.{folded, with_lacked, has_record, lacked_of};
 
 use crate::touched::TouchedKeys;
-use dns_name::{Rtype, Serial, Ttl};
+use dns_numbers::{Rtype, Serial, Ttl};
 use dns_rdata::StoredRecordData;
 use std::alloc::{AllocError, Global};
 use zone_diffs::{DiffSets, InMemoryZoneDiff, is_upto, serial_of};

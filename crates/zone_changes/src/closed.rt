@@ -6,7 +6,7 @@ ghost use Rattle.zone_changes.specs.Touched.{CoversIn};
 ghost use Rattle.zone_changes.specs.Drafts.{BeganAs};
 
 use crate::tracked::TrackedKeys;
-use dns_name::Rtype;
+use dns_numbers::Rtype;
 use std::alloc::{AllocError, Global};
 use std::sync::Arc;
 use zone_sets::SetKey;

@@ -9,8 +9,8 @@ ghost use Rattle.zone_model.specs.Version.{Key, Sets, IsValid, all_differ};
 ghost use Rattle.zone_model.specs.Difference.{difference, diffable};
 ghost use Rattle.zone_model.specs.Edits as edits;
 ghost use Rattle.zone_model.specs.Edits.{add, delete, with_sets};
-ghost use Rattle.zone_nodes.specs.Held.{counted};
-ghost use Rattle.zone_nodes.specs.Trees.{built};
+ghost use Rattle.zone_versions.specs.Held.{counted};
+ghost use Rattle.zone_versions.specs.Trees.{built};
 ghost use Rattle.zone_versions.specs.Causes.{refusal_of};
 ghost use Rattle.zone_versions.specs.Puts.{StandsAt, without, with_soa};
 ghost use Rattle.zone_changes.specs.Touched.{is_touched, Covers};
@@ -18,7 +18,8 @@ ghost use Rattle.zone_changes.specs.Drafts.{draft, with_version, without_special
 
 use crate::closed::closed;
 use crate::tracked::TrackedKeys;
-use dns_name::{KeyName, Rtype, StoredName, Ttl};
+use dns_name::{KeyName, StoredName};
+use dns_numbers::{Rtype, Ttl};
 use dns_rdata::{Soa, StoredRecord, StoredRecordData};
 use std::alloc::{AllocError, Global};
 use std::marker::Model;

@@ -3,11 +3,12 @@ ghost use Rattle.std.specs.Prelude.{◌≡◌, [], ◌==◌, ◌&&◌, ◌||◌,
 ghost use Rattle.std.specs.List.{list_any};
 ghost use Rattle.std.specs.List.Sorted.{IsStrictlySortedBy};
 ghost use Rattle.dns_name.specs.Names.{under};
-ghost use Rattle.dns_name.specs.Codes.{type_ns, type_ds};
+ghost use Rattle.dns_numbers.specs.Codes.{type_ns, type_ds};
 ghost use Rattle.zone_model.specs.Version.{key_cmp, set_at, below_apex};
 ghost use Rattle.zone_changes.specs.Touched.{noted, noted_all, keys_below, stray_keys, is_stray_beside, Keeps};
 
-use dns_name::{KeyName, Labelled, Rtype, ToName};
+use dns_name::{KeyName, Labelled, ToName};
+use dns_numbers::Rtype;
 use std::alloc::{AllocError, Global};
 use std::collections::BTreeSet;
 use std::collections::btree_set::Iter;

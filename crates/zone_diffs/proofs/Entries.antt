@@ -9,7 +9,7 @@ use Rattle.zone_model.specs.Version.{RecordSet, Key, Sets, key_cmp, has_key, set
 use Rattle.zone_model.proofs.Folded.{key_from_tie}
 use Rattle.zone_values.specs.TypedSets.{TypedSet}
 use Rattle.zone_values.specs.TypedEntries.{entry_of, has_own_type}
-use Rattle.zone_sets.proofs.KeptTypes.{TypedEntries, absent_seen, all_insert, all_remove}
+use Rattle.zone_values.proofs.KeptTypes.{TypedEntries, absent_seen, all_insert, all_remove}
 use Rattle.zone_diffs.specs.Building.{put_at}
 use Rattle.zone_diffs.specs.Kept.{is_kept, holds_data}
 

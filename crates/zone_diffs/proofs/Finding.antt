@@ -1,10 +1,10 @@
 -- The first SOA set of some sets, and a set at an index.
 use Rattle.std.proofs.Common.{◌≡◌, ℕ, ◌==◌, Bool, true, false, cond, [], ◌∷◌, map, find, refl, ap, ◌∙◌, Option, Some, option_map}
-use Rattle.dns_name.specs.Codes.{type_soa}
+use Rattle.dns_numbers.specs.Codes.{type_soa}
 use Rattle.zone_model.specs.Version.{RecordSet, Key, Sets}
 use Rattle.zone_values.specs.TypedSets.{TypedSet}
 use Rattle.zone_values.specs.TypedEntries.{item_of}
-use Rattle.zone_sets.proofs.KeptTypes.{TypedEntries}
+use Rattle.zone_values.proofs.KeptTypes.{TypedEntries}
 use Rattle.zone_diffs.specs.Building.{first_serial, set_serial}
 
 -- the serial of the first SOA set, of sets with their type

@@ -6,8 +6,8 @@ use Rattle.std.specs.BTreeMap.{insert_entry}
 use Rattle.std.specs.Map.{remove_entry}
 use Rattle.dns_rdata.specs.Records.{same_data}
 use Rattle.dns_rdata.specs.Soa.{serial_of}
-use Rattle.dns_name.specs.Codes.{type_soa}
-use Rattle.dns_name.specs.Serial.{serial_upto}
+use Rattle.dns_numbers.specs.Codes.{type_soa}
+use Rattle.dns_numbers.specs.Serial.{serial_upto}
 use Rattle.zone_model.specs.Version.{RecordSet, Key, Sets, key_cmp, has_key, set_in, first_or_none}
 use Rattle.zone_model.specs.Edits.{distinct_set}
 use Rattle.zone_model.specs.Difference.{Difference, merged_set}

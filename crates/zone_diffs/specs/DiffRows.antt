@@ -1,7 +1,7 @@
 -- Sets of worked examples: an apex SOA and a host's addresses (RFC 1995, 7).
 use Rattle.std.specs.Prelude.{ℕ, List, [], ◌∷◌, length}
 use Rattle.std.specs.List.{sum_by}
-use Rattle.dns_name.specs.Codes.{type_a, type_soa, type_cname}
+use Rattle.dns_numbers.specs.Codes.{type_a, type_soa, type_cname}
 use Rattle.dns_rdata.specs.Records.{Field}
 use Rattle.dns_rdata.specs.Records.Field.{Octets, DomainName}
 use Rattle.zone_model.specs.Version.{RecordSet, Key, Sets}

@@ -1,14 +1,15 @@
 // A difference while it is built.
 ghost use Rattle.std.specs.Prelude.{◌≡◌, [], OnOk, OnErr};
 ghost use Rattle.dns_name.specs.Names.{fold};
-ghost use Rattle.dns_name.specs.Serial.{serial_upto};
+ghost use Rattle.dns_numbers.specs.Serial.{serial_upto};
 ghost use Rattle.zone_diffs.specs.Building.{taken_from, put_behind, lacked_by, added_to, removed_from, built};
 
 use crate::diff::InMemoryZoneDiff;
 use crate::errors::ZoneDiffError;
 use crate::rrsets::{lacked, merged};
 use crate::sets::DiffSets;
-use dns_name::{Rtype, Serial, StoredName};
+use dns_name::StoredName;
+use dns_numbers::{Rtype, Serial};
 use std::alloc::{AllocError, Global};
 use std::cmp::Ordering;
 use std::marker::Model;

@@ -8,7 +8,8 @@ ghost use Rattle.zone_diffs.specs.Building.{no_difference};
 
 use crate::sets::DiffSets;
 use crate::traits::ZoneDiff;
-use dns_name::{Labelled, Rtype, Serial};
+use dns_name::Labelled;
+use dns_numbers::{Rtype, Serial};
 use std::alloc::AllocError;
 use std::marker::Model;
 use zone_sets::SetKey;

@@ -12,7 +12,7 @@ ghost use Rattle.zone_values.specs.TypedEntries.{item_of, typed_set_in};
 ghost use Rattle.zone_diffs.specs.Building.{put_at, first_serial, set_serial};
 ghost use Rattle.zone_diffs.specs.Kept.{holds_data};
 
-use dns_name::{Rtype, Serial};
+use dns_numbers::{Rtype, Serial};
 use dns_rdata::{StoredRecordData, ZoneRecordData};
 use std::alloc::{AllocError, Global};
 use std::collections::BTreeMap;

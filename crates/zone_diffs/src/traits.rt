@@ -11,7 +11,8 @@ ghost use Rattle.zone_values.specs.TypedSets.{TypedSet};
 ghost use Rattle.zone_values.specs.TypedEntries.{item_of, typed_set_in};
 ghost use Rattle.zone_diffs.specs.Kept.{holds_data};
 
-use dns_name::{Labelled, Rtype, Serial};
+use dns_name::Labelled;
+use dns_numbers::{Rtype, Serial};
 use zone_sets::SetKey;
 use zone_values::SharedRrset;
 

@@ -2,7 +2,8 @@
 ghost use Rattle.std.specs.Prelude.{◌≡◌, option_copied};
 ghost use Rattle.zone_errors.specs.Owners.{owner_in};
 
-use dns_name::{Class, Rtype, StoredName};
+use dns_name::StoredName;
+use dns_numbers::{Class, Rtype};
 use dns_rdata::StoredRecord;
 use std::alloc::AllocError;
 use std::fmt;

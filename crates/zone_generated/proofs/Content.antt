@@ -15,7 +15,7 @@ use Rattle.std.proofs.lemmas.Map.Keys.{sorted_tail}
 use Rattle.std.proofs.lemmas.Map.Entries.{none_below_head}
 use Rattle.dns_name.specs.Names as names
 use Rattle.dns_name.specs.Names.{name_wire, is_name, under}
-use Rattle.dns_name.specs.Codes.{type_cname, type_soa, type_ds}
+use Rattle.dns_numbers.specs.Codes.{type_cname, type_soa, type_ds}
 use Rattle.dns_name.specs.Records.{Field, Record, same_data, is_data, data_wire}
 use Rattle.zone_model.specs.Version.{RecordSet, Key, Sets, Version, key_cmp, set_in, below_apex, all_differ, is_kept}
 use Rattle.zone_model.specs.Edits.{with_sets, remove_set, distinct}

@@ -5,7 +5,7 @@ use Rattle.std.proofs.lemmas.List.{length-map}
 use Rattle.std.proofs.lemmas.List.Sums.{sum_by-cons}
 use Rattle.dns_name.specs.Octets.{u16_octets, u32_octets}
 use Rattle.dns_name.specs.Names.{Name, name_wire, is_name, same_name}
-use Rattle.dns_name.specs.Codes.{type_soa}
+use Rattle.dns_numbers.specs.Codes.{type_soa}
 use Rattle.dns_name.specs.Records.{Field, Record, data_wire, record_wire}
 use Rattle.zone_model.specs.Version.{RecordSet, Key, Sets}
 use Rattle.zone_model.specs.Walk.{shown_owner}

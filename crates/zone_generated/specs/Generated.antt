@@ -2,7 +2,7 @@
 use Rattle.std.specs.Prelude.{ℕ, zero, suc, ◌+◌, ◌*◌, ◌/◌, ◌%◌, ◌^◌, List, [], ◌∷◌, ◌++◌, map, replicate, fold as fold_list, codes, decimal}
 use Rattle.dns_name.specs.Names.{Name}
 use Rattle.dns_name.specs.Octets.{u32_octets}
-use Rattle.dns_name.specs.Codes.{type_a, type_ns, type_soa, class_in}
+use Rattle.dns_numbers.specs.Codes.{type_a, type_ns, type_soa, class_in}
 use Rattle.dns_name.specs.Records.{Field, Octets, DomainName, Record}
 use Rattle.tsig_keys.specs.Hmac.{block_key}
 use Rattle.tsig_keys.specs.TsigKeys.{TsigKey}

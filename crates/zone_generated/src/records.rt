@@ -7,7 +7,8 @@ ghost use Rattle.zone_generated.specs.Generated.{zone_name, server_name, soa_rec
 
 use crate::draws::{host_address, host_label};
 use bytes::Bytes;
-use dns_name::{Class, NameRef, Serial, StoredName, Ttl};
+use dns_name::{NameRef, StoredName};
+use dns_numbers::{Class, Serial, Ttl};
 use dns_rdata::{A, Ns, Record, Soa, StoredRecord, StoredRecordData, ZoneRecordData};
 use std::alloc::{AllocError, Global};
 
@@ -73,7 +74,7 @@ fn record_of(owner: StoredName, data: StoredRecordData) -> StoredRecord
 }
 
 /// The SOA record of the apex: its two names are the root, its serial is 1, and each of its times 0.
-#[tactic(auto, unfolding(rdata_types::specs::DataFields::soa_times))]
+#[tactic(auto, unfolding(dns_rdata::specs::DataFields::soa_times))]
 pub(crate) fn soa(alloc: Global) -> Result<StoredRecord, AllocError>
     ensures { IfOk result (λ r. r ≡ soa_record) }
 {

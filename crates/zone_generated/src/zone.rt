@@ -1,14 +1,14 @@
 // The zone, record by record.
 ghost use Rattle.std.specs.Prelude.{◌≡◌, ◌==◌, ◌<◌, ◌≤◌, IfOk, OnOk, true, false};
 ghost use Rattle.dns_name.specs.Names.{under};
-ghost use Rattle.dns_name.specs.Codes.{type_cname};
+ghost use Rattle.dns_numbers.specs.Codes.{type_cname};
 ghost use Rattle.zone_model.specs.Classify.{opened_with};
 ghost use Rattle.zone_generated.specs.Generated as generated;
 ghost use Rattle.zone_generated.specs.Generated.{zone_name};
 
 use crate::draws::draws_by_owner;
 use crate::records::{apex, host_record, ns, soa};
-use dns_name::Class;
+use dns_numbers::Class;
 use dns_rdata::StoredRecord;
 use std::alloc::{AllocError, Global};
 use zone_sessions::{InsertError, ZoneApex, ZoneBuilder};

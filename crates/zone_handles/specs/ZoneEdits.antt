@@ -2,7 +2,7 @@
 use Rattle.std.specs.Prelude.{ℕ, Bool, true, ◌&&◌, ◌==◌, nat_lt, not, if◌then◌else◌, List, [], ◌∷◌, length, Option, Some, None, is_some, Result, Ok, option_map}
 use Rattle.std.specs.Option.{option_map_or}
 use Rattle.dns_name.specs.Names.{Name, name_wire}
-use Rattle.dns_name.specs.Codes.{type_ns, type_cname, type_ds}
+use Rattle.dns_numbers.specs.Codes.{type_ns, type_cname, type_ds}
 use Rattle.dns_rdata.specs.DataFields.{soa_fields}
 use Rattle.zone_model.specs.Version.{RecordSet, Version, below_apex}
 use Rattle.zone_model.specs.Edits.{Refusal, add, delete, with_sets, remove_set, replace_set, clear, make_plain, make_alias, make_cut}

@@ -3,7 +3,8 @@ ghost use Rattle.std.specs.Prelude.{◌≡◌, ◌&&◌, ◌==◌, IfOk};
 ghost use Rattle.dns_name.specs.Names.{same_name};
 
 use crate::zones::{Zone, ZoneStore};
-use dns_name::{ParsedName, Serial, ToName};
+use dns_name::{ParsedName, ToName};
+use dns_numbers::Serial;
 use dns_wire::Question;
 use std::alloc::{AllocError, Global};
 use xfr_providers::{StoredZone, XfrData, XfrDataProvider, XfrDataProviderError, current_data};

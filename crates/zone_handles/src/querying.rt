@@ -2,7 +2,8 @@
 ghost use Rattle.zone_handles.specs.Queries.{Queried};
 
 use crate::errors::QueryError;
-use dns_name::{Rtype, ToName};
+use dns_name::ToName;
+use dns_numbers::Rtype;
 use std::alloc::Global;
 use zone_answer::Answer;
 use zone_lookup::look_up;

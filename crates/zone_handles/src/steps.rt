@@ -8,7 +8,8 @@ ghost use Rattle.zone_handles.specs.declared.steps.Step.{Step};
 
 use crate::errors::AskError;
 use crate::zone_edits::{ZoneEdit, make_edit};
-use dns_name::{Rtype, ToName};
+use dns_name::ToName;
+use dns_numbers::Rtype;
 use std::alloc::{AllocError, Global};
 use zone_lookup::{AnswerRef, look_up};
 use zone_reads::ReadZone;

@@ -9,7 +9,8 @@ ghost use Rattle.dns_rdata.specs.DataFields.{soa_fields};
 ghost use Rattle.zone_handles.specs.ZoneEdits.{edited, edited_at, edited_node, reached, can_change, is_cut};
 ghost use Rattle.zone_handles.specs.declared.zone_edits.NodeEdit.{NodeEdit};
 
-use dns_name::{OwnedLabel, Rtype, StoredName, Ttl};
+use dns_name::{OwnedLabel, StoredName};
+use dns_numbers::{Rtype, Ttl};
 use dns_rdata::{Soa, StoredRecord};
 use std::alloc::Global;
 use zone_sessions::{CommitError, EditError, NodeError, WriteNode, WriteZone};

@@ -2,7 +2,8 @@
 ghost use Rattle.std.specs.Prelude.{◌≡◌, false};
 
 use crate::stores::ReadableZone;
-use dns_name::{Class, StoredName};
+use dns_name::StoredName;
+use dns_numbers::Class;
 use std::alloc::{AllocError, Global};
 use std::marker::Model;
 use zone_reads::ReadZone;

@@ -2,7 +2,7 @@
 use Rattle.std.proofs.Common.{◌≡◌, ℕ, List, [], ◌∷◌, length, refl, ap, ◌∙◌, Option, Some, None, option_map}
 use Rattle.std.specs.Option.{option_map_or}
 use Rattle.dns_name.specs.Names.{Name}
-use Rattle.dns_name.specs.Codes.{type_cname, type_soa}
+use Rattle.dns_numbers.specs.Codes.{type_cname, type_soa}
 use Rattle.dns_rdata.specs.Records.{Field}
 use Rattle.dns_wire.specs.Wire.{Question}
 use Rattle.zone_model.specs.Version.{Version, RecordSet, set_at}

@@ -2,7 +2,7 @@
 use Rattle.std.proofs.Common.{◌≡◌, ℕ, ◌==◌, Bool, true, false, ◌&&◌, cond, refl, sym, ap, ◌∙◌, true≢false, Option, Some, None, is_some, unwrap_or}
 use Rattle.std.specs.Prelude.{[]}
 use Rattle.dns_name.specs.Names.{Name, fold, same_name}
-use Rattle.dns_name.specs.Codes.{type_ns, type_ds}
+use Rattle.dns_numbers.specs.Codes.{type_ns, type_ds}
 use Rattle.zone_model.specs.Version.{RecordSet, Version, set_at, below_apex, is_cut}
 use Rattle.zone_model.specs.Answer.{Answer, at_cut, set_or_no_data}
 use Rattle.zone_model.specs.Answer.Answer.{Referral}

@@ -1,7 +1,7 @@
 -- What a version lends for a question.
 use Rattle.std.specs.Prelude.{◌≡◌, ℕ, Option, Some, None, IfSome, option_map, option_copied}
 use Rattle.dns_name.specs.Names.{Name}
-use Rattle.dns_name.specs.Codes.{type_ns, type_cname, type_ds}
+use Rattle.dns_numbers.specs.Codes.{type_ns, type_cname, type_ds}
 use Rattle.zone_model.specs.Version.{Version}
 use Rattle.zone_model.specs.Answer.{Answer}
 use Rattle.zone_model.specs.Answer.Answer.{Referral as ReferralOf, Alias as AliasOf, Found as FoundOf, NoData as NoDataOf, NameError as NameErrorOf}

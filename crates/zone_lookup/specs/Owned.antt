@@ -1,6 +1,6 @@
 -- The answer of a version as a reply that owns its records (RFC 1034, 4.3.2).
 use Rattle.std.specs.Prelude.{◌≡◌, ℕ, [], length, Option, Some, None, option_map}
-use Rattle.dns_name.specs.Codes.{type_ns, type_cname, type_soa, type_ds}
+use Rattle.dns_numbers.specs.Codes.{type_ns, type_cname, type_soa, type_ds}
 use Rattle.zone_model.specs.Version.{Version, RecordSet, set_at}
 use Rattle.zone_model.specs.Answer.{Answer, rcode_of, is_authoritative, glue_section}
 use Rattle.zone_model.specs.Answer.Answer.{Referral, Alias, Found, NoData, NameError}

@@ -4,7 +4,8 @@ ghost use Rattle.zone_model.specs.Answer.{answer_section, authority_section, glu
 ghost use Rattle.zone_lookup.specs.Answers.{answer_of, answered_by, cut_of, HasItsTypes, servers_of, set_found, signer_of, type_found};
 
 use crate::content::{Content, LentAnswer};
-use dns_name::{KeyName, Labelled, Rcode, Rtype};
+use dns_name::{KeyName, Labelled};
+use dns_numbers::{Rcode, Rtype};
 use std::marker::Model;
 use zone_parts::{AnswerRecords, SetRecords, apex_soa};
 use zone_values::Rrset;

@@ -1,12 +1,13 @@
 // The kinds of answer, lent.
 ghost use Rattle.std.specs.Prelude.{◌≡◌, IfSome, option_copied};
-ghost use Rattle.dns_name.specs.Codes.{type_ns, type_cname, type_ds};
+ghost use Rattle.dns_numbers.specs.Codes.{type_ns, type_cname, type_ds};
 ghost use Rattle.zone_model.specs.Answer.{set_or_no_data};
 ghost use Rattle.zone_model.specs.Answer.Answer.{Referral, Alias, NameError};
 ghost use Rattle.zone_values.specs.TypedEntries.{untyped};
 ghost use Rattle.zone_lookup.specs.Answers.{answer_of, HasItsTypes};
 
-use dns_name::{KeyName, Rtype};
+use dns_name::KeyName;
+use dns_numbers::Rtype;
 use std::marker::Model;
 use zone_values::Rrset;
 

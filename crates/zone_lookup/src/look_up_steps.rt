@@ -5,7 +5,8 @@ ghost use Rattle.zone_model.specs.Version.{IsValid, exists, is_cut};
 ghost use Rattle.zone_model.specs.Answer.{answer, answer_at, alias_at, at_cut, closest_encloser, first_set, from_wildcard, highest_cut, own_sets, sets_of};
 
 use crate::content::LentAnswer;
-use dns_name::{KeyName, NameOctets, NameRef, Rtype, ToName};
+use dns_name::{KeyName, NameOctets, NameRef, ToName};
+use dns_numbers::Rtype;
 use zone_parts::exists;
 use zone_versions::ZoneVersion;
 

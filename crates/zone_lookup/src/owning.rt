@@ -8,7 +8,8 @@ ghost use Rattle.zone_lookup.specs.Owned.{additional_for, alias_content, authori
 
 use crate::answer_ref::AnswerRef;
 use crate::content::Content;
-use dns_name::{KeyName, Labelled, Rcode, Rtype};
+use dns_name::{KeyName, Labelled};
+use dns_numbers::{Rcode, Rtype};
 use std::alloc::{AllocError, Global};
 use zone_answer::{Answer, AnswerAdditional, AnswerAuthority, AnswerContent};
 use zone_parts::{AnswerRecords, own_option, own_records, own_set};

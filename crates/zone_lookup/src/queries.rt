@@ -1,7 +1,8 @@
 // Questions that are kept, to be asked of a version later.
 ghost use Rattle.std.specs.Prelude.{◌≡◌, ◌++◌, ◌∷◌, [], OnOk, OnErr};
 
-use dns_name::{Rtype, StoredName};
+use dns_name::StoredName;
+use dns_numbers::Rtype;
 use std::alloc::{AllocError, Global};
 use std::marker::Model;
 

@@ -6,7 +6,8 @@ ghost use Rattle.zone_lookup.specs.Answers.{answered_by};
 
 use crate::answer_ref::AnswerRef;
 use crate::look_up_steps::answer;
-use dns_name::{Rtype, ToName};
+use dns_name::ToName;
+use dns_numbers::Rtype;
 use zone_reads::ReadZone;
 use zone_values::OutOfZone;
 

@@ -7,8 +7,8 @@ use Rattle.std.specs.Cmp.Derive.{both_true}
 use Rattle.std.specs.BTreeMap.{insert_entry}
 use Rattle.dns_name.specs.Names.{Name, fold}
 use Rattle.dns_name.specs.Records.{Field, Record, same_data}
-use Rattle.rdata_types.specs.Soa.{serial_of}
-use Rattle.dns_name.specs.Codes.{type_soa}
+use Rattle.dns_name.specs.Soa.{serial_of}
+use Rattle.dns_numbers.specs.Codes.{type_soa}
 use Rattle.zone_model.specs.Version.{RecordSet, Key, Sets, Version, IsValid, Same, key_cmp, set_in, set_at, first_or_none, apex_soa}
 use Rattle.zone_model.specs.Answer.{records_of, apex_soa_record}
 use Rattle.zone_model.specs.Walk.{shown_owner}

@@ -5,7 +5,7 @@ use Rattle.std.specs.Cmp.{first_so, second_so}
 use Rattle.std.specs.Cmp.Derive.{both_true}
 use Rattle.dns_name.specs.Names.{Name, fold}
 use Rattle.dns_name.specs.Records.{Field, same_data}
-use Rattle.dns_name.specs.Codes.{type_cname}
+use Rattle.dns_numbers.specs.Codes.{type_cname}
 use Rattle.zone_model.specs.Version.{RecordSet, Key, Version, IsValid, set_in, below_apex, all_differ}
 use Rattle.zone_model.specs.Edits.{with_sets, add_all, delete_all, and_then}
 use Rattle.zone_model.specs.Difference.{Difference, difference, condensed, records_in, apply_difference}

@@ -6,7 +6,7 @@ use Rattle.std.specs.BTreeMap.{insert_entry}
 use Rattle.std.proofs.lemmas.List.Elements.{filter-append}
 use Rattle.dns_name.specs.Names.{Name, fold}
 use Rattle.dns_name.specs.Records.{Field, Record}
-use Rattle.dns_name.specs.Codes.{type_soa}
+use Rattle.dns_numbers.specs.Codes.{type_soa}
 use Rattle.zone_model.specs.Version.{RecordSet, Key, Sets, Version, IsValid, key_cmp, set_in}
 use Rattle.zone_model.specs.Answer.{records_of}
 use Rattle.zone_model.specs.Walk.{shown_owner}

@@ -6,7 +6,7 @@ use Rattle.std.specs.Cmp.{first_so, second_so, nat_eq_equiv}
 use Rattle.std.specs.Cmp.Derive.{both_true}
 use Rattle.dns_name.specs.Names.{Name, fold, under}
 use Rattle.dns_name.specs.Records.{Field, same_data}
-use Rattle.dns_name.specs.Codes.{type_cname}
+use Rattle.dns_numbers.specs.Codes.{type_cname}
 use Rattle.zone_model.specs.Version.{RecordSet, Key, Sets, Version, IsValid, key_cmp, set_in, below_apex, all_differ}
 use Rattle.zone_model.specs.Edits.{with_sets, add_all, delete_all}
 use Rattle.zone_model.proofs.Folded.{key_total, key_from_tie}

@@ -6,7 +6,7 @@ use Rattle.std.specs.Map.{keys_of}
 use Rattle.std.proofs.lemmas.Map.Keys.{sorted_head}
 use Rattle.dns_name.specs.Names.{fold}
 use Rattle.dns_name.specs.Records.{Field, Record}
-use Rattle.dns_name.specs.Codes.{type_soa}
+use Rattle.dns_numbers.specs.Codes.{type_soa}
 use Rattle.zone_model.specs.Version.{RecordSet, Key, Sets, Version, key_cmp}
 use Rattle.zone_model.specs.Answer.{records_of}
 use Rattle.zone_model.specs.Walk.{shown_owner}

@@ -6,7 +6,7 @@ use Rattle.std.specs.Map.{keys_of}
 use Rattle.std.proofs.lemmas.Map.Keys.{sorted_tail}
 use Rattle.dns_name.specs.Names.{Name, fold, under, same_name}
 use Rattle.dns_name.specs.Records.{Field, Record}
-use Rattle.dns_name.specs.Codes.{type_cname}
+use Rattle.dns_numbers.specs.Codes.{type_cname}
 use Rattle.zone_model.specs.Version.{RecordSet, Key, Sets, Version, key_cmp, set_in, below_apex}
 use Rattle.zone_model.specs.Answer.{records_of}
 use Rattle.zone_model.specs.Walk.{shown_owner}

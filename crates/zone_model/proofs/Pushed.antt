@@ -5,8 +5,8 @@ use Rattle.std.specs.List.{AllByRecursion, last_or, list_any}
 use Rattle.std.specs.Cmp.{first_so, second_so, nat_eq_equiv}
 use Rattle.std.specs.Cmp.Derive.{both_true}
 use Rattle.dns_name.specs.Records.{Field}
-use Rattle.rdata_types.specs.Soa.{serial_of}
-use Rattle.dns_name.specs.Serial.{serial_upto, serial_lt}
+use Rattle.dns_name.specs.Soa.{serial_of}
+use Rattle.dns_numbers.specs.Serial.{serial_upto, serial_lt}
 use Rattle.zone_model.specs.Version.{Version, apex_soa}
 use Rattle.zone_model.specs.Difference.{Difference, difference, diffable, both_serials, zone_serial}
 use Rattle.zone_model.specs.Offer.{first_is, IsHistory, offer_of, successive, all_diffable, all_distinct, has_start, after_serial, from_serial}

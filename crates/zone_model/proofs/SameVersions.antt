@@ -8,7 +8,7 @@ use Rattle.std.specs.List.Sorted.{IsStrictlySortedBy}
 use Rattle.std.specs.Map.{keys_of}
 use Rattle.dns_name.specs.Names.{Name, fold}
 use Rattle.dns_name.specs.Records.{Field, same_data}
-use Rattle.dns_name.specs.Codes.{type_ds, type_ns}
+use Rattle.dns_numbers.specs.Codes.{type_ds, type_ns}
 use Rattle.zone_model.specs.Version.{RecordSet, Key, Sets, Version, IsValid, Same, key_cmp, set_in, set_at, below_apex, same_items, same_entry, same_version}
 use Rattle.zone_model.specs.Edits.{with_sets, is_stray, close}
 use Rattle.dns_name.specs.SameData.{same_data_equiv}

@@ -4,7 +4,7 @@ use Rattle.std.specs.Cmp.{first_so, second_so}
 use Rattle.std.specs.Cmp.Lexicographic.{bytes_decides}
 use Rattle.dns_name.specs.Names.{fold}
 use Rattle.dns_name.specs.Records.{Field, Octets, DomainName, same_field, same_data}
-use Rattle.rdata_types.specs.Soa.{serial_of}
+use Rattle.dns_name.specs.Soa.{serial_of}
 use Rattle.zone_model.proofs.Folded.{same_name-Decides}
 
 -- a field with its name in lower case

@@ -9,7 +9,7 @@ use Rattle.std.specs.BTreeMap.{insert_entry}
 use Rattle.std.specs.Map.{keys_of, remove_entry}
 use Rattle.dns_name.specs.Names.{Name, fold, under}
 use Rattle.dns_name.specs.Records.{Field, Record, same_data}
-use Rattle.dns_name.specs.Codes.{type_cname}
+use Rattle.dns_numbers.specs.Codes.{type_cname}
 use Rattle.zone_model.specs.Version.{RecordSet, Key, Sets, Version, key_cmp, has_key, set_in, below_apex, all_differ}
 use Rattle.zone_model.specs.Answer.{records_of}
 use Rattle.zone_model.specs.Edits.{Refusal, OutOfZone, Incompatible, InvalidData, with_sets, put_set, remove_set, has_data, second_alias, add, delete, add_all, delete_all, and_then}

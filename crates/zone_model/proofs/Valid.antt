@@ -7,7 +7,7 @@ use Rattle.std.specs.Map.{keys_of}
 use Rattle.std.proofs.lemmas.List.Sums.{sum_by-cons}
 use Rattle.dns_name.specs.Names.{fold, under}
 use Rattle.dns_name.specs.Records.{Field}
-use Rattle.dns_name.specs.Codes.{type_soa, type_cname, type_ds, type_ns}
+use Rattle.dns_numbers.specs.Codes.{type_soa, type_cname, type_ds, type_ns}
 use Rattle.zone_model.specs.Version.{RecordSet, Key, Sets, Version, IsValid, key_cmp, set_in, set_at, in_zone, below_apex, all_differ, is_kept, has_one_soa}
 use Rattle.zone_model.proofs.Folded.{IsFolded, key_from_tie, fold-fold}
 use Rattle.zone_model.proofs.Steps.{Good, set_of, items_of}

@@ -8,7 +8,7 @@ use Rattle.std.specs.Map.{keys_of}
 use Rattle.std.proofs.lemmas.List.Elements.{filter-append}
 use Rattle.dns_name.specs.Names.{Name, fold, same_name, under}
 use Rattle.dns_name.specs.Records.{Field, Record, same_data}
-use Rattle.dns_name.specs.Codes.{type_soa, type_cname, type_ds, type_ns}
+use Rattle.dns_numbers.specs.Codes.{type_soa, type_cname, type_ds, type_ns}
 use Rattle.zone_model.specs.Version.{RecordSet, Key, Sets, Version, IsValid, key_cmp, set_in, set_at, below_apex}
 use Rattle.zone_model.specs.Answer.{highest_cut, records_of, records_of_option, apex_soa_record, first_only}
 use Rattle.zone_model.specs.Walk.{Stop, shown_owner}

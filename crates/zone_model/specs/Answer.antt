@@ -3,7 +3,7 @@ use Rattle.std.specs.Prelude.{ℕ, Bool, true, false, ◌&&◌, ◌||◌, ◌==�
 use Rattle.std.specs.Cmp.Lexicographic.{pointwise}
 use Rattle.dns_name.specs.Names.{Name, fold, same_name, under, upwards, wildcard_below}
 use Rattle.dns_name.specs.Records.{Field, DomainName, Record}
-use Rattle.dns_name.specs.Codes.{type_a, type_ns, type_cname, type_soa, type_aaaa, type_ds, type_any}
+use Rattle.dns_numbers.specs.Codes.{type_a, type_ns, type_cname, type_soa, type_aaaa, type_ds, type_any}
 use Rattle.zone_model.specs.Version.{RecordSet, Key, Version, set_at, below_apex, exists, is_cut}
 
 -- the five kinds of answer (RFC 1034, 4.3.2; RFC 2308, 2)

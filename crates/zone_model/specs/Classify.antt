@@ -3,7 +3,7 @@ use Rattle.std.specs.Prelude.{ℕ, Bool, true, false, ◌&&◌, ◌||◌, not, �
 use Rattle.std.specs.Option.{option_map_or, option_or}
 use Rattle.dns_name.specs.Names.{Name, same_name, under}
 use Rattle.dns_name.specs.Records.{Record}
-use Rattle.dns_name.specs.Codes.{type_a, type_ns, type_cname, type_aaaa, type_ds}
+use Rattle.dns_numbers.specs.Codes.{type_a, type_ns, type_cname, type_aaaa, type_ds}
 use Rattle.zone_model.specs.Version.{RecordSet, Version, set_at, data_at}
 use Rattle.zone_model.specs.Edits.{put_set, distinct}
 

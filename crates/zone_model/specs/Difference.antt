@@ -4,8 +4,8 @@ use Rattle.std.specs.Option.{option_map_or}
 use Rattle.std.specs.List.{list_any}
 use Rattle.std.specs.BTreeMap.{insert_entry}
 use Rattle.dns_name.specs.Records.{Field, Record, same_data}
-use Rattle.rdata_types.specs.Soa.{serial_of}
-use Rattle.dns_name.specs.Serial.{serial_upto}
+use Rattle.dns_name.specs.Soa.{serial_of}
+use Rattle.dns_numbers.specs.Serial.{serial_upto}
 use Rattle.zone_model.specs.Version.{RecordSet, Key, Sets, Version, key_cmp, set_in, apex_soa}
 use Rattle.zone_model.specs.Answer.{records_of}
 use Rattle.zone_model.specs.Edits.{Refusal, add_all, delete_all, and_then}

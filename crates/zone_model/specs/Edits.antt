@@ -6,8 +6,8 @@ use Rattle.std.specs.BTreeMap.{insert_entry}
 use Rattle.std.specs.Map.{remove_entry}
 use Rattle.dns_name.specs.Names.{Name, fold, under}
 use Rattle.dns_name.specs.Records.{Field, Record, same_data}
-use Rattle.rdata_types.specs.Soa.{serial_of, with_serial}
-use Rattle.dns_name.specs.Codes.{type_a, type_ns, type_cname, type_soa, type_aaaa, type_ds}
+use Rattle.dns_name.specs.Soa.{serial_of, with_serial}
+use Rattle.dns_numbers.specs.Codes.{type_a, type_ns, type_cname, type_soa, type_aaaa, type_ds}
 use Rattle.zone_model.specs.Version.{RecordSet, Key, Sets, Version, key_cmp, has_key, set_at, data_at, below_apex, first_or_none}
 
 -- why an edit is refused, tested in this order

@@ -4,7 +4,7 @@ use Rattle.std.specs.List.{list_all}
 use Rattle.std.specs.Ordering.{is_lt}
 use Rattle.dns_name.specs.Names.{Name, same_name}
 use Rattle.dns_name.specs.Records.{Field}
-use Rattle.dns_name.specs.Codes.{type_soa}
+use Rattle.dns_numbers.specs.Codes.{type_soa}
 use Rattle.zone_model.specs.Version.{Sets, Version, key_cmp, is_kept, has_one_soa}
 use Rattle.zone_model.specs.Edits.{add_all}
 use Rattle.zone_model.specs.TransferLaws.{IsPublished}

@@ -4,8 +4,8 @@ use Rattle.std.specs.Option.{option_map_or}
 use Rattle.std.specs.List.{list_all, list_any, last_or}
 use Rattle.dns_name.specs.Names.{Name, fold, same_name}
 use Rattle.dns_name.specs.Records.{Record, record_wire}
-use Rattle.dns_name.specs.Serial.{serial_upto}
-use Rattle.dns_name.specs.Codes.{type_soa}
+use Rattle.dns_numbers.specs.Serial.{serial_upto}
+use Rattle.dns_numbers.specs.Codes.{type_soa}
 use Rattle.zone_model.specs.Version.{RecordSet, Key, Sets, Version, set_in, same_version}
 use Rattle.zone_model.specs.Answer.{records_of, apex_soa_record}
 use Rattle.zone_model.specs.Walk.{records_of_version, shown_owner}

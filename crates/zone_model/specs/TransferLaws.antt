@@ -4,7 +4,7 @@ use Rattle.std.specs.List.{AllByRecursion, last_or}
 use Rattle.std.specs.Cmp.Lexicographic.{pointwise}
 use Rattle.dns_name.specs.Names.{Name, same_name}
 use Rattle.dns_name.specs.Records.{Record}
-use Rattle.dns_name.specs.Codes.{type_soa}
+use Rattle.dns_numbers.specs.Codes.{type_soa}
 use Rattle.zone_model.specs.Version.{Sets, Version, IsValid, Same, same_version, set_at, has_one_soa}
 use Rattle.zone_model.specs.Edits.{Refusal, with_sets, close}
 use Rattle.zone_model.specs.Difference.{Difference, difference, apply_difference}

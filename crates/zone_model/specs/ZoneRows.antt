@@ -2,7 +2,7 @@
 use Rattle.std.specs.Prelude.{ℕ, List, [], ◌∷◌, ◌++◌, codes, true, false, Result, Ok, Err}
 use Rattle.dns_name.specs.Names.{Name}
 use Rattle.dns_name.specs.Records.{Field, Octets, DomainName, Record}
-use Rattle.dns_name.specs.Codes.{type_a, type_ns, type_cname, type_soa, type_aaaa, type_ds}
+use Rattle.dns_numbers.specs.Codes.{type_a, type_ns, type_cname, type_soa, type_aaaa, type_ds}
 use Rattle.zone_model.specs.Version.{Version}
 use Rattle.zone_model.specs.Edits.{Refusal, add_all, add}
 use Rattle.zone_model.specs.Difference.{Difference}

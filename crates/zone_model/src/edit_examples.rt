@@ -1,6 +1,6 @@
 // Worked examples of single edits, of sessions, and of what a version's readers see, proved by computation.
 ghost use Rattle.std.specs.Prelude.{◌≡◌, [], ◌∷◌, map, codes, true, false, Some, None, Ok, Err, option_map};
-ghost use Rattle.dns_name.specs.Codes.{type_a, type_ns, type_cname, type_soa, type_ds};
+ghost use Rattle.dns_numbers.specs.Codes.{type_a, type_ns, type_cname, type_soa, type_ds};
 ghost use Rattle.zone_model.specs.Version.{same_version};
 ghost use Rattle.zone_model.specs.Walk.{walk, next_stop};
 ghost use Rattle.zone_model.specs.Edits.{OutOfZone, Incompatible, InvalidData, add, delete, close, bump, replace_set, clear, make_plain, make_alias, make_cut};

@@ -2,7 +2,7 @@
 ghost use Rattle.std.specs.Prelude.{◌≡◌, [], ◌∷◌, map, codes, true, false, Some, None, length, ℕ};
 ghost use Rattle.zone_model.specs.Answer.{answer, NoData, NameError, answer_section, authority_section, glue_section, is_authoritative, rcode_of};
 ghost use Rattle.zone_model.specs.Walk.{walk, records_of_version};
-ghost use Rattle.dns_name.specs.Codes.{type_a, type_ns, type_ds};
+ghost use Rattle.dns_numbers.specs.Codes.{type_a, type_ns, type_ds};
 ghost use Rattle.zone_model.specs.Edits.{close, bump, delete_all};
 ghost use Rattle.zone_model.specs.Difference.{diffable};
 ghost use Rattle.zone_model.specs.TransferText.{Ixfr};

@@ -2,7 +2,7 @@
 use Rattle.std.proofs.Common.{◌≡◌, Bool, true, false, cond, List, [], ◌∷◌, ◌++◌, refl, sym, ap, ◌∙◌}
 use Rattle.std.specs.Prelude.{flat_map}
 use Rattle.dns_name.specs.Names.{under}
-use Rattle.dns_name.specs.Codes.{type_a, type_aaaa}
+use Rattle.dns_numbers.specs.Codes.{type_a, type_aaaa}
 use Rattle.dns_rdata.specs.Records.{Field, Octets, DomainName, Record}
 use Rattle.zone_model.specs.Version.{Version}
 use Rattle.zone_model.specs.Answer.{addresses_of}

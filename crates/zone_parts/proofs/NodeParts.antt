@@ -4,7 +4,7 @@ use Rattle.std.specs.Prelude.{nat_lt}
 use Rattle.std.specs.List.{list_all}
 use Rattle.std.proofs.lemmas.Bool.{le-ltb}
 use Rattle.dns_name.specs.Names.{Name, name_wire, is_label, is_name}
-use Rattle.dns_name.specs.Codes.{type_ns, type_cname, type_ds}
+use Rattle.dns_numbers.specs.Codes.{type_ns, type_cname, type_ds}
 use Rattle.zone_model.specs.Version.{RecordSet, Version, set_at, below_apex, exists, is_cut}
 use Rattle.zone_model.specs.Answer.{alias_at}
 use Rattle.zone_values.specs.TypedSets.{TypedSet}

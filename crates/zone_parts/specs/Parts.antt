@@ -1,7 +1,7 @@
 -- The parts of one version: a name that is in the zone, with its sets, what it is by them, and the names one label below (RFC 1034, 3.1 and 4.2.1).
 use Rattle.std.specs.Prelude.{◌≡◌, ℕ, true, ◌&&◌, if◌then◌else◌, List, [], ◌∷◌, map, Option, Some, None, option_map, option_copied, unwrap_or, flat_map}
 use Rattle.dns_name.specs.Names.{Name, fold, under, is_name}
-use Rattle.dns_name.specs.Codes.{type_ns, type_cname, type_ds}
+use Rattle.dns_numbers.specs.Codes.{type_ns, type_cname, type_ds}
 use Rattle.dns_rdata.specs.Records.{Record}
 use Rattle.zone_model.specs.Version.{RecordSet, Key, Version, IsValid, set_at, exists, is_cut}
 use Rattle.zone_model.specs.Answer.{sets_of, alias_at, addresses_of}

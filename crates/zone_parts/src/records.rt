@@ -4,7 +4,8 @@ ghost use Rattle.std.specs.Iterator.{YieldsFirst};
 ghost use Rattle.zone_model.specs.Answer.{records_of_option, first_only};
 ghost use Rattle.zone_values.specs.TypedEntries.{untyped};
 
-use dns_name::{Class, KeyName, Rtype, Ttl};
+use dns_name::KeyName;
+use dns_numbers::{Class, Rtype, Ttl};
 use dns_rdata::{Record, StoredRecordData};
 use std::marker::Model;
 use zone_values::Rrset;

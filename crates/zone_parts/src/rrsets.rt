@@ -5,7 +5,8 @@ ghost use Rattle.zone_model.specs.Version.{IsValid};
 ghost use Rattle.zone_parts.specs.Parts.{part, sets_here};
 ghost use Rattle.zone_parts.specs.NameSets.{first_type, left_of};
 
-use dns_name::{KeyName, Rtype, ToName};
+use dns_name::{KeyName, ToName};
+use dns_numbers::Rtype;
 use std::marker::Model;
 use zone_values::Rrset;
 use zone_versions::ZoneVersion;

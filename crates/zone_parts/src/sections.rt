@@ -7,7 +7,8 @@ ghost use Rattle.zone_model.specs.Version.{set_at};
 ghost use Rattle.zone_parts.specs.Glue.{addresses_at, sole_name};
 
 use crate::records::{AnswerRecord, SetRecords};
-use dns_name::{KeyName, Labelled, Rtype, StoredName, ToName};
+use dns_name::{KeyName, Labelled, StoredName, ToName};
+use dns_numbers::Rtype;
 use dns_rdata::{StoredRecordData, ZoneRecordData};
 use std::marker::Model;
 use zone_versions::ZoneVersion;

@@ -7,7 +7,7 @@ use std::alloc::{AllocError, Global};
 use tsig_port::Key;
 use xfr_providers::HistoryProvider;
 use xfr_server::{PrimaryStack, XfrMiddlewareSvc};
-use xfr_services::TsigMiddlewareSvc;
+use xfr_signing::TsigMiddlewareSvc;
 use zone_queries::{OneVersion, ZoneQueries};
 use zone_reads::ReadZone;
 use zone_script::commits::Commits;

@@ -1,16 +1,16 @@
 -- Where no reply can be made.
 use Rattle.std.proofs.Common.{◌≡◌, ℕ, ◌<◌, Bool, true, false, List, [], Option, Some, None, option_map, not, sym, ap, ◌∙◌}
 use Rattle.std.specs.Prelude.{◌==◌, if◌then◌else◌}
-use Rattle.dns_name.specs.Codes.{formerr}
+use Rattle.dns_numbers.specs.Codes.{formerr}
 use Rattle.dns_wire.specs.Wire.{Building, Question, header_in}
 use Rattle.dns_wire.specs.Parse.{sole_question_in}
 use Rattle.zone_model.specs.Version.{Version}
 use Rattle.xfr_services.specs.Items.{Sending, one_reply, all_given}
 use Rattle.xfr_services.specs.Replying.{notimp, refused, error_replies}
-use Rattle.xfr_services.specs.Failing.{fails, bare_len}
+use Rattle.xfr_signing.specs.Failing.{fails, bare_len}
 use Rattle.xfr_services.specs.declared.requests.Request.{Request}
 use Rattle.xfr_services.specs.declared.services.CallResult.{CallResult}
-use Rattle.xfr_services.proofs.Failing.{errors_fail}
+use Rattle.xfr_signing.proofs.Failing.{errors_fail}
 use Rattle.zone_queries.specs.ZoneReplies.{is_in_zone, zone_reply, replies_to_question, replies_to_sole, query_replies, query_sends, room}
 
 abbrev FailsOnly : List ℕ → Option (List CallResult) → Type 0

@@ -1,6 +1,6 @@
 -- What is sent from a zone to requests that aren't for a transfer (RFC 1034, 4.3.2; RFC 1035, 4.1.1).
 use Rattle.std.specs.Prelude.{ℕ, ◌-◌, Bool, ◌&&◌, not, ◌==◌, List, [], Option, Some, None, option_map, unwrap_or, if◌then◌else◌}
-use Rattle.dns_name.specs.Codes.{formerr}
+use Rattle.dns_numbers.specs.Codes.{formerr}
 use Rattle.dns_name.specs.Names.{under}
 use Rattle.dns_wire.specs.Wire.{Building, Question, header_in, message_wire}
 use Rattle.dns_wire.specs.Parse.{sole_question_in}

@@ -4,7 +4,8 @@ ghost use Rattle.dns_name.specs.Names.{under};
 ghost use Rattle.xfr_services.specs.Items.{Makes, Calls, all_given, one_reply};
 ghost use Rattle.zone_queries.specs.ZoneReplies.{found_in, owned_of, query_replies, query_sends, replies_to_question, room, told_in};
 
-use dns_name::{Opcode, ParsedName, Rcode};
+use dns_name::ParsedName;
+use dns_numbers::{Opcode, Rcode};
 use dns_wire::{AdditionalBuilder, Message, MessageBuf, Question};
 use std::alloc::{AllocError, Global};
 use std::marker::Model;

@@ -1,5 +1,5 @@
 // Laws of what is sent from a zone, each the contract of a function with an empty body.
-ghost use Rattle.xfr_services.specs.Failing.{FailsWhereLong};
+ghost use Rattle.xfr_signing.specs.Failing.{FailsWhereLong};
 
 use crate::answering::ZoneQueries;
 use xfr_providers::StoredZone;

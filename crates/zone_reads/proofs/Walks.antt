@@ -16,7 +16,7 @@ use Rattle.zone_model.specs.Answer.{highest_cut}
 use Rattle.zone_model.proofs.Folded.{IsFolded}
 use Rattle.zone_model.proofs.Valid.{valid_good}
 use Rattle.zone_model.proofs.Phases.{shown_folds}
-use Rattle.zone_nodes.specs.Held.{told}
+use Rattle.zone_versions.specs.Held.{told}
 use Rattle.zone_values.proofs.Equality.{list_any_map}
 use Rattle.zone_reads.specs.Stops.{same_told, key_of, entry_of, VisitsOnce}
 

@@ -11,7 +11,7 @@ ghost use Rattle.zone_reads.specs.Stops.{same_told};
 use crate::read::ReadZone;
 use dns_rdata::StoredRecordData;
 use name_keys::NameKeyRef;
-use zone_nodes::{TreeSet, TreeSets};
+use zone_versions::{TreeSet, TreeSets};
 
 /// Whether two versions have sets of the same owners, types and TTLs with the same data, but for the order of a set's data and the case of
 /// letters in names (RFC 2181, 5; RFC 4343). Apex and class aren't looked at. Two sets are compared

@@ -5,7 +5,8 @@ ghost use Rattle.zone_model.specs.Walk.{next_stop, walk};
 ghost use Rattle.zone_values.specs.TypedEntries.{typed};
 ghost use Rattle.zone_versions.specs.Stops.{first_stop};
 
-use dns_name::{Class, Labelled, Rtype, StoredName};
+use dns_name::{Labelled, StoredName};
+use dns_numbers::{Class, Rtype};
 use std::alloc::AllocError;
 use std::marker::Model;
 use std::sync::Arc;

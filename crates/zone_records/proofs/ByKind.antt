@@ -6,10 +6,10 @@ use Rattle.std.specs.Cmp.Derive.{both_true}
 use Rattle.std.specs.BTreeMap.{insert_entry}
 use Rattle.dns_name.specs.Names.{Name, fold, same_name, under}
 use Rattle.dns_name.specs.Records.{Record}
-use Rattle.dns_name.specs.Codes.{type_ns, type_cname, type_ds}
+use Rattle.dns_numbers.specs.Codes.{type_ns, type_cname, type_ds}
 use Rattle.zone_model.specs.Version.{RecordSet, Sets, key_cmp, set_in}
 use Rattle.zone_model.specs.Classify.{Kind, Normal, Cut, Alias, Outside, same_kind, BadRecord, ClassMismatch, IllegalZoneCut, IllegalRecord, IllegalCname, MultipleCnames, RecordVerdict, Accepted, Rejected, least, is_address, refuse_if}
-use Rattle.zone_sets.proofs.KeptTypes.{all_insert}
+use Rattle.zone_values.proofs.KeptTypes.{all_insert}
 use Rattle.zone_records.specs.Parsed.{Parsed, is_no_alias, is_one_alias, IsByKind}
 use Rattle.zone_records.specs.Taking.{types_in, least_in, no_glue_in, cut_in, kind_in, verdict_as, verdict_in, put_to, taken_in}
 use Rattle.zone_records.proofs.Lowest.{is_in}

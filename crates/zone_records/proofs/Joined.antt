@@ -9,7 +9,7 @@ use Rattle.std.specs.Map.{keys_of}
 use Rattle.std.proofs.lemmas.Map.Keys.{sorted_tail}
 use Rattle.dns_name.specs.Names.{fold, same_name, under}
 use Rattle.dns_name.specs.Records.{Record}
-use Rattle.dns_name.specs.Codes.{type_ns, type_cname, type_ds}
+use Rattle.dns_numbers.specs.Codes.{type_ns, type_cname, type_ds}
 use Rattle.zone_model.specs.Version.{RecordSet, Key, Sets, Version, key_cmp, has_key, set_in}
 use Rattle.zone_model.specs.Classify.{ZoneFile, Kind, Normal, Cut, Alias, Outside, kind_of, same_kind, opened_with, opened}
 use Rattle.zone_model.proofs.Folded.{key_total, key_from_tie, same_key, IsFolded, fold-fold, under_alike, same_name_alike}

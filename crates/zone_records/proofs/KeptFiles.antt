@@ -7,7 +7,7 @@ use Rattle.std.proofs.lemmas.List.{append-nil}
 use Rattle.std.proofs.lemmas.List.Elements.{filter-append}
 use Rattle.dns_name.specs.Names.{Name, same_name}
 use Rattle.dns_name.specs.Records.{Record}
-use Rattle.dns_name.specs.Codes.{type_ns, type_ds}
+use Rattle.dns_numbers.specs.Codes.{type_ns, type_ds}
 use Rattle.zone_model.specs.Version.{Sets, Version}
 use Rattle.zone_model.specs.Classify.{ZoneFile, Kind, Normal, Cut, Alias, Outside, BadRecord, ClassMismatch, IllegalZoneCut, IllegalRecord, IllegalCname, MultipleCnames, RecordVerdict, Accepted, Rejected, kind_of, same_kind, types_at, is_address, normal_at, no_glue_at, cut_at, alias_at, refuse_if, classify_as, classify, opened_with}
 use Rattle.zone_records.specs.Parsed.{Parsed, sets_of, kept, with_record}

@@ -14,9 +14,9 @@ use Rattle.zone_model.specs.Version.{Key, Sets, Version, key_cmp, has_key, set_i
 use Rattle.zone_model.proofs.Folded.{key_total}
 use Rattle.zone_values.specs.TypedSets.{TypedSet}
 use Rattle.zone_values.specs.SetEdits.{put_all}
-use Rattle.zone_nodes.specs.Held.{told}
-use Rattle.zone_nodes.specs.Trees.{NodeSets, Nodes, IsTree, node_at, type_in}
-use Rattle.zone_nodes.proofs.Told.{set_told}
+use Rattle.zone_versions.specs.Held.{told}
+use Rattle.zone_versions.specs.Trees.{NodeSets, Nodes, IsTree, node_at, type_in}
+use Rattle.zone_versions.proofs.Told.{set_told}
 use Rattle.zone_versions.specs.Stops.{key_told}
 use Rattle.zone_versions.proofs.Moving.{put_last}
 use Rattle.zone_records.specs.Parsed.{is_tidy_at}

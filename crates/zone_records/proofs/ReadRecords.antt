@@ -2,7 +2,7 @@
 use Rattle.std.proofs.Common.{◌≡◌, ℕ, suc, ◌==◌, ◌<◌, Bool, true, false, if◌then◌else◌, List, [], ◌∷◌, ◌++◌, length, refl, sym, ap, ◌∙◌, true≢false, append_assoc, append-nil, Option, Some, None, Result, Ok, Err, IfOk, IfErr, IfSome, eqb-true, arith}
 use Rattle.dns_name.specs.Names.{Name}
 use Rattle.dns_name.specs.Records.{Record}
-use Rattle.dns_name.specs.Codes.{type_soa}
+use Rattle.dns_numbers.specs.Codes.{type_soa}
 use Rattle.zone_model.specs.Classify.{ZoneFile, Kind, BadRecord, RecordVerdict, Accepted, Rejected}
 use Rattle.zone_errors.specs.declared.errors.RecordError.{RecordError}
 use Rattle.zone_records.specs.Parsed.{Parsed, kept, with_record, empty_file}

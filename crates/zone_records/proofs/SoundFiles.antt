@@ -9,7 +9,7 @@ use Rattle.std.specs.Cmp.Lexicographic.{pointwise, pointwise_decides, bytes_deci
 use Rattle.std.specs.BTreeMap.{insert_entry}
 use Rattle.std.specs.Map.{keys_of}
 use Rattle.dns_name.specs.Names.{Name, fold, same_name, under}
-use Rattle.dns_name.specs.Codes.{type_ns, type_cname, type_ds}
+use Rattle.dns_numbers.specs.Codes.{type_ns, type_cname, type_ds}
 use Rattle.zone_model.specs.Version.{RecordSet, Key, Sets, key_cmp, has_key, set_in, below_apex, all_differ}
 use Rattle.zone_model.specs.Classify.{Kind, Normal, Cut, Alias, Outside}
 use Rattle.zone_model.proofs.Folded.{key_total, same_key, IsFolded, fold-fold, under_alike}
@@ -19,7 +19,7 @@ use Rattle.zone_errors.specs.declared.errors.ContextError.TheVariants.{MissingNs
 use Rattle.zone_values.specs.declared.errors.ZoneCutError.TheVariants as no_cut
 use Rattle.zone_values.specs.declared.errors.CnameError.TheVariants as bad_alias
 use Rattle.zone_values.specs.SetEdits.{put_all}
-use Rattle.zone_sets.proofs.KeptTypes.{all_insert}
+use Rattle.zone_values.proofs.KeptTypes.{all_insert}
 use Rattle.zone_versions.specs.Sound.{is_sound_at, IsSound}
 use Rattle.zone_records.specs.Parsed.{Parsed, version_of, is_tidy_at, IsTidy, is_no_alias, is_one_alias, IsByKind}
 use Rattle.zone_records.specs.Faults.{faults}

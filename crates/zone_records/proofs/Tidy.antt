@@ -14,7 +14,7 @@ use Rattle.zone_model.proofs.Folded.{key_total, fold-fold}
 use Rattle.zone_model.proofs.Ordered.{sorted_none, sorted-insert_entry}
 use Rattle.zone_values.specs.SetEdits.{items_at, put_with, opening_set}
 use Rattle.zone_values.proofs.FirstData.{distinct_last, distinct_same, distinct_differ}
-use Rattle.zone_sets.proofs.KeptTypes.{all_insert}
+use Rattle.zone_values.proofs.KeptTypes.{all_insert}
 use Rattle.zone_records.specs.Parsed.{is_tidy_at, IsTidy}
 use Rattle.zone_records.specs.Taking.{put_to}
 use Rattle.zone_records.proofs.Putting.{key_of, set_with, put_record, put_is, holds_some}

@@ -12,13 +12,13 @@ use Rattle.std.proofs.lemmas.Map.Keys.{sorted_tail}
 use Rattle.std.proofs.lemmas.Map.Entries.{none_below_head}
 use Rattle.dns_name.specs.Names.{Name, fold, same_name, canonical_cmp}
 use Rattle.dns_name.specs.NameOrder.{same_name_equiv, canonical_ties}
-use Rattle.dns_name.specs.Codes.{type_a, type_ns, type_aaaa, type_ds}
+use Rattle.dns_numbers.specs.Codes.{type_a, type_ns, type_aaaa, type_ds}
 use Rattle.zone_model.specs.Version.{RecordSet, Key, Sets, key_cmp, has_key, set_in}
 use Rattle.zone_model.specs.Classify.{least, is_address}
 use Rattle.zone_model.proofs.Folded.{fold-fold, key_total, same_name_alike}
 use Rattle.zone_values.specs.TypedSets.{TypedSet}
 use Rattle.zone_values.specs.TypedEntries.{typed}
-use Rattle.zone_nodes.specs.Held.{told}
+use Rattle.zone_versions.specs.Held.{told}
 use Rattle.zone_records.specs.Taking.{types_in, least_in, no_glue_in, cut_in}
 use Rattle.zone_records.specs.TypeSteps.{type_from, past}
 use Rattle.zone_records.proofs.Lowest.{Lowest, is_in, find_in, least_by, lowest_one, lowest_same, lowest_kept, lowest_next, least_lowest, in_filter, not_and}

@@ -7,7 +7,7 @@ use Rattle.std.specs.BTreeMap.{insert_entry}
 use Rattle.std.specs.Map.{keys_of}
 use Rattle.dns_name.specs.Names.{Name, fold, same_name, under}
 use Rattle.dns_name.specs.Records.{Record}
-use Rattle.dns_name.specs.Codes.{type_ns, type_cname, type_ds}
+use Rattle.dns_numbers.specs.Codes.{type_ns, type_cname, type_ds}
 use Rattle.zone_model.specs.Version.{RecordSet, Key, Sets, Version, key_cmp, set_in, set_at, below_apex, is_cut}
 use Rattle.zone_model.specs.Classify.{ZoneFile, Kind, Normal, Cut, Alias, Outside, RecordVerdict, Accepted, Rejected, kind_of, same_kind, classify, opened_with, opened}
 use Rattle.zone_model.proofs.Folded.{key_from_tie, fold-fold, under_alike, same_name_alike, same_name-Decides}

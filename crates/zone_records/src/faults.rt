@@ -4,7 +4,7 @@ ghost use Rattle.std.specs.List.{list_all};
 ghost use Rattle.std.specs.Map.{keys_of};
 ghost use Rattle.zone_records.specs.Parsed.{sets_for};
 ghost use Rattle.dns_name.specs.Names.{fold, same_name, under};
-ghost use Rattle.dns_name.specs.Codes.{type_ns};
+ghost use Rattle.dns_numbers.specs.Codes.{type_ns};
 ghost use Rattle.zone_model.specs.Version.{set_in};
 ghost use Rattle.zone_model.specs.Classify.{Normal};
 ghost use Rattle.zone_records.specs.Seen.{kind_seen};
@@ -14,11 +14,12 @@ ghost use Rattle.zone_records.specs.Faults.{is_whole, cut_fault, alias_fault, no
 use crate::kinds::RecordKind;
 use crate::opening_sets::OwnerSets;
 use crate::zonefile::Zonefile;
-use dns_name::{KeyName, Rtype, ToName};
+use dns_name::{KeyName, ToName};
+use dns_numbers::Rtype;
 use std::alloc::{AllocError, Global};
 use zone_errors::{ContextError, ZoneErrors};
-use zone_nodes::TreeSet;
 use zone_values::{CnameError, ZoneCutError};
+use zone_versions::TreeSet;
 
 impl Zonefile {
     /// What keeps the records from making a zone, each under its owner in lower case and in canonical order: first at zone cuts, DS without NS

@@ -3,7 +3,7 @@ ghost use Rattle.std.specs.Prelude.{◌≡◌};
 ghost use Rattle.zone_records.specs.Seen.{why_seen};
 ghost use Rattle.zone_records.specs.Refusals.{error_of};
 
-use dns_name::{Class, Rtype};
+use dns_numbers::{Class, Rtype};
 use dns_rdata::StoredRecord;
 use zone_errors::RecordError;
 

@@ -9,17 +9,18 @@ ghost use Rattle.zone_model.specs.Version.{key_cmp, set_in};
 ghost use Rattle.zone_model.specs.Edits.{with_sets};
 ghost use Rattle.zone_values.specs.SetEdits.{put_with, put_all, opening_set};
 ghost use Rattle.zone_values.specs.TypedEntries.{typed};
-ghost use Rattle.zone_nodes.specs.Held.{told};
+ghost use Rattle.zone_versions.specs.Held.{told};
 ghost use Rattle.zone_versions.specs.Stops.{entry_told};
 ghost use Rattle.zone_records.specs.Parsed.{IsTidy};
 ghost use Rattle.zone_records.specs.OpeningSets.{is_put_at};
 
-use dns_name::{Class, Labelled, Rtype, StoredName};
+use dns_name::{Labelled, StoredName};
+use dns_numbers::{Class, Rtype};
 use dns_rdata::{RecordData, StoredRecord};
 use std::alloc::{AllocError, Global};
 use std::marker::Model;
-use zone_nodes::{NodeCount, TreeSet, TreeSets, VersionTree};
 use zone_values::Rrset;
+use zone_versions::{NodeCount, TreeSet, TreeSets, VersionTree};
 
 /// RRsets by owner and type, in a tree that is made for the first record. Where its apex and class are those of the zone, it is what the zone opens with.
 #[derive(Drop)]

@@ -5,18 +5,19 @@ ghost use Rattle.std.specs.Map.{keys_of};
 ghost use Rattle.dns_name.specs.Names.{fold, same_name, under};
 ghost use Rattle.zone_model.specs.Version.{set_in};
 ghost use Rattle.zone_values.specs.TypedEntries.{typed};
-ghost use Rattle.zone_nodes.specs.Held.{told};
+ghost use Rattle.zone_versions.specs.Held.{told};
 ghost use Rattle.zone_records.specs.Parsed.{IsTidy};
 ghost use Rattle.zone_records.specs.Taking.{least_in, no_glue_in, cut_in, put_to};
 ghost use Rattle.zone_records.specs.TypeSteps.{type_from, past};
 
 use crate::opening_sets::{OpeningSets, OwnerSets};
-use dns_name::{Class, Labelled, Rtype, StoredName, ToName};
+use dns_name::{Labelled, StoredName, ToName};
+use dns_numbers::{Class, Rtype};
 use dns_rdata::StoredRecord;
 use std::alloc::{AllocError, Global};
 use std::marker::Model;
-use zone_nodes::{TreeSet, VersionTree};
 use zone_values::Rrset;
+use zone_versions::{TreeSet, VersionTree};
 
 /// RRsets by owner and type: owners in lower case and canonical order, each one's types ascending (RFC 4034, 6.1). No RRset is empty, and no two of
 /// its data are equal (RFC 2181, 5).

@@ -6,7 +6,8 @@ ghost use Rattle.zone_records.specs.Causes.{errors_in};
 
 use crate::errors::FileError;
 use crate::zonefile::Zonefile;
-use dns_name::{KeyName, Labelled, Rtype, ToName};
+use dns_name::{KeyName, Labelled, ToName};
+use dns_numbers::Rtype;
 use dns_rdata::StoredRecord;
 use std::alloc::{AllocError, Global};
 use zone_errors::{RecordError, ZoneErrors};

@@ -1,7 +1,7 @@
 // The records of a zone file.
 ghost use Rattle.std.specs.Prelude.{◌≡◌, ◌==◌, ◌&&◌, ◌||◌, ◌<◌, [], length, not, None, Ok, OnOk, OnErr, IfOk, IfErr, IfSome, if◌then◌else◌};
 ghost use Rattle.dns_name.specs.Names.{same_name, under};
-ghost use Rattle.dns_name.specs.Codes.{type_ns, type_ds};
+ghost use Rattle.dns_numbers.specs.Codes.{type_ns, type_ds};
 ghost use Rattle.zone_model.specs.Classify.{ZoneFile, Accepted, is_address, classify};
 ghost use Rattle.zone_records.specs.Parsed.{kept, with_record, empty_file, version_of, sets_for};
 ghost use Rattle.zone_records.specs.Taking.{cut_in, verdict_in, verdict_as, cut_verdict, alias_verdict, normal_verdict, kind_in, taken_in, take};
@@ -14,7 +14,8 @@ use crate::errors::FileError;
 use crate::kinds::{Obstacle, RecordKind};
 use crate::opening_sets::put_sets;
 use crate::owners::Owners;
-use dns_name::{Class, Rtype, StoredName, ToName};
+use dns_name::{StoredName, ToName};
+use dns_numbers::{Class, Rtype};
 use dns_rdata::StoredRecord;
 use std::alloc::{AllocError, Global};
 use std::marker::Model;

@@ -6,7 +6,7 @@ use Rattle.dns_rdata.specs.Records.{Record}
 use Rattle.zone_model.specs.Version.{RecordSet, Key, Sets, Version}
 use Rattle.zone_model.specs.Walk.{Stop, shown_owner, walk, records_of_version}
 use Rattle.zone_model.specs.Answer.{highest_cut, records_of}
-use Rattle.zone_nodes.specs.Held.{told}
+use Rattle.zone_versions.specs.Held.{told}
 use Rattle.zone_report.specs.Lines.{items_told}
 
 abbrev stop_of : Version → Key × RecordSet → Stop

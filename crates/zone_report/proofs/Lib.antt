@@ -1,2 +1,4 @@
 mod WalkLines
 mod Counted
+pub mod ReportedAnswers
+pub mod WrittenParts

@@ -4,7 +4,8 @@ ghost use Rattle.dns_rdata.specs.Records.{record_wire};
 ghost use Rattle.zone_report.specs.Lines.{line, flag_word, record_line, answer_lines, query_lines};
 
 use crate::numbers::{append_hex, append_number};
-use dns_name::{Rcode, StoredName};
+use dns_name::StoredName;
+use dns_numbers::Rcode;
 use dns_rdata::ComposeRecord;
 use std::alloc::{AllocError, Global};
 use zone_lookup::{AnswerRef, OutOfZone, Query, look_up};

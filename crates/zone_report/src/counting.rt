@@ -5,8 +5,8 @@ ghost use Rattle.zone_report.specs.Lines.{count_lines, items_told, same_line};
 
 use crate::numbers::append_number;
 use std::alloc::{AllocError, Global};
-use zone_nodes::{TreeSet, TreeSets};
 use zone_reads::{ReadZone, is_same};
+use zone_versions::{TreeSet, TreeSets};
 
 /// The lines `sets N` and `records N` of a version.
 pub fn append_counts(alloc: Global, out: &mut Vec<u8>, zone: &ReadZone) -> Result<(), AllocError>

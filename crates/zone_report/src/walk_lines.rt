@@ -6,7 +6,7 @@ ghost use Rattle.zone_model.specs.Walk.{walk};
 ghost use Rattle.zone_report.specs.Lines.{stop_lines, set_record, item_line};
 
 use crate::numbers::append_hex;
-use dns_name::Class;
+use dns_numbers::Class;
 use dns_rdata::{ComposeRecord, Record, StoredRecordData};
 use std::alloc::{AllocError, Global};
 use zone_reads::{ReadZone, WalkItem};

@@ -3,3 +3,4 @@ pub use Rattle.script_words.specs.Words
 pub mod Script
 pub mod Causes
 pub mod Keeping
+pub mod BadLines

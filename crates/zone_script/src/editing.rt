@@ -12,7 +12,8 @@ ghost use Rattle.zone_script.specs.Causes.{line_in, edit_cause};
 
 use crate::commits::Commits;
 use crate::script::ScriptError;
-use dns_name::{Class, Rtype, StoredName};
+use dns_name::StoredName;
+use dns_numbers::{Class, Rtype};
 use dns_rdata::StoredRecord;
 use script_words::fields::{Change, Line, read_line};
 use script_words::lines::{is_skipped, next_line};

@@ -4,7 +4,8 @@ ghost use Rattle.zone_script.specs.Keeping as keeping;
 ghost use Rattle.zone_script.specs.Causes.{line_in, cause_of};
 
 use crate::script::ScriptError;
-use dns_name::{Class, StoredName};
+use dns_name::StoredName;
+use dns_numbers::Class;
 use dns_rdata::StoredRecord;
 use std::alloc::Global;
 use zone_errors::RecordError;

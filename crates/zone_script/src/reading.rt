@@ -7,7 +7,8 @@ ghost use Rattle.zone_script.specs.Causes.{line_in};
 
 use crate::opening::OpeningZone;
 use crate::script::ScriptError;
-use dns_name::{Class, StoredName};
+use dns_name::StoredName;
+use dns_numbers::Class;
 use dns_rdata::StoredRecord;
 use script_words::fields::{Line, read_line};
 use script_words::lines::is_skipped;

@@ -9,8 +9,9 @@ use std::time::{SystemTime, UNIX_EPOCH};
 use std::{env, io};
 use tsig_port::Time48;
 use zone_asking::{mode_asked, run_secondary};
-use zone_devices::sources::Source;
-use zone_sync::{MemorySource, Status, StdSink, StdSource};
+use zone_devices::sinks::StdSink;
+use zone_devices::sources::{MemorySource, Source, StdSource};
+use zone_report::Status;
 
 /// The program's words, without its name; none where one isn't UTF-8, since no form of words has it.
 fn words_of(rt: &HostRuntime) -> Result<Vec<String>, AllocError> {

@@ -5,7 +5,7 @@ use Rattle.zone_devices.specs.Streams.{emptied}
 use Rattle.message_frames.specs.Frames.{Cut, first_frame, cut_frames}
 use Rattle.message_frames.specs.Passing.{Gives, IsCutOff}
 use Rattle.xfr_services.specs.Items.{Sending}
-use Rattle.xfr_services.specs.Failing.{fails}
+use Rattle.xfr_signing.specs.Failing.{fails}
 use Rattle.zone_serving.specs.StreamServing.{requests_of, SendsJust, TakesFrames, with_messages, ServesStream}
 use Rattle.zone_serving.specs.WholeStreams.{CanBeServed, EndsWell, ServesToEnd, ServesToShort}
 use Rattle.zone_serving.specs.declared.errors.ServeError.{ServeError}

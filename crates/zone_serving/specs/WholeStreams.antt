@@ -4,7 +4,7 @@ use Rattle.std.specs.List.{AllByRecursion}
 use Rattle.zone_devices.specs.Streams.{with_more}
 use Rattle.message_frames.specs.Frames.{cut_frames, frames_of}
 use Rattle.xfr_services.specs.Items.{Sending}
-use Rattle.xfr_services.specs.Failing.{fails}
+use Rattle.xfr_signing.specs.Failing.{fails}
 use Rattle.zone_serving.specs.StreamServing.{Answered, IsAnswered, requests_of, replies_of}
 use Rattle.zone_serving.specs.declared.errors.ServeError.{ServeError}
 use Rattle.zone_serving.specs.declared.errors.ServeError.TheVariants as why

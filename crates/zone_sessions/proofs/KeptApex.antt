@@ -3,7 +3,7 @@ use Rattle.std.proofs.Common.{◌≡◌, ℕ, ◌==◌, Bool, true, false, ◌||
 use Rattle.std.specs.BTreeMap.{insert_entry}
 use Rattle.dns_name.specs.Names.{Name}
 use Rattle.dns_name.specs.Names as names
-use Rattle.dns_name.specs.Codes.{type_ns, type_ds}
+use Rattle.dns_numbers.specs.Codes.{type_ns, type_ds}
 use Rattle.dns_rdata.specs.Records.{Record}
 use Rattle.zone_model.specs.Version.{RecordSet, Version, key_cmp}
 use Rattle.zone_model.specs.Edits.{with_sets, put_set, remove_set, has_data, add_glue, make_cut, distinct_set}

@@ -3,7 +3,7 @@ use Rattle.std.proofs.Common.{◌≡◌, ℕ, ◌==◌, Bool, true, ◌&&◌, �
 use Rattle.std.specs.Cmp.Lexicographic.{pointwise}
 use Rattle.std.specs.List.{list_all, ends_with}
 use Rattle.dns_name.specs.Names.{Name, fold, same_name, under}
-use Rattle.dns_name.specs.Codes.{type_cname, type_ds, type_ns}
+use Rattle.dns_numbers.specs.Codes.{type_cname, type_ds, type_ns}
 use Rattle.zone_model.specs.Version.{RecordSet, Key, Sets, Version, IsValid, set_in, all_differ}
 use Rattle.zone_model.proofs.Folded.{same_name-Decides}
 use Rattle.zone_parts.proofs.NodeNames.{under_itself}

@@ -1,7 +1,7 @@
 -- The version that a zone opens with, where it was made and where it was not.
 use Rattle.std.proofs.Common.{◌≡◌, ℕ, ◌==◌, Bool, true, false, ◌&&◌, not, refl, sym, ap, ◌∙◌, subst, Option, Some, None, IfSome, IfNone}
 use Rattle.dns_name.specs.Names.{Name}
-use Rattle.dns_name.specs.Codes.{type_cname}
+use Rattle.dns_numbers.specs.Codes.{type_cname}
 use Rattle.dns_rdata.specs.Records.{Record}
 use Rattle.zone_model.specs.Version.{Version, below_apex}
 use Rattle.zone_versions.specs.Puts.{adds_alias}

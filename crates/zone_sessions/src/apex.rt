@@ -1,14 +1,15 @@
 // A zone.
 ghost use Rattle.std.specs.Prelude.{◌≡◌, [], IfOk, OnErr, option_copied, option_map, true, false};
 ghost use Rattle.dns_name.specs.Names.{same_name, under};
-ghost use Rattle.dns_name.specs.Codes.{type_soa};
+ghost use Rattle.dns_numbers.specs.Codes.{type_soa};
 ghost use Rattle.zone_model.specs.Version.{set_at};
 ghost use Rattle.zone_values.specs.Relative.{labels_below};
 ghost use Rattle.zone_values.specs.TypedEntries.{typed};
 ghost use Rattle.zone_parts.specs.Parts.{part};
 
 use crate::write::WriteZone;
-use dns_name::{Class, Labelled, Rtype, StoredName, ToName};
+use dns_name::{Labelled, StoredName, ToName};
+use dns_numbers::{Class, Rtype};
 use std::alloc::{AllocError, Global};
 use std::marker::Model;
 use std::sync::Arc;

@@ -1,7 +1,7 @@
 // How a zone opens.
 ghost use Rattle.std.specs.Prelude.{◌≡◌, ◌↔◌, ◌==◌, [], true, false, length, Ok, Err, OnOk, OnErr, IfOk, IfSome, IsOk, option_map};
 ghost use Rattle.dns_name.specs.Names.{under, same_name};
-ghost use Rattle.dns_name.specs.Codes.{type_cname, type_ns, type_ds};
+ghost use Rattle.dns_numbers.specs.Codes.{type_cname, type_ns, type_ds};
 ghost use Rattle.zone_model.specs.Classify.{opened_with};
 ghost use Rattle.zone_model.specs.Edits as edits;
 ghost use Rattle.zone_values.specs.TypedSets.{TypedSet};
@@ -9,7 +9,8 @@ ghost use Rattle.zone_versions.specs.Puts.{adds_alias};
 
 use crate::apex::ZoneApex;
 use crate::opening::Opening;
-use dns_name::{Class, KeyName, Labelled, StoredName, ToName};
+use dns_name::{KeyName, Labelled, StoredName, ToName};
+use dns_numbers::Class;
 use dns_rdata::StoredRecord;
 use std::alloc::{AllocError, Global};
 use std::marker::Model;

@@ -1,7 +1,7 @@
 // Edits of a session: each kind has one place.
 ghost use Rattle.std.specs.Prelude.{◌≡◌, ◌∷◌, [], true, false, OnOk, OnErr, IfOk, IfSome, option_copied, option_map, unwrap_or, fold as fold_list};
 ghost use Rattle.dns_name.specs.Names.{under};
-ghost use Rattle.dns_name.specs.Codes.{type_cname, type_ns, type_ds};
+ghost use Rattle.dns_numbers.specs.Codes.{type_cname, type_ns, type_ds};
 ghost use Rattle.zone_model.specs.Version.{all_differ, set_at};
 ghost use Rattle.zone_model.specs.Edits as edits;
 ghost use Rattle.zone_model.specs.Edits.{distinct_set};
@@ -10,7 +10,8 @@ ghost use Rattle.zone_values.specs.TypedSets.{TypedSet};
 ghost use Rattle.zone_values.specs.TypedEntries.{typed};
 
 use crate::write::WriteZone;
-use dns_name::{KeyName, Rtype};
+use dns_name::KeyName;
+use dns_numbers::Rtype;
 use dns_rdata::StoredRecord;
 use std::alloc::AllocError;
 use zone_values::{Rrset, SharedRr, SharedRrset, ZoneCut};

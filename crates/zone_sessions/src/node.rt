@@ -1,7 +1,7 @@
 // The nodes that a session edits.
 ghost use Rattle.std.specs.Prelude.{◌≡◌, ◌↔◌, ◌≤◌, ◌∷◌, ◌==◌, true, false, length, Ok, Err, IfOk, IfErr, IfSome, IsOk, OnOk, OnErr, option_copied, option_map};
 ghost use Rattle.dns_name.specs.Names.{name_wire};
-ghost use Rattle.dns_name.specs.Codes.{type_cname, type_ns, type_ds};
+ghost use Rattle.dns_numbers.specs.Codes.{type_cname, type_ns, type_ds};
 ghost use Rattle.zone_model.specs.Version.{set_at, below_apex};
 ghost use Rattle.zone_model.specs.Edits as edits;
 ghost use Rattle.zone_model.specs.Edits.{replace_set, make_plain};
@@ -11,7 +11,8 @@ ghost use Rattle.zone_versions.specs.Causes.{refusal_of};
 ghost use Rattle.zone_sessions.specs.Nodes.{with_edit, opened_node};
 
 use crate::write::WriteZone;
-use dns_name::{KeyName, Label, Labelled, Rtype};
+use dns_name::{KeyName, Label, Labelled};
+use dns_numbers::Rtype;
 use std::alloc::AllocError;
 use std::marker::Model;
 use zone_errors::{NodeError, UpdateError};

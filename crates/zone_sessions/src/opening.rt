@@ -1,7 +1,7 @@
 // The version that a zone opens with, before it has records and after.
 ghost use Rattle.std.specs.Prelude.{◌≡◌, [], true, false, OnOk, OnErr, IfOk, IfSome, IfNone, option_map};
 ghost use Rattle.dns_name.specs.Names.{under};
-ghost use Rattle.dns_name.specs.Codes.{type_cname, type_ns, type_ds};
+ghost use Rattle.dns_numbers.specs.Codes.{type_cname, type_ns, type_ds};
 ghost use Rattle.zone_model.specs.Version.{IsValid};
 ghost use Rattle.zone_model.specs.Classify.{opened_with};
 ghost use Rattle.zone_model.specs.Edits as edits;
@@ -10,7 +10,8 @@ ghost use Rattle.zone_values.specs.TypedSets.{TypedSet};
 ghost use Rattle.zone_versions.specs.Puts.{adds_alias};
 ghost use Rattle.zone_sessions.specs.Opening.{no_records};
 
-use dns_name::{Class, KeyName, StoredName};
+use dns_name::{KeyName, StoredName};
+use dns_numbers::Class;
 use dns_rdata::StoredRecord;
 use std::alloc::{AllocError, Global};
 use std::marker::Model;

@@ -1,4 +1,3 @@
-pub mod KeptTypes
 pub mod FirstEntries
 pub mod Thinning
 mod InLowerCase

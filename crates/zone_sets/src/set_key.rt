@@ -3,7 +3,8 @@ ghost use Rattle.std.specs.Prelude.{◌≡◌};
 ghost use Rattle.dns_name.specs.Names.{fold, spelling_cmp};
 ghost use Rattle.zone_model.specs.Version.{key_cmp};
 
-use dns_name::{KeyName, Labelled, Rtype, compare_spelling};
+use dns_name::{KeyName, Labelled, compare_spelling};
+use dns_numbers::Rtype;
 use std::alloc::{AllocError, Global};
 use std::cmp::Ordering;
 use std::marker::Model;

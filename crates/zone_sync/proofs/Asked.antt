@@ -6,11 +6,11 @@ use Rattle.xfr_services.specs.declared.modes.XfrMode.{XfrMode}
 use Rattle.xfr_services.specs.declared.modes.XfrMode.TheVariants as modes
 use Rattle.zone_script.specs.Words as words
 use Rattle.zone_script.specs.Words.{Form, Transfer, Generate}
-use Rattle.zone_sync.specs.Modes.{mode_of}
+use Rattle.xfr_outcomes.specs.Modes.{mode_of}
 use Rattle.zone_sync.specs.Reported.{Crossed}
 use Rattle.zone_sync.specs.Statuses.{AsksNoScript, TellsWords, TellsScript}
-use Rattle.zone_sync.specs.declared.program.Status.{Status}
-use Rattle.zone_sync.specs.declared.program.Status.TheVariants.{Usage}
+use Rattle.zone_report.specs.declared.status.Status.{Status}
+use Rattle.zone_report.specs.declared.status.Status.TheVariants.{Usage}
 
 same_mode : (m : XfrMode) → words.mode_of m ≡ mode_of m
 same_mode modes.Axfr = refl

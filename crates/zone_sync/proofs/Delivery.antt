@@ -3,7 +3,7 @@ use Rattle.std.proofs.Common.{◌≡◌, ℕ, ◌+◌, ◌-◌, ◌^◌, ◌<◌
 use Rattle.std.specs.Prelude.{◌==◌, unwrap_or}
 use Rattle.std.specs.List.{last_or, list_all}
 use Rattle.dns_message.specs.declared.message.ShortMessage.{ShortMessage}
-use Rattle.dns_name.specs.Codes.{type_soa}
+use Rattle.dns_numbers.specs.Codes.{type_soa}
 use Rattle.dns_rdata.specs.Records.{Field}
 use Rattle.dns_wire.specs.declared.builder.PushError.TheVariants.{ShortBuf, CountOverflow, Memory as OutOfMemory}
 use Rattle.zone_model.specs.Version.{Version, Same, data_at, first_or_none}
@@ -17,16 +17,17 @@ use Rattle.xfr_course.specs.Courses.{has_header}
 use Rattle.xfr_course.specs.Success.{Succeeds}
 use Rattle.zone_devices.specs.Calls.{Rose}
 use Rattle.zone_devices.specs.Links.{Way, LinkLists, HandsOn, IsHonest, WentOn}
-use Rattle.zone_sync.specs.SoFar.{Asking, asked_octets, lacks_soa, course_so_far}
-use Rattle.zone_sync.specs.Steps.{commit_after, HasMade}
-use Rattle.zone_sync.specs.Ending.{answer_of}
+use Rattle.xfr_client.specs.SoFar.{Asking, asked_octets, lacks_soa, course_so_far}
+use Rattle.xfr_client.specs.Steps.{commit_after, HasMade}
+use Rattle.xfr_client.specs.Ending.{answer_of}
 use Rattle.zone_sync.specs.Serving.{SendsAll, FailsAfter, HasBegun, RepliedTo, NotReplied, IsServed}
-use Rattle.zone_sync.specs.Transfers.{given_up, course_answered, AnswersCourse, IsEnded, HasShort, NotAsked, ComesAfter, Asks, SyncSays}
+use Rattle.xfr_client.specs.Transfers.{given_up, course_answered, AnswersCourse, HasShort}
+use Rattle.zone_sync.specs.LinkTransfers.{IsEnded, NotAsked, ComesAfter, Asks, SyncSays}
 use Rattle.zone_sync.specs.Fitting.{sent_pages, BaseMatches}
 use Rattle.zone_sync.specs.Delivery.{IsGranted, WasHonest, Delivers}
-use Rattle.zone_sync.specs.declared.outcome.SyncOk.{SyncOk}
-use Rattle.zone_sync.specs.declared.outcome.SyncError.{SyncError}
-use Rattle.zone_sync.specs.declared.outcome.SyncError.TheVariants as why
+use Rattle.xfr_outcomes.specs.declared.outcome.SyncOk.{SyncOk}
+use Rattle.xfr_outcomes.specs.declared.outcome.SyncError.{SyncError}
+use Rattle.xfr_outcomes.specs.declared.outcome.SyncError.TheVariants as why
 use Rattle.zone_sync.proofs.Serving.{headed_served}
 use Rattle.zone_sync.proofs.HonestRequests.{request_has_header}
 use Rattle.zone_sync.proofs.HonestCourses.{Waits, IsPart, part_of}

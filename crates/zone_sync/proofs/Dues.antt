@@ -1,6 +1,6 @@
 -- What a sink takes is due, from what the parts of a run ensure.
-use Rattle.std.specs.Prelude.{◌≡◌, ◌≢◌, ◌⊎◌, ◌+◌, ℕ, List, [], ◌∷◌, take, true, false, Option, Some, None, IfSome, Ok, Err, IsTrue}
-use Rattle.std.proofs.Common.{refl, sym, ap, ◌∙◌, subst, append-nil, inl, inr}
+use Rattle.std.specs.Prelude.{◌≡◌, ◌≢◌, ◌⊎◌, ◌+◌, ℕ, List, [], ◌∷◌, take, Option, Some, None, IfSome, Ok, Err, IsTrue}
+use Rattle.std.proofs.Common.{refl, sym, ap, ◌∙◌, subst, inl, inr}
 use Rattle.dns_name.specs.Names.{Name}
 use Rattle.tsig_port.specs.Tsig.{TsigKey}
 use Rattle.zone_model.specs.Commits.{Commit}
@@ -17,19 +17,18 @@ use Rattle.zone_script.specs.ScriptReaders.{wire_readers}
 use Rattle.zone_script.specs.Keeping.{Gives, told_commits}
 use Rattle.zone_script.specs.Words.{Form, Transfer, Generate}
 use Rattle.zone_script.specs.declared.script.Script.{Script}
-use Rattle.zone_sync.specs.SoFar.{Asking, asks_with}
-use Rattle.zone_sync.specs.Notices.{usage_line, bad_line, is_reported}
-use Rattle.zone_sync.specs.Reported.{Crossed, crossed, Untouched, Transferred, TransfersOn, Reports, ReportsOn, Tried, Ran, NamesLine, IsDue, IsDueOf, Took, TookFirst, Wrote, AreTold, versions_of, read_provider, provider_of, provider_in, asking_in}
-use Rattle.zone_sync.specs.declared.program.Status.{Status}
-use Rattle.zone_sync.specs.declared.program.Status.TheVariants as ends
+use Rattle.xfr_client.specs.SoFar.{Asking, asks_with}
+use Rattle.zone_sync.specs.Reported.{usage_line, Crossed, crossed, Untouched, Transferred, TransfersOn, ReportsOn, Tried, Ran, IsDue, IsDueOf, AreTold, versions_of, read_provider, provider_of, provider_in, asking_in}
+use Rattle.zone_script.specs.BadLines.{bad_line, NamesLine}
+use Rattle.zone_report.specs.Notices.{is_reported}
+use Rattle.zone_report.specs.ReportsWritten.{Reports, Took, TookFirst, Wrote}
+use Rattle.zone_report.specs.declared.status.Status.{Status}
+use Rattle.zone_report.specs.declared.status.Status.TheVariants as ends
+use Rattle.zone_report.proofs.WrittenParts.{not_sink, with_nothing, along, wrote_nothing}
 
 -- a link that is as it was
 pub untouched : {longest f : ℕ} {lists : Option LinkLists} → Untouched (crossed longest lists lists f f)
 untouched = record { lists = refl; faults = refl }
-
--- a report that was written whole
-pub not_sink : (s : Status) → IsTrue (is_reported s) → s ≢ ends.SinkFault
-not_sink s h e = let clash : false ≡ true = ap is_reported (sym e) ∙ h in absurd cc
 
 pub report_taken : (SendsOf : Provider → TsigKey → ℕ → List ℕ → Option (List Sending) → Type 0) (mode : Mode) (script : Script) (link : Crossed) (octets shown : List ℕ) (status s : Status) (taken_old taken_new : Option (List ℕ)) → ReportsOn SendsOf mode script link octets status → shown ≡ octets
     → (s ≢ ends.SinkFault → s ≡ status) → (s ≢ ends.SinkFault → taken_new ≡ with_more shown taken_old) → IsTrue (is_reported s) → Took (λ o. ReportsOn SendsOf mode script link o s) taken_old taken_new
@@ -42,10 +41,6 @@ report_taken SendsOf mode script link octets shown status s taken_old taken_new 
 -- what a text spells, as a script that was read
 abbrev pub Spelt : List ℕ → Script → Type 0
 Spelt text k = (t : scripts.Script TsigKey) × (script_of wire_readers text ≡ Ok t) × Gives t k
-
-pub with_nothing : (had : Option (List ℕ)) → had ≡ with_more [] had
-with_nothing None = refl
-with_nothing (Some xs) = ap Some (sym (append-nil xs))
 
 -- the versions of the commits that a list of versions makes
 versions_told : (last : Commit) (vs : List Version) → versions_of (told_commits last vs) ≡ vs
@@ -169,11 +164,6 @@ first_line SendsOf form text link number taken_old taken_new idle bad (n, taken)
   taken = taken;
 }
 
--- what is due of a text that a source had
-pub along : (left : Option (List ℕ)) (text t : List ℕ) → IfSome left (λ had. text ≡ had) → t ≡ text → IfSome left (λ had. t ≡ had)
-along None text t e f = tt
-along (Some had) text t e f = f ∙ e
-
 pub due_of_source : (SendsOf : Provider → TsigKey → ℕ → List ℕ → Option (List Sending) → Type 0) (form : Option Form) (left : Option (List ℕ)) (text : List ℕ) (link : Crossed) (octets : List ℕ) (s : Status) → IfSome left (λ had. text ≡ had)
     → IsDue SendsOf form (Some text) link octets s → IsDue SendsOf form left link octets s
 due_of_source SendsOf form left text link octets s e = by s
@@ -211,25 +201,6 @@ pub first_of_source : (SendsOf : Provider → TsigKey → ℕ → List ℕ → O
     → TookFirst (IsDue SendsOf form (Some text) link) taken_old taken_new → TookFirst (IsDue SendsOf form left link) taken_old taken_new
 first_of_source SendsOf form left text link taken_old taken_new e t =
     record { octets = t.octets; status = t.status; count = t.count; due = due_of_source SendsOf form left text link t.octets t.status e t.due; taken = t.taken }
-
--- a first part of octets that are due
-pub first_part : (Holds : List ℕ → Status → Type 0) (octets : List ℕ) (s : Status) (old new : Option (List ℕ)) → Holds octets s → ((n : ℕ) × (new ≡ with_more (take n octets) old)) → TookFirst Holds old new
-first_part Holds octets s old new due (n, taken) = record { octets = octets; status = s; count = n; due = due; taken = taken }
-
--- what was written whole, or a first part of it
-pub wrote_last : (Holds : List ℕ → Status → Type 0) (octets : List ℕ) (s r : Status) (old new : Option (List ℕ)) → Holds octets s → (r ≢ ends.SinkFault → r ≡ s) → (r ≢ ends.SinkFault → new ≡ with_more octets old)
-    → ((n : ℕ) × (new ≡ with_more (take n octets) old)) → Wrote Holds old new r
-wrote_last Holds octets s r old new due done written part = record {
-  whole = λ well. record { octets = octets; due = subst (λ (t : Status). Holds octets t) (sym (done well)) due; taken = written well };
-  part = λ failed. first_part Holds octets s old new due part;
-}
-
--- nothing was written, as memory ran out
-pub wrote_nothing : (Holds : List ℕ → Status → Type 0) (old new : Option (List ℕ)) → Holds [] ends.Memory → new ≡ old → Wrote Holds old new ends.Memory
-wrote_nothing Holds old new due same = record {
-  whole = λ well. record { octets = []; due = due; taken = same ∙ with_nothing old };
-  part = λ failed. cc;
-}
 
 -- the number of a bad line was written, or a first part of it, or nothing
 pub wrote_line : (SendsOf : Provider → TsigKey → ℕ → List ℕ → Option (List Sending) → Type 0) (form : Option Form) (text : List ℕ) (link : Crossed) (number : ℕ) (old new : Option (List ℕ)) (s : Status) → Untouched link → script_of wire_readers text ≡ Err number

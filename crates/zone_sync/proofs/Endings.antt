@@ -11,20 +11,21 @@ use Rattle.zone_model.specs.TransferText.{Mode}
 use Rattle.zone_model.proofs.Folded.{same_name-Decides}
 use Rattle.xfr_server.specs.Items.{Sending}
 use Rattle.xfr_providers.specs.Offers.{key_id}
-use Rattle.zone_sync.specs.SoFar.{Asking, asked_octets}
+use Rattle.xfr_client.specs.SoFar.{Asking, asked_octets}
 use Rattle.zone_sync.specs.Fitting.{Fits}
 use Rattle.zone_sync.specs.Grants.{history_offer}
 use Rattle.zone_sync.specs.Delivery.{WasHonest, IsGranted, Delivers}
-use Rattle.zone_sync.specs.declared.outcome.SyncOk.{SyncOk}
-use Rattle.zone_sync.specs.declared.outcome.SyncError.{SyncError}
-use Rattle.zone_sync.specs.declared.outcome.SyncError.TheVariants as why
+use Rattle.xfr_outcomes.specs.declared.outcome.SyncOk.{SyncOk}
+use Rattle.xfr_outcomes.specs.declared.outcome.SyncError.{SyncError}
+use Rattle.xfr_outcomes.specs.declared.outcome.SyncError.TheVariants as why
 use Rattle.zone_script.specs.Script as scripts
 use Rattle.zone_script.specs.Script.{script_of}
 use Rattle.zone_script.specs.ScriptReaders.{wire_readers}
 use Rattle.zone_script.specs.Words.{Form, Transfer}
-use Rattle.zone_sync.specs.Reported.{Crossed, Ran, IsDue, Took, FitsLink, status_by, provider_in, primary_commits, asking_in}
-use Rattle.zone_sync.specs.declared.program.Status.{Status}
-use Rattle.zone_sync.specs.declared.program.Status.TheVariants.{Done, Refused, Usage, Script, SourceFault, SinkFault, Memory, LinkFault, TooLong}
+use Rattle.zone_sync.specs.Reported.{Crossed, Ran, IsDue, FitsLink, provider_in, primary_commits, asking_in}
+use Rattle.zone_report.specs.ReportsWritten.{Took, status_by}
+use Rattle.zone_report.specs.declared.status.Status.{Status}
+use Rattle.zone_report.specs.declared.status.Status.TheVariants.{Done, Refused, Usage, Script, SourceFault, SinkFault, Memory, LinkFault, TooLong}
 use Rattle.zone_sync.proofs.ScriptFacts.{script_fits, grants_kept}
 
 -- the program's primary grants the zone to the script's key

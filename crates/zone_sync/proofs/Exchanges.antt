@@ -1,5 +1,5 @@
 -- A transfer from the request on.
-use Rattle.std.proofs.Common.{◌≡◌, ℕ, ◌<◌, true, false, ◌&&◌, List, [], ◌∷◌, ◌++◌, length, append-nil, refl, sym, ap, ◌∙◌, subst, arith, ◌⊎◌, inl, inr, Option, IsSome, Result, Ok, Err}
+use Rattle.std.proofs.Common.{◌≡◌, ℕ, ◌<◌, true, false, ◌&&◌, List, [], ◌∷◌, ◌++◌, length, append-nil, refl, sym, ap, ◌∙◌, subst, ◌⊎◌, inl, inr, Option, IsSome, Result, Ok, Err}
 use Rattle.std.proofs.lemmas.Bool.{lt-leb}
 use Rattle.xfr_services.specs.declared.services.ServiceError.TheVariants as service
 use Rattle.dns_wire.specs.declared.builder.PushError.TheVariants.{ShortBuf, CountOverflow}
@@ -7,66 +7,28 @@ use Rattle.dns_wire.specs.declared.builder.PushError.TheVariants as push
 use Rattle.dns_message.specs.declared.message.ShortMessage.{ShortMessage}
 use Rattle.zone_model.specs.Commits.{Commit}
 use Rattle.zone_model.specs.Session.{Session, rolled_back}
-use Rattle.xfr_course.specs.Outcome.{Outcome, NoSoa, Ended, LinkFault, Short, Primary, RequestTooLong}
+use Rattle.xfr_course.specs.Outcome.{NoSoa, Ended, LinkFault, Short, Primary}
 use Rattle.xfr_course.specs.Courses.{has_header}
-use Rattle.zone_sync.specs.SoFar.{Asking, asked_octets, CanAsk, CantAsk, course_so_far, fault_so_far, client_so_far}
-use Rattle.zone_sync.specs.Steps.{HasMade}
-use Rattle.zone_sync.specs.Standing.{ClientState, Stands}
-use Rattle.zone_sync.specs.Refusals.{of_link}
+use Rattle.xfr_client.specs.SoFar.{Asking, asked_octets, CanAsk, CantAsk}
+use Rattle.xfr_client.specs.Standing.{ClientState, Stands}
+use Rattle.xfr_outcomes.specs.Refusals.{of_link}
 use Rattle.zone_devices.specs.Links.{LinkLists, LinkWentOn}
 use Rattle.xfr_server.specs.Items.{Sending}
 use Rattle.zone_sync.specs.Serving.{SendsAll, ServedBy, RepliedTo, IsServed}
-use Rattle.zone_sync.specs.Transfers.{RequestsEnded, IsEnded, HasShort, Transfers, Serves, ComesLater, EndsSo, ComesAfter, Asks, SyncSays}
+use Rattle.zone_sync.specs.LinkTransfers.{RequestsEnded, IsEnded, Serves, EndsSo, ComesAfter, Asks, SyncSays}
+use Rattle.xfr_client.specs.Transfers.{HasShort, ComesLater}
 use Rattle.zone_devices.specs.declared.links.LinkError.{LinkError}
 use Rattle.zone_devices.specs.declared.links.LinkError.TheVariants as links
-use Rattle.zone_sync.specs.declared.outcome.SyncOk.{SyncOk}
-use Rattle.zone_sync.specs.declared.outcome.SyncError.{SyncError}
-use Rattle.zone_sync.specs.declared.outcome.SyncError.TheVariants as why
-use Rattle.zone_sync.proofs.Standings.{none_passed}
-use Rattle.zone_sync.proofs.Outcomes.{stop_few}
-use Rattle.zone_sync.proofs.Clients.{made_rolled}
+use Rattle.xfr_outcomes.specs.declared.outcome.SyncOk.{SyncOk}
+use Rattle.xfr_outcomes.specs.declared.outcome.SyncError.{SyncError}
+use Rattle.xfr_outcomes.specs.declared.outcome.SyncError.TheVariants as why
+use Rattle.xfr_client.proofs.Clients.{made_rolled}
 use Rattle.zone_sync.proofs.Passing.{nothing_yet, link_on}
-use Rattle.zone_sync.proofs.Replying.{Amounts, amounts, comes_to}
 use Rattle.zone_sync.proofs.Replies.{err_same}
 use Rattle.zone_sync.proofs.Serving.{replied_to, served_headed, served_headless}
+use Rattle.xfr_client.proofs.Unasked.{EndsBefore, ends_before, at_rest}
 
 -- ---- no reply was taken
-
-pub none_done : (a : Asking) (gave : Outcome) → Amounts (course_so_far a [] gave) gave []
-unfolding client_so_far
-none_done a gave = amounts a [] gave gave gave (none_passed (fault_so_far a)) (omega (arith)) (stop_few gave [] refl (omega (arith))) refl
-
-abbrev pub EndsBefore : SyncError → Type 0
-EndsBefore why.Memory = Unit {0}
-EndsBefore why.NoSoa = Unit {0}
-EndsBefore (why.Request ShortBuf) = Unit {0}
-EndsBefore why.LinkFault = Unit {0}
-EndsBefore why.Ended = Unit {0}
-EndsBefore (why.Short x) = Unit {0}
-EndsBefore (why.Primary service.InternalError) = Unit {0}
-EndsBefore e = ⊥
-
-pub ends_before : (a : Asking) (s : Session) (before handles : List Commit) (e : SyncError) → EndsBefore e → HasMade a.base before s handles [] → Transfers a [] before handles s (Err e)
-ends_before a s before handles why.Memory x m = record { versions = []; spelt = record { rest = []; is = (none_done a Ended).made }; made = m; answers = inl refl }
-ends_before a s before handles why.NoSoa x m = comes_to a [] before handles s (Err why.NoSoa) NoSoa [] (none_done a NoSoa) refl m
-ends_before a s before handles (why.Request ShortBuf) x m = comes_to a [] before handles s (Err (why.Request ShortBuf)) RequestTooLong [] (none_done a RequestTooLong) refl m
-ends_before a s before handles why.LinkFault x m = comes_to a [] before handles s (Err why.LinkFault) LinkFault [] (none_done a LinkFault) refl m
-ends_before a s before handles why.Ended x m = comes_to a [] before handles s (Err why.Ended) Ended [] (none_done a Ended) refl m
-ends_before a s before handles (why.Short e) x m = comes_to a [] before handles s (Err (why.Short e)) Short [] (none_done a Short) refl m
-ends_before a s before handles (why.Primary service.InternalError) x m = comes_to a [] before handles s (Err (why.Primary service.InternalError)) Primary [] (none_done a Primary) refl m
-ends_before a s before handles (why.Request CountOverflow) x m = absurd x
-ends_before a s before handles (why.Request push.Memory) x m = absurd x
-ends_before a s before handles (why.Primary service.Memory) x m = absurd x
-ends_before a s before handles why.TooManyMessages x m = absurd x
-ends_before a s before handles (why.Tsig e) x m = absurd x
-ends_before a s before handles why.OtherAnswer x m = absurd x
-ends_before a s before handles (why.Xfr e) x m = absurd x
-ends_before a s before handles (why.Iteration e) x m = absurd x
-ends_before a s before handles (why.Update e) x m = absurd x
-ends_before a s before handles why.VersionsExhausted x m = absurd x
-
-pub at_rest : (a : Asking) (s : Session) (before : List Commit) → s.current ≡ a.base → HasMade a.base before s before []
-at_rest a s before h = record { current = h; behind = sym (append-nil before) }
 
 says : (Sends : List ℕ → Option (List Sending) → Type 0) (a : Asking) (longest : ℕ) (old new : Option LinkLists) (before : List Commit) (s : Session) (e : SyncError) (asked heard sent : List (List ℕ)) → LinkWentOn old new asked heard sent [] → Asks a longest asked heard (Err e)
     → IsServed Sends heard sent [] (Err e) → EndsBefore e → s.current ≡ a.base → ((x : ShortMessage) → e ≡ why.Short x → HasShort heard × (sent ≡ [])) → (e ≡ why.Ended → IsEnded heard new) → SyncSays Sends a longest old new before before s (Err e)

@@ -26,7 +26,7 @@ use Rattle.zone_generated.specs.Generated.{zone_name}
 use Rattle.zone_generated.specs.ShortTexts.{IsShort}
 use Rattle.zone_generated.proofs.Content.{generated_is, generated_published}
 use Rattle.zone_generated.proofs.ShortTexts.{generated_short, generated_few}
-use Rattle.zone_sync.specs.SoFar.{asked_octets, request_message}
+use Rattle.xfr_client.specs.SoFar.{asked_octets, request_message}
 use Rattle.zone_sync.specs.Fitting.{Fits, answer_room}
 use Rattle.zone_sync.specs.Grants.{history_offer}
 use Rattle.zone_sync.specs.Reported.{provider_of, generating_provider, generated_asking}

@@ -10,7 +10,7 @@ use Rattle.zone_model.specs.TransferText.{Mode, Axfr, Ixfr}
 use Rattle.zone_model.specs.TransferLaws.{IsPublished}
 use Rattle.zone_model.specs.ZoneRows as rows
 use Rattle.zone_model.proofs.Published.{published_by_test}
-use Rattle.zone_sync.specs.SoFar.{asked_octets, request_message}
+use Rattle.xfr_client.specs.SoFar.{asked_octets, request_message}
 use Rattle.zone_sync.specs.Fitting.{Fits}
 use Rattle.zone_sync.specs.GrantRows as grants
 use Rattle.zone_sync.proofs.Lengths.{asked_length}

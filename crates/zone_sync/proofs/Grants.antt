@@ -5,7 +5,7 @@ use Rattle.std.specs.Option.{option_map_or}
 use Rattle.std.specs.Int.{abs_diff}
 use Rattle.std.specs.List.{AllByRecursion}
 use Rattle.dns_name.specs.Names.{fold, is_name, same_name}
-use Rattle.dns_rdata.specs.Records.{Record}
+use Rattle.dns_rdata.specs.Records.{Record, Field}
 use Rattle.dns_wire.specs.Wire.{Question}
 use Rattle.dns_wire.specs.Parse.{sole_question_in}
 use Rattle.dns_wire.specs.Written.{IsRecord}
@@ -17,7 +17,6 @@ use Rattle.tsig_port.specs.Checked.{taken_message}
 use Rattle.tsig_keys.specs.declared.algorithms.Algorithm.{Algorithm}
 use Rattle.tsig_keys.specs.declared.algorithms.Algorithm.TheVariants.{Sha1, Sha256, Sha384, Sha512}
 use Rattle.tsig_port.proofs.SignedExchange.{request_accepted}
-use Rattle.dns_rdata.specs.Records.{Field}
 use Rattle.dns_rdata.specs.Soa.{serial_of}
 use Rattle.zone_model.specs.Version.{has_one_apex_soa, apex_soa}
 use Rattle.zone_model.specs.Difference.{zone_serial}
@@ -33,13 +32,13 @@ use Rattle.xfr_server.specs.Transfers.{transfer_mode, asked_serial, asks_for_ape
 use Rattle.xfr_providers.specs.declared.providers.XfrDataProviderError.{XfrDataProviderError}
 use Rattle.xfr_providers.proofs.Granted.{history_grants}
 use Rattle.xfr_course.specs.Granting.{in_singles}
-use Rattle.zone_sync.specs.Modes.{mode_of}
-use Rattle.zone_sync.specs.SoFar.{Asking, request_message, asked_question, asked_authority, asked_octets}
-use Rattle.zone_sync.specs.SoFar as so_far
+use Rattle.xfr_outcomes.specs.Modes.{mode_of}
+use Rattle.xfr_client.specs.SoFar.{Asking, request_message, asked_question, asked_authority, asked_octets}
+use Rattle.xfr_client.specs.SoFar as so_far
 use Rattle.zone_sync.specs.Serving.{request_at}
 use Rattle.zone_sync.specs.Fitting.{sent_text, BaseMatches, Fits}
 use Rattle.zone_sync.specs.Grants.{Offers, history_offer}
-use Rattle.zone_sync.proofs.Requests.{octets_are}
+use Rattle.xfr_client.proofs.Requests.{octets_are}
 use Rattle.zone_sync.proofs.HonestRequests.{kind_of, mode_again}
 use Rattle.zone_sync.proofs.HonestRequests as requests
 use Rattle.zone_sync.proofs.HonestReplies.{published, one_apex_soa, apex_is_name, small_class, room_is}

@@ -6,7 +6,7 @@ use Rattle.std.specs.List.{AllByRecursion, list_all, last_or}
 use Rattle.std.proofs.lemmas.List.{map-append}
 use Rattle.std.proofs.lemmas.Bool.Decides.{nat_tests}
 use Rattle.dns_name.specs.Names.{Name, is_name}
-use Rattle.dns_name.specs.Serial.{serial_lt}
+use Rattle.dns_numbers.specs.Serial.{serial_lt}
 use Rattle.dns_rdata.specs.Records.{Record}
 use Rattle.dns_wire.specs.Wire.{Question, id_in}
 use Rattle.tsig_port.specs.Tsig.{compose_len}
@@ -30,11 +30,11 @@ use Rattle.xfr_course.specs.Honest.{carrier_of}
 use Rattle.xfr_course.specs.Success.{sent_course, CarrySent, Succeeds}
 use Rattle.xfr_course.proofs.Clients.{met_decides}
 use Rattle.xfr_course.proofs.Succeeding.{granted_succeeds}
-use Rattle.zone_sync.specs.SoFar.{Asking, asked_id, asked_question, asked_course, course_so_far, checked_so_far, fault_so_far, client_so_far}
-use Rattle.zone_sync.specs.Standing.{Passed}
+use Rattle.xfr_client.specs.SoFar.{Asking, asked_id, asked_question, asked_course, course_so_far, checked_so_far, fault_so_far, client_so_far}
+use Rattle.xfr_client.specs.Standing.{Passed}
 use Rattle.zone_sync.specs.Fitting.{answer_room, told_offer, sent_text, page_answers, sent_pages, begins_together, has_more, BaseMatches, Fits, GrantedSucceed}
-use Rattle.zone_sync.proofs.Outcomes.{comes, passed_course, stop_few}
-use Rattle.zone_sync.proofs.Replying.{so_far}
+use Rattle.xfr_client.proofs.Outcomes.{comes, passed_course, stop_few}
+use Rattle.xfr_client.proofs.Replying.{so_far}
 use Rattle.zone_sync.proofs.HonestRequests.{kind_of}
 use Rattle.zone_sync.proofs.HonestRequests as requests
 use Rattle.zone_sync.proofs.HonestReplies as replies

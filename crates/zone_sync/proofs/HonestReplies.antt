@@ -8,8 +8,8 @@ use Rattle.std.proofs.lemmas.List.Concat.{length-flat_map}
 use Rattle.std.proofs.lemmas.List.Sums.{sum_by-cons}
 use Rattle.std.proofs.lemmas.List.{length-map}
 use Rattle.dns_name.specs.Names.{Name, is_name, name_wire}
-use Rattle.dns_name.specs.Codes.{type_soa}
-use Rattle.dns_name.specs.Serial.{serial_upto}
+use Rattle.dns_numbers.specs.Codes.{type_soa}
+use Rattle.dns_numbers.specs.Serial.{serial_upto}
 use Rattle.dns_name.specs.Octets.{u16_octets, u32_octets}
 use Rattle.dns_rdata.specs.Records.{Record, record_wire, data_wire, is_data}
 use Rattle.dns_wire.specs.Wire.{Header, Message, Question, header_in, question_wire, message_wire}
@@ -39,10 +39,10 @@ use Rattle.xfr_course.specs.Courses.{has_header}
 use Rattle.xfr_course.specs.Granting.{in_singles}
 use Rattle.xfr_course.specs.Honest.{carrier_of}
 use Rattle.xfr_course.specs.Success.{signed_checked}
-use Rattle.zone_sync.specs.SoFar.{Asking, asked_authority, asked_question, request_message, asked_octets, checked_so_far, fault_so_far, message_so_far, header_alone}
-use Rattle.zone_sync.specs.Standing.{Passed}
+use Rattle.xfr_client.specs.SoFar.{Asking, asked_authority, asked_question, request_message, asked_octets, checked_so_far, fault_so_far, message_so_far, header_alone}
+use Rattle.xfr_client.specs.Standing.{Passed}
 use Rattle.zone_sync.specs.Fitting.{answer_room, sent_text, page_answers, sent_pages, Fits, SendsEach}
-use Rattle.zone_sync.proofs.Standings.{none_passed, one_passed}
+use Rattle.xfr_client.proofs.Standings.{none_passed, one_passed}
 use Rattle.zone_sync.proofs.HonestNames.{same_is_name}
 use Rattle.zone_sync.proofs.HonestRequests as requests
 

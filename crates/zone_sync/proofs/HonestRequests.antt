@@ -9,7 +9,7 @@ use Rattle.std.proofs.lemmas.Bool.{and_parts}
 use Rattle.std.proofs.lemmas.Nat.{from_be_bytes-to_be_bytes_2}
 use Rattle.dns_name.specs.Names.{name_wire, is_name}
 use Rattle.dns_name.specs.Octets.{u16_octets, u32_octets}
-use Rattle.dns_name.specs.Codes.{type_soa}
+use Rattle.dns_numbers.specs.Codes.{type_soa}
 use Rattle.dns_name.proofs.WireForms.{name_short}
 use Rattle.dns_rdata.specs.Records.{Field, Octets, DomainName, Record, Exactly, Named, part_allows, parts, is_data, field_wire, data_wire, record_wire}
 use Rattle.dns_rdata.specs.Heads.{readable}
@@ -38,10 +38,10 @@ use Rattle.xfr_server.specs.Transfers.{transfer_mode, mode_of_type, asked_serial
 use Rattle.xfr_services.specs.declared.modes.XfrMode.{XfrMode}
 use Rattle.xfr_services.specs.declared.modes.XfrMode.TheVariants as modes
 use Rattle.xfr_course.specs.Courses.{has_header}
-use Rattle.zone_sync.specs.Modes.{mode_of}
-use Rattle.zone_sync.specs.SoFar.{Asking, asking, authority_of, asked_authority, asked_id, asked_question, request_message, asked_octets, asked_mac}
+use Rattle.xfr_outcomes.specs.Modes.{mode_of}
+use Rattle.xfr_client.specs.SoFar.{Asking, asking, authority_of, asked_authority, asked_id, asked_question, request_message, asked_octets, asked_mac}
 use Rattle.zone_sync.specs.Fitting.{RequestHasHeader}
-use Rattle.zone_sync.proofs.Requests.{octets_are, mac_is}
+use Rattle.xfr_client.proofs.Requests.{octets_are, mac_is}
 
 -- ---- lengths
 

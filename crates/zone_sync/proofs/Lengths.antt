@@ -3,14 +3,14 @@ use Rattle.std.proofs.Common.{◌≡◌, ℕ, ◌+◌, ◌≤◌, List, [], ◌+
 use Rattle.std.specs.Prelude.{IsTrue}
 use Rattle.std.proofs.lemmas.List.{length-take-le}
 use Rattle.dns_name.specs.Octets.{u16_octets, u32_octets, u48_octets}
-use Rattle.dns_name.specs.Codes.{type_tsig, class_any}
+use Rattle.dns_numbers.specs.Codes.{type_tsig, class_any}
 use Rattle.dns_name.specs.Names.{Name, name_wire}
 use Rattle.dns_rdata.specs.Records.{record_wire, data_wire}
 use Rattle.dns_wire.specs.Wire.{with_item, header_number, id_in, message_wire}
 use Rattle.tsig_port.specs.Tsig.{Tsig, is_mac_len, compose_len, tsig_rest, tsig_record, request_tsig, request_input, blank_tsig}
 use Rattle.tsig_port.proofs.SignedExchange.{length-mac}
-use Rattle.zone_sync.specs.SoFar.{Asking, asked_id, asked_question, asked_authority, request_message, asked_octets}
-use Rattle.zone_sync.proofs.Requests.{octets_are}
+use Rattle.xfr_client.specs.SoFar.{Asking, asked_id, asked_question, asked_authority, request_message, asked_octets}
+use Rattle.xfr_client.proofs.Requests.{octets_are}
 use Rattle.zone_sync.proofs.HonestRequests.{asking_length}
 
 rest_length : (t : Tsig) → length (tsig_rest t) ≡ 16 + length t.mac + length t.other

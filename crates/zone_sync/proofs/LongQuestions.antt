@@ -2,12 +2,12 @@
 use Rattle.std.proofs.Common.{◌≡◌, ℕ, Bool, true, false, List, [], ◌∷◌, refl, ap, inl, inr, Option, Some, None, Err}
 use Rattle.tsig_port.specs.ServerCheck.{Keys, verdict}
 use Rattle.xfr_server.specs.Items.{Sending}
-use Rattle.xfr_services.specs.Failing.{fails, IsTooLong}
+use Rattle.xfr_signing.specs.Failing.{fails, IsTooLong}
 use Rattle.xfr_services.specs.declared.services.ServiceError.{ServiceError}
 use Rattle.xfr_course.specs.Courses.{has_header}
 use Rattle.zone_sync.specs.Serving.{request_at, FailsAfter, HandedTo, IsServed}
 use Rattle.zone_sync.specs.LongQuestions.{WasHandedTooLong}
-use Rattle.zone_sync.specs.declared.outcome.SyncError.TheVariants as why
+use Rattle.xfr_outcomes.specs.declared.outcome.SyncError.TheVariants as why
 
 module _ (Sends : List ℕ → Option (List Sending) → Type 0) (keys : Keys) (at : ℕ)
     (cause : (m : List ℕ) (sent : Option (List Sending)) → Sends m sent → fails sent ≡ true → IsTooLong (request_at m at) (verdict keys at m)) where

@@ -7,11 +7,13 @@ use Rattle.zone_devices.specs.Calls.{Rose}
 use Rattle.xfr_server.specs.Items.{Sending}
 use Rattle.zone_generated.specs.Generated as generated
 use Rattle.zone_sync.specs.Delivery.{IsGranted}
-use Rattle.zone_sync.specs.Notices.{is_reported}
-use Rattle.zone_sync.specs.Reported.{Crossed, ReportsNumbers, IsDueOfNumbers, generating_provider, generated_asking, status_by}
-use Rattle.zone_sync.specs.Statuses.{TellsSink, TellsNumbers}
-use Rattle.zone_sync.specs.declared.program.Status.{Status}
-use Rattle.zone_sync.specs.declared.program.Status.TheVariants as ends
+use Rattle.zone_report.specs.Notices.{is_reported}
+use Rattle.zone_sync.specs.Reported.{Crossed, ReportsNumbers, IsDueOfNumbers, generating_provider, generated_asking}
+use Rattle.zone_report.specs.ReportsWritten.{status_by}
+use Rattle.zone_report.specs.StreamFaults.{TellsSink}
+use Rattle.zone_sync.specs.Statuses.{TellsNumbers}
+use Rattle.zone_report.specs.declared.status.Status.{Status}
+use Rattle.zone_report.specs.declared.status.Status.TheVariants as ends
 use Rattle.zone_sync.proofs.Endings.{good_status}
 
 -- the transfer over a link, from a primary that sends so

@@ -2,7 +2,7 @@
 use Rattle.std.proofs.Common.{◌≡◌, ℕ, List, [], ◌∷◌, ◌++◌, append_assoc, append-nil, refl, sym, ap, ◌∙◌, subst, Option, Some, None}
 use Rattle.std.specs.Prelude.{option_map}
 use Rattle.zone_devices.specs.Links.{Way, LinkLists, with_taken, after_take, on_requests, on_replies, WentOn, LinkWentOn}
-use Rattle.zone_sync.specs.Transfers.{RequestsEnded, RepliesEnded}
+use Rattle.zone_sync.specs.LinkTransfers.{RequestsEnded, RepliesEnded}
 
 pub nothing_yet : (o : Option LinkLists) → LinkWentOn o o [] [] [] []
 nothing_yet None = tt

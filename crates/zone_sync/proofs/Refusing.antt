@@ -3,11 +3,11 @@ use Rattle.std.proofs.Common.{◌≡◌, ℕ, refl, sym, ◌∙◌, subst, arith
 use Rattle.std.specs.Prelude.{◌≢◌, ◌⊎◌}
 use Rattle.dns_wire.specs.declared.builder.PushError.TheVariants.{ShortBuf, CountOverflow}
 use Rattle.dns_wire.specs.declared.builder.PushError.TheVariants as push
-use Rattle.zone_sync.specs.SoFar.{Asking}
-use Rattle.zone_sync.specs.Transfers.{NotAsked, ComesAfter, RefusedExactly, RefusesExactly}
-use Rattle.zone_sync.specs.declared.outcome.SyncOk.{SyncOk}
-use Rattle.zone_sync.specs.declared.outcome.SyncError.{SyncError}
-use Rattle.zone_sync.specs.declared.outcome.SyncError.TheVariants as why
+use Rattle.xfr_client.specs.SoFar.{Asking}
+use Rattle.zone_sync.specs.LinkTransfers.{NotAsked, ComesAfter, RefusedExactly, RefusesExactly}
+use Rattle.xfr_outcomes.specs.declared.outcome.SyncOk.{SyncOk}
+use Rattle.xfr_outcomes.specs.declared.outcome.SyncError.{SyncError}
+use Rattle.xfr_outcomes.specs.declared.outcome.SyncError.TheVariants as why
 
 -- no request came to the link
 not_asked : (a : Asking) (longest : ℕ) (answer : Result SyncOk SyncError) → NotAsked a longest answer → answer ≢ Err why.Memory → RefusedExactly a longest answer

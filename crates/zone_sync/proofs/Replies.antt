@@ -6,17 +6,18 @@ use Rattle.std.proofs.lemmas.List.Folds.{list_all-append}
 use Rattle.zone_model.specs.Commits.{Commit}
 use Rattle.zone_model.specs.Session.{Session}
 use Rattle.xfr_course.specs.Courses.{has_header, most_replies}
-use Rattle.zone_sync.specs.SoFar.{Asking}
-use Rattle.zone_sync.specs.Standing.{ClientState, asking_of, Stands, RefusesReply, TakesReply}
-use Rattle.zone_sync.specs.Refusals.{of_link}
+use Rattle.xfr_client.specs.SoFar.{Asking}
+use Rattle.xfr_client.specs.Standing.{ClientState, asking_of, Stands, RefusesReply, TakesReply}
+use Rattle.xfr_outcomes.specs.Refusals.{of_link}
 use Rattle.zone_devices.specs.Links.{LinkLists, after_take, on_replies, LinkWentOn}
-use Rattle.zone_sync.specs.Transfers.{HasShort, EndsSo, TakenSoFar}
+use Rattle.xfr_client.specs.Transfers.{HasShort}
+use Rattle.zone_sync.specs.LinkTransfers.{EndsSo, TakenSoFar}
 use Rattle.zone_devices.specs.declared.links.LinkError.{LinkError}
 use Rattle.zone_devices.specs.declared.links.LinkError.TheVariants as links
-use Rattle.zone_sync.specs.declared.outcome.SyncOk.{SyncOk}
-use Rattle.zone_sync.specs.declared.outcome.SyncError.{SyncError}
-use Rattle.zone_sync.specs.declared.outcome.SyncError.TheVariants as why
-use Rattle.zone_sync.proofs.Replying.{no_end, comes_later, refuses, finishes, link_fails, link_ends, memory_ends, too_many}
+use Rattle.xfr_outcomes.specs.declared.outcome.SyncOk.{SyncOk}
+use Rattle.xfr_outcomes.specs.declared.outcome.SyncError.{SyncError}
+use Rattle.xfr_outcomes.specs.declared.outcome.SyncError.TheVariants as why
+use Rattle.xfr_client.proofs.Replying.{no_end, comes_later, refuses, finishes, link_fails, link_ends, memory_ends, too_many}
 use Rattle.zone_sync.proofs.Passing.{nothing_yet, reply_handed, replies_ended, link_on}
 
 pub starts : (a : Asking) (o : Option LinkLists) (c : ClientState) (s : Session) (before handles : List Commit) → Stands c s a [] before handles → TakenSoFar a o o c s before handles 0

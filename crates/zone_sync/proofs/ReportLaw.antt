@@ -1,6 +1,6 @@
 -- The report of a transfer, from what its parts ensure.
-use Rattle.std.specs.Prelude.{◌≡◌, ◌≢◌, ◌<◌, ℕ, List, [], length, true, false, Option, Result, Ok, Err, IsTrue}
-use Rattle.std.proofs.Common.{refl, sym, ap, ◌∙◌, subst, arith}
+use Rattle.std.specs.Prelude.{◌≡◌, ◌≢◌, ℕ, List, [], length, Option, Result, Err}
+use Rattle.std.proofs.Common.{ap, ◌∙◌, subst}
 use Rattle.dns_name.specs.Names.{Name}
 use Rattle.dns_rdata.specs.Records.{record_wire}
 use Rattle.tsig_port.specs.Tsig.{TsigKey}
@@ -14,57 +14,17 @@ use Rattle.zone_devices.specs.Calls.{Rose}
 use Rattle.zone_devices.specs.Links.{LinkLists}
 use Rattle.xfr_server.specs.Items.{Sending}
 use Rattle.zone_script.specs.declared.script.Script.{Script}
-use Rattle.zone_sync.specs.SoFar.{asks_with}
+use Rattle.xfr_client.specs.SoFar.{asks_with}
 use Rattle.zone_sync.specs.Delivery.{Synchronizes}
-use Rattle.zone_sync.specs.declared.outcome.SyncOk.{SyncOk}
-use Rattle.zone_sync.specs.declared.outcome.SyncError.{SyncError}
-use Rattle.zone_sync.specs.declared.outcome.SyncError.TheVariants as why
-use Rattle.zone_sync.specs.Report.{report, generated_report}
-use Rattle.zone_sync.specs.Notices.{is_reported}
-use Rattle.zone_sync.specs.Reported.{crossed, Crossed, Transferred, EndsAs, Reports, ReportsOn, ReportsNumbers, read_provider, generating_provider, generated_asking, status_by}
-use Rattle.zone_sync.specs.declared.program.Status.{Status}
-use Rattle.zone_sync.specs.declared.program.Status.TheVariants.{LinkFault, Memory}
-use Rattle.zone_sync.specs.contracts.program.StatusPartialEq.TheImpl as derived
-
--- a status that comes with a report
-pub ends_reported : (answer : Result SyncOk SyncError) (status : Status) → status ≡ status_by answer → answer ≢ Err why.Memory → IsTrue (is_reported status)
-ends_reported answer status e known = subst (λ t. IsTrue (is_reported t)) (sym e) (by answer known)
-  where
-    by : (answer : Result SyncOk SyncError) → answer ≢ Err why.Memory → IsTrue (is_reported (status_by answer))
-    by (Ok done) h = refl
-    by (Err why.LinkFault) h = refl
-    by (Err why.Memory) h = absurd (h refl)
-    by (Err e) h = refl
-
--- an answer that isn't want of memory, by its status
-pub known_by_status : (answer : Result SyncOk SyncError) (status : Status) → status ≡ status_by answer → derived.ghosts.eq status Memory ≡ false → answer ≢ Err why.Memory
-known_by_status answer status e test memory =
-    let same : status ≡ Memory = e ∙ ap status_by memory in
-    let clash : true ≡ false = ap (λ s. derived.ghosts.eq s Memory) (sym same) ∙ test in
-    absurd cc
-
--- a status of a failed link is that of its answer
-pub link_failed : (answer : Result SyncOk SyncError) (status : Status) → status ≡ status_by answer → status ≡ LinkFault → answer ≡ Err why.LinkFault
-link_failed answer status e f = by answer (sym e ∙ f)
-  where
-    by : (r : Result SyncOk SyncError) → status_by r ≡ LinkFault → r ≡ Err why.LinkFault
-    by (Ok done) h = cc
-    by (Err why.LinkFault) h = refl
-    by (Err why.Memory) h = cc
-    by (Err e) h = cc
-
--- a count of faults that rose is that of the answer
-pub link_fails : (answer : Result SyncOk SyncError) (status : Status) (old new : ℕ) → status ≡ status_by answer → (answer ≢ Err why.LinkFault → new ≡ old) → old < new → status ≡ LinkFault
-link_fails answer status old new e steady rose = e ∙ by answer steady
-  where
-    not_steady : new ≡ old → ⊥
-    not_steady f = omega arith
-
-    by : (r : Result SyncOk SyncError) → (r ≢ Err why.LinkFault → new ≡ old) → status_by r ≡ LinkFault
-    by (Ok done) h = absurd (not_steady (h (λ f. cc)))
-    by (Err why.LinkFault) h = refl
-    by (Err why.Memory) h = absurd (not_steady (h (λ f. cc)))
-    by (Err e) h = absurd (not_steady (h (λ f. cc)))
+use Rattle.xfr_outcomes.specs.declared.outcome.SyncOk.{SyncOk}
+use Rattle.xfr_outcomes.specs.declared.outcome.SyncError.{SyncError}
+use Rattle.xfr_outcomes.specs.declared.outcome.SyncError.TheVariants as why
+use Rattle.zone_report.specs.Report.{report, generated_report}
+use Rattle.zone_sync.specs.Reported.{crossed, Crossed, Transferred, EndsAs, ReportsOn, ReportsNumbers, read_provider, generating_provider, generated_asking}
+use Rattle.zone_report.specs.ReportsWritten.{status_by}
+use Rattle.zone_report.specs.declared.status.Status.{Status}
+use Rattle.zone_report.specs.declared.status.Status.TheVariants.{LinkFault}
+use Rattle.zone_report.proofs.ReportedAnswers.{reports_so}
 
 module _ (Sends : List ℕ → Option (List Sending) → Type 0) (at longest : ℕ) (old new : Option LinkLists) (f g : ℕ) where
   -- a transfer into a new list of handles
@@ -86,15 +46,6 @@ module _ (Sends : List ℕ → Option (List Sending) → Type 0) (at longest : �
     failed = failed;
     steady = steady;
   }
-
--- what was made of an answer is its report
-pub reports_so : (asked queries : List (Name × ℕ)) (handles : List Commit) (s : Session) (answer : Result SyncOk SyncError) (octets : List ℕ) (n : ℕ) (last : Commit) (status : Status)
-    → n ≡ length handles → last ≡ s.current → status ≡ status_by answer → asked ≡ queries
-    → octets ≡ report record_wire answer n last.version asked [] → Reports answer handles s queries octets status
-reports_so asked queries handles s answer octets n last status counted current ends same is = record {
-  ended = ends;
-  is = is ∙ ap (λ m. report record_wire answer m last.version asked []) counted ∙ ap (λ z. report record_wire answer (length handles) z.version asked []) current ∙ ap (λ q. report record_wire answer (length handles) s.current.version q []) same;
-}
 
 -- .. and that of a script's transfer
 pub reported_so : (SendsOf : Provider → TsigKey → ℕ → List ℕ → Option (List Sending) → Type 0) (mode : Mode) (script : Script) (link : Crossed) (answer : Result SyncOk SyncError) (n : ℕ) (last : Commit) (status : Status)

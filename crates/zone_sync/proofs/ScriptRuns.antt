@@ -1,6 +1,6 @@
 -- What a script decides of a run's status, from what is told of the run.
-use Rattle.std.proofs.Common.{◌≡◌, ℕ, ◌<◌, ◌≤◌, List, length, refl, sym, ap, ◌∙◌, subst, arith, ◌⊎◌, inl, inr, Option, Some, None, Ok, Err}
-use Rattle.std.specs.Prelude.{◌≢◌, IsTrue, IfSome}
+use Rattle.std.proofs.Common.{◌≡◌, ℕ, ◌≤◌, List, length, refl, ap, ◌∙◌, arith, ◌⊎◌, inl, inr, Ok, Err}
+use Rattle.std.specs.Prelude.{◌≢◌, IsTrue}
 use Rattle.tsig_port.specs.Tsig.{TsigKey}
 use Rattle.zone_model.specs.TransferText.{Mode}
 use Rattle.zone_devices.specs.Calls.{Rose}
@@ -8,15 +8,12 @@ use Rattle.zone_script.specs.Script as scripts
 use Rattle.zone_script.specs.Script.{script_of}
 use Rattle.zone_script.specs.ScriptReaders.{wire_readers}
 use Rattle.zone_sync.specs.Delivery.{WasHonest}
-use Rattle.zone_sync.specs.Notices.{is_fault}
+use Rattle.zone_report.specs.Notices.{is_fault}
 use Rattle.zone_sync.specs.Reported.{Crossed, FitsLink}
-use Rattle.zone_sync.specs.Statuses.{TellsSink, TellsLink, TellsScript}
-use Rattle.zone_sync.specs.declared.program.Status.{Status}
-use Rattle.zone_sync.specs.declared.program.Status.TheVariants as ends
-
--- what was read of a source that tells its octets is what it told
-pub is_told : (left : Option (List ℕ)) (text items t : List ℕ) → left ≡ Some text → IfSome left (λ had. items ≡ had) → t ≡ items → t ≡ text
-is_told left text items t had all value = value ∙ subst (λ (l : Option (List ℕ)). IfSome l (λ had. items ≡ had)) had all
+use Rattle.zone_report.specs.StreamFaults.{TellsSink}
+use Rattle.zone_sync.specs.Statuses.{TellsLink, TellsScript}
+use Rattle.zone_report.specs.declared.status.Status.{Status}
+use Rattle.zone_report.specs.declared.status.Status.TheVariants as ends
 
 -- a status that is none of the faults, of the words, the source or the length
 ended : (s : Status) → (s ≢ ends.Usage) × (s ≢ ends.SourceFault) × (s ≢ ends.TooLong) → s ≢ ends.Script → s ≢ ends.SinkFault → s ≢ ends.LinkFault → (s ≡ ends.Done) ⊎ ((s ≡ ends.Refused) ⊎ (s ≡ ends.Memory))

@@ -8,16 +8,17 @@ use Rattle.xfr_services.specs.declared.requests.TransportSpecificContext.TheVari
 use Rattle.xfr_services.specs.declared.services.ServiceError.{ServiceError}
 use Rattle.xfr_services.specs.declared.services.ServiceError.TheVariants as service
 use Rattle.dns_wire.specs.Wire.{Building}
-use Rattle.zone_sync.specs.Refusals.{of_link, of_service}
+use Rattle.xfr_outcomes.specs.Refusals.{of_link, of_service}
 use Rattle.zone_devices.specs.Links.{LinkLists, with_taken, on_replies, LinkWentOn}
 use Rattle.xfr_course.specs.Courses.{has_header}
 use Rattle.zone_sync.specs.Serving.{request_at, SendsAll, HasBegun, IsFront, ServedBy, SentOf, RepliedTo, NoRequest, HandedTo, IsServed}
-use Rattle.zone_sync.specs.Transfers.{Serves, SendsItems, SentSoFar, ComesLater}
+use Rattle.zone_sync.specs.LinkTransfers.{Serves, SendsItems, SentSoFar}
+use Rattle.xfr_client.specs.Transfers.{ComesLater}
 use Rattle.zone_devices.specs.declared.links.LinkError.{LinkError}
 use Rattle.zone_devices.specs.declared.links.LinkError.TheVariants as links
-use Rattle.zone_sync.specs.declared.outcome.SyncOk.{SyncOk}
-use Rattle.zone_sync.specs.declared.outcome.SyncError.{SyncError}
-use Rattle.zone_sync.specs.declared.outcome.SyncError.TheVariants as why
+use Rattle.xfr_outcomes.specs.declared.outcome.SyncOk.{SyncOk}
+use Rattle.xfr_outcomes.specs.declared.outcome.SyncError.{SyncError}
+use Rattle.xfr_outcomes.specs.declared.outcome.SyncError.TheVariants as why
 use Rattle.std.specs.Prelude.{option_map}
 use Rattle.zone_sync.proofs.Passing.{nothing_yet, reply_taken, link_on}
 

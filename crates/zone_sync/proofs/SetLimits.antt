@@ -13,7 +13,7 @@ use Rattle.zone_model.specs.Edits.{Refusal, OutOfZone, Incompatible, InvalidData
 use Rattle.zone_model.specs.TransferText.{is_soa}
 use Rattle.zone_model.specs.Updates.{Update, DeleteAllRecords, DeleteRecord, AddRecord, BeginBatchDelete, BeginBatchAdd, Finished, Progress, UpdateFault, NotSoaRecord, AfterFinish, published, edited, finish, apply, apply_update}
 use Rattle.xfr_model.specs.Applying.{Halt, NoNumber, within, unless_halted, apply_within}
-use Rattle.zone_sync.specs.Room.{set_count, adds_to_full, AllHaveRoom, IsWithin, AreWithin, LimitHolds, CountsWithin}
+use Rattle.xfr_client.specs.Room.{set_count, adds_to_full, AllHaveRoom, IsWithin, AreWithin, LimitHolds, CountsWithin}
 
 -- ---- the entries of a version
 

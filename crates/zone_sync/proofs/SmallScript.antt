@@ -8,7 +8,7 @@ use Rattle.zone_model.specs.TransferLaws.{IsPublished}
 use Rattle.zone_model.specs.ZoneRows as rows
 use Rattle.zone_model.proofs.Published.{published_by_test}
 use Rattle.zone_script.specs.Script as scripts
-use Rattle.zone_sync.specs.SoFar.{asked_octets, request_message}
+use Rattle.xfr_client.specs.SoFar.{asked_octets, request_message}
 use Rattle.zone_sync.specs.Reported.{asking_in, provider_in, FitsLink}
 use Rattle.zone_sync.specs.ProgramRows.{small_key, small_read, small_sent, changes_read, changes_sent, before, after}
 use Rattle.zone_sync.proofs.Lengths.{asked_length}

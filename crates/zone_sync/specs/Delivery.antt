@@ -7,13 +7,13 @@ use Rattle.zone_model.specs.Session.{Session}
 use Rattle.xfr_server.specs.Items.{Sending}
 use Rattle.xfr_server.specs.GrantedTransfers.{IsSentWhole}
 use Rattle.zone_devices.specs.Links.{LinkLists, IsHonest}
-use Rattle.zone_sync.specs.SoFar.{Asking, asked_octets}
+use Rattle.xfr_client.specs.SoFar.{Asking, asked_octets}
 use Rattle.zone_sync.specs.Serving.{request_at}
 use Rattle.zone_sync.specs.Fitting.{Fits}
-use Rattle.zone_sync.specs.Transfers.{SyncSays}
-use Rattle.zone_sync.specs.declared.outcome.SyncOk.{SyncOk}
-use Rattle.zone_sync.specs.declared.outcome.SyncError.{SyncError}
-use Rattle.zone_sync.specs.declared.outcome.SyncError.TheVariants as why
+use Rattle.zone_sync.specs.LinkTransfers.{SyncSays}
+use Rattle.xfr_outcomes.specs.declared.outcome.SyncOk.{SyncOk}
+use Rattle.xfr_outcomes.specs.declared.outcome.SyncError.{SyncError}
+use Rattle.xfr_outcomes.specs.declared.outcome.SyncError.TheVariants as why
 
 -- a link that tells its lists was honest from one state to another, and its count of faults doesn't stand at the greatest number
 abbrev pub WasHonest : Option LinkLists → Option LinkLists → ℕ → ℕ → Type 0

@@ -3,7 +3,7 @@ use Rattle.std.specs.Prelude.{◌≡◌, ℕ, ◌+◌, ◌-◌, ◌^◌, ◌≤�
 use Rattle.std.specs.Int.{abs_diff}
 use Rattle.std.specs.List.{AllByRecursion}
 use Rattle.dns_name.specs.Names.{Name, same_name}
-use Rattle.dns_name.specs.Serial.{serial_lt}
+use Rattle.dns_numbers.specs.Serial.{serial_lt}
 use Rattle.dns_rdata.specs.Records.{Record}
 use Rattle.dns_wire.specs.Wire.{Message, message_wire, question_wire}
 use Rattle.dns_wire.specs.Written.{IsRecord}
@@ -22,7 +22,7 @@ use Rattle.xfr_course.specs.Outcome.{Outcome}
 use Rattle.xfr_course.specs.Courses.{has_header, most_replies}
 use Rattle.xfr_course.specs.Granting.{in_singles}
 use Rattle.xfr_course.specs.Success.{Succeeds}
-use Rattle.zone_sync.specs.SoFar.{Asking, asked_octets, asked_question, asked_authority, course_so_far}
+use Rattle.xfr_client.specs.SoFar.{Asking, asked_octets, asked_question, asked_authority, course_so_far}
 
 -- ---- what is sent
 

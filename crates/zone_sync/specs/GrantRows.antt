@@ -10,7 +10,7 @@ use Rattle.zone_model.specs.TransferText.{Mode, Axfr}
 use Rattle.zone_model.specs.Offer.{Offer, Provider}
 use Rattle.zone_model.specs.ZoneRows as rows
 use Rattle.xfr_providers.specs.Offers.{key_id}
-use Rattle.zone_sync.specs.SoFar.{Asking, asks_with}
+use Rattle.xfr_client.specs.SoFar.{Asking, asks_with}
 use Rattle.zone_sync.specs.Grants.{history_offer}
 
 abbrev pub key : TsigKey

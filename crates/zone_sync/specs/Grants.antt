@@ -7,7 +7,7 @@ use Rattle.tsig_port.specs.ServerCheck.{Keys}
 use Rattle.zone_model.specs.Offer.{Offer, Provider, offer_of}
 use Rattle.xfr_server.specs.Transfers as served
 use Rattle.xfr_providers.specs.declared.providers.XfrDataProviderError.{XfrDataProviderError}
-use Rattle.zone_sync.specs.SoFar.{Asking, asked_serial, asked_octets}
+use Rattle.xfr_client.specs.SoFar.{Asking, asked_serial, asked_octets}
 
 -- what a provider with a history offers to the request of one whose key it grants: what it keeps, with the differences from the serial that is named
 abbrev pub history_offer : Provider → Asking → Offer

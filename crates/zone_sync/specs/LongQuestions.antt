@@ -1,7 +1,7 @@
 -- Why a primary of these services can't reply: what the link handed it has questions that pass 65,535 octets.
 use Rattle.std.specs.Prelude.{◌≡◌, ℕ, true, List, [], ◌∷◌}
 use Rattle.tsig_port.specs.ServerCheck.{Keys, verdict}
-use Rattle.xfr_services.specs.Failing.{IsTooLong}
+use Rattle.xfr_signing.specs.Failing.{IsTooLong}
 use Rattle.xfr_course.specs.Courses.{has_header}
 use Rattle.zone_sync.specs.Serving.{request_at}
 

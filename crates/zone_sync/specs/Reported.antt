@@ -1,7 +1,5 @@
 -- What a run of the program writes, and what passes over its link: the report of the transfer that a script asks for, the number of a bad line, or a notice.
-use Rattle.std.specs.Prelude.{◌≡◌, ◌≢◌, ◌⊎◌, ℕ, ◌<◌, ◌≤◌, ◌^◌, List, [], ◌∷◌, length, map, take, min, false, Option, Some, IfSome, IsTrue, Result, Ok, Err}
-use Rattle.dns_name.specs.Names.{Name}
-use Rattle.dns_rdata.specs.Records.{record_wire}
+use Rattle.std.specs.Prelude.{◌≡◌, ◌≢◌, ◌⊎◌, ℕ, ◌<◌, ◌≤◌, ◌^◌, List, [], ◌∷◌, ◌++◌, length, map, min, false, codes, Option, Some, IfSome, IsTrue, Result, Ok, Err}
 use Rattle.tsig_port.specs.Tsig.{TsigKey}
 use Rattle.zone_model.specs.Commits.{Commit}
 use Rattle.zone_model.specs.Session.{Session}
@@ -14,7 +12,6 @@ use Rattle.zone_model.specs.Spells.{spelling}
 use Rattle.zone_model.specs.Offer.{Offer, Provider, after_push, difference_if}
 use Rattle.zone_devices.specs.Calls.{Rose}
 use Rattle.zone_devices.specs.Links.{LinkLists}
-use Rattle.zone_devices.specs.Streams.{with_more}
 use Rattle.xfr_server.specs.Items.{Sending}
 use Rattle.xfr_providers.specs.Offers.{key_id}
 use Rattle.zone_script.specs.Words.{Form, Transfer, Generate}
@@ -22,17 +19,19 @@ use Rattle.zone_script.specs.Script.{Script, script_of, committed_by, secondary_
 use Rattle.zone_script.specs.declared.script.Script as read_scripts
 use Rattle.zone_script.specs.ScriptReaders.{wire_readers}
 use Rattle.zone_generated.specs.Generated as generated
-use Rattle.zone_sync.specs.SoFar.{Asking, asks_with, asked_octets}
+use Rattle.xfr_client.specs.SoFar.{Asking, asks_with, asked_octets}
 use Rattle.zone_sync.specs.Fitting.{AreClose, ArePublished, RecordsFit, BaseMatches, sent_text}
 use Rattle.zone_sync.specs.Grants.{history_offer}
 use Rattle.zone_sync.specs.Delivery.{Synchronizes}
-use Rattle.zone_sync.specs.Report.{report, generated_report}
-use Rattle.zone_sync.specs.Notices.{usage_line, fault_line, long_line, bad_line, is_reported}
-use Rattle.zone_sync.specs.declared.outcome.SyncOk.{SyncOk}
-use Rattle.zone_sync.specs.declared.outcome.SyncError.{SyncError}
-use Rattle.zone_sync.specs.declared.outcome.SyncError.TheVariants as why
-use Rattle.zone_sync.specs.declared.program.Status.{Status}
-use Rattle.zone_sync.specs.declared.program.Status.TheVariants as ends
+use Rattle.zone_script.specs.BadLines.{NamesLine}
+use Rattle.zone_report.specs.Report.{generated_report}
+use Rattle.zone_report.specs.ReportsWritten.{status_by, Reports}
+use Rattle.zone_report.specs.Notices.{fault_line, long_line, is_reported}
+use Rattle.xfr_outcomes.specs.declared.outcome.SyncOk.{SyncOk}
+use Rattle.xfr_outcomes.specs.declared.outcome.SyncError.{SyncError}
+use Rattle.xfr_outcomes.specs.declared.outcome.SyncError.TheVariants as why
+use Rattle.zone_report.specs.declared.status.Status.{Status}
+use Rattle.zone_report.specs.declared.status.Status.TheVariants as ends
 
 -- what a link told, before and after: the longest request that it takes, what passed over it, and how often it had failed
 pub record Crossed : Type 0 where
@@ -44,13 +43,6 @@ pub record Crossed : Type 0 where
 
 abbrev pub crossed : ℕ → Option LinkLists → Option LinkLists → ℕ → ℕ → Crossed
 crossed longest old new f g = record { longest = longest; lists_old = old; lists_new = new; faults_old = f; faults_new = g }
-
--- the status of a transfer's answer
-abbrev pub status_by : Result SyncOk SyncError → Status
-status_by (Ok done) = ends.Done
-status_by (Err why.LinkFault) = ends.LinkFault
-status_by (Err why.Memory) = ends.Memory
-status_by (Err _) = ends.Refused
 
 -- nothing passed over the link, and its count of faults is as before
 pub record Untouched (link : Crossed) : Type 0 where
@@ -66,11 +58,6 @@ pub record Transferred (Sends : List ℕ → Option (List Sending) → Type 0) (
   -- the answer is the link's fault only where its count of faults rose, and with any other none came
   pub failed : answer ≡ Err why.LinkFault → Rose link.faults_old link.faults_new
   pub steady : answer ≢ Err why.LinkFault → link.faults_new ≡ link.faults_old
-
--- a transfer that was answered so ends with that status, and octets are its report: the answer, the count of versions made, the records of the last one, and what it answers to the questions
-pub record Reports (answer : Result SyncOk SyncError) (handles : List Commit) (s : Session) (queries : List (Name × ℕ)) (octets : List ℕ) (status : Status) : Type 0 where
-  pub ended : status ≡ status_by answer
-  pub is : octets ≡ report record_wire answer (length handles) s.current.version queries []
 
 -- how a transfer ended that is to be reported: its answer, how many versions it made, the last one, and its status
 pub record EndsAs (Sends : List ℕ → Option (List Sending) → Type 0) (a : Asking) (at : ℕ) (link : Crossed) (answer : Result SyncOk SyncError) (made : ℕ) (last : Commit) (status : Status) : Type 0 where
@@ -165,13 +152,9 @@ pub record FitsLink (mode : Mode) (script : Script TsigKey) (key : TsigKey) (lon
   pub room : length (spelling mode (sent_text (asking_in mode script key) (offer_in mode script key)) (secondary_version script)).versions < 2 ^ 64
   pub request_fits : length (asked_octets (asking_in mode script key)) ≤ min longest 65535
 
--- what the source had is no script, and octets name its first bad line
-pub record NamesLine (left : Option (List ℕ)) (octets : List ℕ) : Type 0 where
-  pub text : List ℕ
-  pub whole : IfSome left (λ had. text ≡ had)
-  pub number : ℕ
-  pub bad : script_of wire_readers text ≡ Err number
-  pub is : octets ≡ bad_line number
+-- the words have no form
+abbrev pub usage_line : List ℕ
+usage_line = codes "usage: zonesync axfr [K] / ixfr [K] / gen N SEED" ++ 10 ∷ []
 
 -- What there is to write with a status, and what passed over the link: the script's transfer with a report and nothing without one; where memory ran out,
 -- nothing or that transfer. With the status of a failed sink nothing is due, and a first part of what another status would have written was taken.
@@ -217,24 +200,3 @@ IsDueOfNumbers SendsOf size seed link octets status = ReportsNumbers SendsOf siz
 abbrev pub IsDueOf : (Provider → TsigKey → ℕ → List ℕ → Option (List Sending) → Type 0) → Option Form → Option (List ℕ) → Crossed → List ℕ → Status → Type 0
 IsDueOf SendsOf (Some (Generate size seed)) left link = IsDueOfNumbers SendsOf size seed link
 IsDueOf SendsOf form left link = IsDue SendsOf form left link
-
--- a sink took octets of which this holds
-pub record Took (Holds : List ℕ → Type 0) (old new : Option (List ℕ)) : Type 0 where
-  pub octets : List ℕ
-  pub due : Holds octets
-  pub taken : new ≡ with_more octets old
-
--- .. or a first part of what belongs to some status
-pub record TookFirst (Holds : List ℕ → Status → Type 0) (old new : Option (List ℕ)) : Type 0 where
-  pub octets : List ℕ
-  pub status : Status
-  pub count : ℕ
-  pub due : Holds octets status
-  pub taken : new ≡ with_more (take count octets) old
-
--- What a sink took by the end of a run that gave a status.
-pub record Wrote (Holds : List ℕ → Status → Type 0) (old new : Option (List ℕ)) (status : Status) : Type 0 where
-  -- all that belongs to the status, unless the sink failed
-  pub whole : status ≢ ends.SinkFault → Took (λ octets. Holds octets status) old new
-  -- where it failed, a first part of what belongs to some status
-  pub part : status ≡ ends.SinkFault → TookFirst Holds old new

@@ -5,9 +5,9 @@ use Rattle.xfr_services.specs.declared.requests.Request.{Request}
 use Rattle.xfr_services.specs.declared.requests.TransportSpecificContext.TheVariants.{NonUdp}
 use Rattle.xfr_services.specs.declared.services.ServiceError.TheVariants.{InternalError}
 use Rattle.xfr_course.specs.Courses.{has_header}
-use Rattle.zone_sync.specs.declared.outcome.SyncOk.{SyncOk}
-use Rattle.zone_sync.specs.declared.outcome.SyncError.{SyncError}
-use Rattle.zone_sync.specs.declared.outcome.SyncError.TheVariants as why
+use Rattle.xfr_outcomes.specs.declared.outcome.SyncOk.{SyncOk}
+use Rattle.xfr_outcomes.specs.declared.outcome.SyncError.{SyncError}
+use Rattle.xfr_outcomes.specs.declared.outcome.SyncError.TheVariants as why
 
 -- a request as a primary is asked it: it came by a stream, and nothing is known of it
 abbrev pub request_at : List ℕ → ℕ → Request (Unit {0})

@@ -8,10 +8,10 @@ use Rattle.zone_script.specs.Script.{script_of}
 use Rattle.zone_script.specs.ScriptReaders.{wire_readers}
 use Rattle.zone_script.specs.Words.{Form, Transfer, Generate}
 use Rattle.zone_sync.specs.Delivery.{WasHonest}
-use Rattle.zone_sync.specs.Notices.{is_fault}
+use Rattle.zone_report.specs.Notices.{is_fault}
 use Rattle.zone_sync.specs.Reported.{Crossed, FitsLink}
-use Rattle.zone_sync.specs.declared.program.Status.{Status}
-use Rattle.zone_sync.specs.declared.program.Status.TheVariants as ends
+use Rattle.zone_report.specs.declared.status.Status.{Status}
+use Rattle.zone_report.specs.declared.status.Status.TheVariants as ends
 
 -- words that don't ask for a script's transfer without reader threads
 abbrev pub AsksNoScript : Option Form → Type 0
@@ -28,20 +28,6 @@ pub record TellsWords (form : Option Form) (status : Status) : Type 0 where
   pub usage : status ≡ ends.Usage → IsOther form
   -- any others are, unless the sink fails
   pub no_form : IsOther form → (status ≡ ends.Usage) ⊎ (status ≡ ends.SinkFault)
-
--- how often the source had failed, before and after, and the status
-pub record TellsSource (old new : ℕ) (status : Status) : Type 0 where
-  -- its fault is told only where the count rose
-  pub fault : status ≡ ends.SourceFault → Rose old new
-  -- one that came is told, unless the sink fails
-  pub told : old < new → (status ≡ ends.SourceFault) ⊎ (status ≡ ends.SinkFault)
-
--- the same of the sink
-pub record TellsSink (old new : ℕ) (status : Status) : Type 0 where
-  -- its fault is told only where the count rose
-  pub fault : status ≡ ends.SinkFault → Rose old new
-  -- with any other status none came
-  pub steady : status ≢ ends.SinkFault → new ≡ old
 
 -- the same of the link
 pub record TellsLink (old new : ℕ) (status : Status) : Type 0 where

@@ -3,28 +3,30 @@ ghost use Rattle.std.specs.Prelude.{◌≡◌, ◌≢◌, ◌⊎◌, ◌<◌, �
 ghost use Rattle.zone_model.specs.TransferText.{Mode};
 ghost use Rattle.zone_devices.specs.Calls.{Rose};
 ghost use Rattle.zone_devices.specs.Streams.{with_more, emptied};
-ghost use Rattle.zone_sync.specs.Reported.{ReportsOn, TransfersOn, Transferred, Untouched, FitsLink, AreTold, versions_of, pushed_all, provider_of, IsDue, IsDueOf, IsDueOfNumbers, ReportsNumbers, TransfersNumbers, EndsAs, Took, TookFirst, Wrote, crossed, status_by};
-ghost use Rattle.zone_sync.specs.Statuses.{AsksNoScript, IsOther, TellsLink, TellsNumbers, TellsScript, TellsSink, TellsSource, TellsWords};
+ghost use Rattle.zone_sync.specs.Reported.{ReportsOn, TransfersOn, Transferred, Untouched, FitsLink, AreTold, versions_of, pushed_all, provider_of, IsDue, IsDueOf, IsDueOfNumbers, ReportsNumbers, TransfersNumbers, EndsAs, crossed};
+ghost use Rattle.zone_report.specs.ReportsWritten.{Took, TookFirst, Wrote, status_by};
+ghost use Rattle.zone_sync.specs.Statuses.{AsksNoScript, IsOther, TellsLink, TellsNumbers, TellsScript, TellsWords};
+ghost use Rattle.zone_report.specs.StreamFaults.{TellsSink, TellsSource};
 ghost use Rattle.zone_sync.specs.Primaries.{refuser};
 ghost use Rattle.zone_sync.specs.Serving.{request_at};
 ghost use Rattle.zone_sync.specs.Delivery.{WasHonest};
-ghost use Rattle.zone_sync.specs.Notices.{bad_line, is_fault, is_reported, is_read, exit_status};
+ghost use Rattle.zone_script.specs.BadLines.{bad_line};
+ghost use Rattle.zone_report.specs.Notices.{is_fault, is_reported, is_read};
 ghost use Rattle.zone_script.specs.Script as scripts;
 ghost use Rattle.zone_script.specs.Script.{script_of};
 ghost use Rattle.tsig_port.specs.Tsig.{TsigKey};
 ghost use Rattle.zone_script.specs.ScriptReaders.{wire_readers};
 ghost use Rattle.zone_script.specs.Words.{form_of, Transfer, Generate};
-ghost use Rattle.zone_sync.specs.SoFar.{asks_with};
-ghost use Rattle.zone_sync.specs.Modes.{mode_of};
+ghost use Rattle.xfr_client.specs.SoFar.{asks_with};
+ghost use Rattle.xfr_outcomes.specs.Modes.{mode_of};
 
 use crate::laws::history_primaries_grant;
 use crate::number_laws::generated_zones_are_granted;
-use crate::outcome::{SyncError, SyncOk};
-use crate::report::{counts_octets, report_octets};
 use crate::sync::{Moments, sync_zone};
 use dns_name::Labelled;
 use std::alloc::{AllocError, Global};
 use tsig_port::{Key, Time48};
+use xfr_outcomes::{SyncError, SyncOk};
 use xfr_server::{
     HistoryProvider, PrimaryStack, RefuseSvc, Service, TsigMiddlewareSvc, XfrMiddlewareSvc,
 };
@@ -35,6 +37,8 @@ use zone_devices::sinks::{Sink, write_all};
 use zone_devices::sources::Source;
 use zone_generated::{empty, generated, generated_key};
 use zone_reads::ReadZone;
+use zone_report::Status;
+use zone_report::report::{counts_octets, report_octets};
 use zone_script::commits::Commits;
 use zone_script::script::{Script, ScriptError, parse};
 use zone_script::words::{generated_of, transfer_of};
@@ -42,48 +46,6 @@ use zone_sessions::ZoneApex;
 
 /// The usage line.
 const USAGE: &[u8] = b"usage: zonesync axfr [K] / ixfr [K] / gen N SEED\n";
-
-/// How the program ended, as its exit status.
-#[derive(Clone, Copy, Debug, PartialEq, Eq)]
-pub enum Status {
-    /// The transfer ended well, and the report was written.
-    Done,
-    /// The transfer was refused, and the report was written.
-    Refused,
-    /// The words have no form, and the usage line was written.
-    Usage,
-    /// A line of the script isn't read or is refused, and its number was written.
-    Script,
-    /// The source failed.
-    SourceFault,
-    /// The sink failed; it may have taken a first part of what was to be written.
-    SinkFault,
-    /// Memory ran out.
-    Memory,
-    /// The link failed, and the report was written.
-    LinkFault,
-    /// The script has more than 16,777,216 octets.
-    TooLong,
-}
-
-impl Status {
-    /// The exit status, 0 to 8.
-    pub fn code(self) -> u8
-        ensures { result ≡ exit_status self }
-    {
-        match self {
-            Status::Done => 0,
-            Status::Refused => 1,
-            Status::Usage => 2,
-            Status::Script => 3,
-            Status::SourceFault => 4,
-            Status::SinkFault => 5,
-            Status::Memory => 6,
-            Status::LinkFault => 7,
-            Status::TooLong => 8,
-        }
-    }
-}
 
 /// The status of a transfer whose report was written.
 fn status_of(outcome: &Result<SyncOk, SyncError>) -> Status

@@ -2,28 +2,25 @@
 ghost use Rattle.std.specs.Prelude.{◌≡◌, ◌≢◌, ◌⊎◌, [], ◌∷◌, ℕ, List, false, IsSome, IsOk, IfOk, OnOk, OnErr, option_map};
 ghost use Rattle.zone_model.specs.Commits.{Commit};
 ghost use Rattle.zone_devices.specs.Calls.{Rose};
-ghost use Rattle.zone_sync.specs.Modes.{mode_of};
-ghost use Rattle.zone_sync.specs.SoFar.{Asking, asks_with};
-ghost use Rattle.zone_sync.specs.Standing.{asking_of, Stands};
-ghost use Rattle.zone_sync.specs.Transfers.{SyncSays, EndsSo, Serves, SendsItems};
+ghost use Rattle.xfr_outcomes.specs.Modes.{mode_of};
+ghost use Rattle.xfr_client.specs.SoFar.{Asking, asks_with};
+ghost use Rattle.xfr_client.specs.Standing.{asking_of, Stands};
+ghost use Rattle.zone_sync.specs.LinkTransfers.{SyncSays, EndsSo, Serves, SendsItems};
 ghost use Rattle.xfr_server.specs.Items.{Sending};
 ghost use Rattle.zone_sync.specs.Serving.{request_at};
 ghost use Rattle.zone_sync.specs.Delivery.{Synchronizes};
-ghost use Rattle.zone_sync.specs.Handles.{KeepsHandles};
+ghost use Rattle.xfr_client.specs.Handles.{KeepsHandles};
 
-use crate::client::XfrClient;
-use crate::outcome::{SyncError, SyncOk};
 use dns_wire::MessageBuf;
 use std::alloc::Global;
 use tsig_port::{Key, Time48};
+use xfr_client::{MOST_REPLIES, XfrClient};
+use xfr_outcomes::{SyncError, SyncOk};
 use xfr_server::{ReplyStream, Request, Service, TransportSpecificContext};
 use xfr_services::XfrMode;
 use zone_devices::links::Link;
 use zone_reads::ReadZone;
 use zone_sessions::WriteZone;
-
-/// How many replies a secondary takes in one transfer.
-pub const MOST_REPLIES: u32 = 65_536;
 
 /// The two ends of a transfer, as both of them know it.
 #[derive(Clone, Copy)]

@@ -1,5 +1,6 @@
 // What knows a zone's class and apex.
-use dns_name::{Class, StoredName};
+use dns_name::StoredName;
+use dns_numbers::Class;
 
 /// A zone as the zones of a server know it: by its class and the name of its apex.
 pub trait AtApex {

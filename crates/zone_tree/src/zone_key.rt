@@ -2,7 +2,8 @@
 ghost use Rattle.std.specs.Prelude.{◌≡◌};
 ghost use Rattle.dns_name.specs.Names.{fold};
 
-use dns_name::{Class, KeyName, Labelled};
+use dns_name::{KeyName, Labelled};
+use dns_numbers::Class;
 
 /// A class, and an apex in lower case.
 pub(crate) type ZoneKey = (Class, KeyName);

@@ -3,7 +3,7 @@ ghost use Rattle.std.specs.Prelude.{◌≡◌, IfOk};
 ghost use Rattle.dns_rdata.specs.ZoneData.{rtype_of, data_fields};
 ghost use Rattle.zone_values.specs.TypedSets.{TypedRecord};
 
-use dns_name::{Rtype, Ttl};
+use dns_numbers::{Rtype, Ttl};
 use dns_rdata::{RecordData, StoredRecord, StoredRecordData};
 use std::alloc::AllocError;
 use std::marker::Model;

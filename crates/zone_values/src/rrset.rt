@@ -6,7 +6,7 @@ ghost use Rattle.zone_values.specs.TypedSets.{set_of, with_ttl, with_data, with_
 use crate::data_key::DataKey;
 use crate::rr::SharedRr;
 use crate::rrset_edits::push_last;
-use dns_name::{Rtype, Ttl};
+use dns_numbers::{Rtype, Ttl};
 use dns_rdata::{RecordData, StoredRecord, StoredRecordData};
 use std::alloc::{AllocError, Global};
 use std::collections::BTreeSet;

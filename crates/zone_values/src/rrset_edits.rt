@@ -14,7 +14,7 @@ ghost use Rattle.zone_values.specs.SetEdits.{last_set};
 use crate::data_index::{FEW, forget, is_noted, note_last, note_new};
 use crate::data_key::DataKey;
 use crate::rrset::Rrset;
-use dns_name::Ttl;
+use dns_numbers::Ttl;
 use dns_rdata::{RecordData, StoredRecordData};
 use std::alloc::{AllocError, Global};
 use std::collections::BTreeSet;

@@ -1,7 +1,7 @@
 -- What a key and data say of each record that stands there.
 use Rattle.std.proofs.Common.{◌≡◌, ℕ, Bool, true, false, ◌&&◌, not, ◌==◌, if◌then◌else◌, List, length, refl, sym, ap, ◌∙◌, subst, Option, Some, None, is_some, option_map, Result, Ok, Err, OnOk, OnErr, eqb-true}
 use Rattle.dns_name.specs.Names.{fold, under}
-use Rattle.dns_name.specs.Codes.{type_cname}
+use Rattle.dns_numbers.specs.Codes.{type_cname}
 use Rattle.dns_rdata.specs.Records.{Field, Record}
 use Rattle.zone_model.specs.Version.{RecordSet, Key, Version, set_in, set_at, below_apex}
 use Rattle.zone_model.specs.Edits.{OutOfZone, Incompatible, InvalidData, add, has_data, second_alias, with_sets, put_set}

@@ -5,7 +5,7 @@ use Rattle.std.specs.Str.{bytes_eq}
 use mathlib.Core.List.{reverse-cons}
 use Rattle.std.proofs.lemmas.List.Folds.{list_any-append}
 use Rattle.dns_name.specs.Names.{Name, fold, labels_eq, upwards}
-use Rattle.dns_name.specs.Codes.{type_ns}
+use Rattle.dns_numbers.specs.Codes.{type_ns}
 use Rattle.zone_model.specs.Version.{Version, set_in, is_cut}
 use Rattle.zone_model.specs.Answer.{highest_cut}
 

@@ -1,3 +1,23 @@
+pub mod Flat
+pub mod Above
+pub mod Kept
+pub mod Existing
+pub mod Grown
+pub mod Shrunk
+pub mod Counted
+pub mod Row
+pub mod Scan
+pub mod Named
+pub mod Upwards
+pub mod Edited
+pub mod Told
+pub mod Few
+pub mod Walked
+pub mod Cleared
+pub mod NoSet
+pub mod Written
+pub mod InPlace
+pub mod ReopenedTrees
 mod Cuts
 pub mod Conditions
 pub mod Putting

@@ -3,9 +3,9 @@ use Rattle.std.proofs.Common.{◌≡◌, ℕ, ◌/◌, ◌%◌, ◌^◌, ◌<◌
 use Rattle.dns_name.specs.Names.{Name}
 use Rattle.dns_name.specs.Octets.{u32_octets}
 use Rattle.dns_name.specs.Records.Field.{Octets, DomainName}
-use Rattle.rdata_types.specs.declared.soa.Soa.{Soa}
-use Rattle.rdata_types.specs.DataFields.{soa_fields, soa_times}
-use Rattle.rdata_types.specs.Soa.{with_serial}
+use Rattle.dns_rdata.specs.declared.soa.Soa.{Soa}
+use Rattle.dns_rdata.specs.DataFields.{soa_fields, soa_times}
+use Rattle.dns_name.specs.Soa.{with_serial}
 
 top : (m : ℕ) → m < 2 ^ 32 → m / 16777216 % 256 ≡ m / 16777216
 top m h = omega arith

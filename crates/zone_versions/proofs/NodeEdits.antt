@@ -9,7 +9,7 @@ use Rattle.std.specs.Cmp.{first_so, second_so}
 use Rattle.std.specs.Cmp.Derive.{both_true}
 use Rattle.std.proofs.lemmas.List.Kept.{IsStrictlySortedBy-filter}
 use Rattle.dns_name.specs.Names.{Name, fold, under}
-use Rattle.dns_name.specs.Codes.{type_a, type_cname, type_aaaa}
+use Rattle.dns_numbers.specs.Codes.{type_a, type_cname, type_aaaa}
 use Rattle.dns_rdata.specs.Records.{Field, Record, same_data}
 use Rattle.dns_rdata.specs.SameData.{same_data_equiv}
 use Rattle.zone_model.specs.Version.{RecordSet, Key, Version, key_cmp, has_key, set_at, data_at, below_apex, all_differ}
@@ -21,7 +21,7 @@ use Rattle.zone_versions.specs.Sound.{is_sound_at, IsSound}
 use Rattle.zone_versions.specs.Nodes.{put_at, is_address_in, with_glue}
 use Rattle.zone_versions.proofs.Putting.{put_some, pushed_some, opening_some}
 use Rattle.zone_sets.proofs.Thinning.{suc_not}
-use Rattle.zone_sets.proofs.KeptTypes.{all_remove}
+use Rattle.zone_values.proofs.KeptTypes.{all_remove}
 use Rattle.zone_values.proofs.FirstData.{distinct_same, distinct_differ}
 use Rattle.zone_values.specs.SetEdits.{put_with, opening_set}
 use Rattle.zone_versions.proofs.Distinct.{differ_push}

@@ -3,7 +3,7 @@ use Rattle.std.proofs.Common.{◌≡◌, ℕ, ◌==◌, Bool, true, ◌&&◌, �
 use Rattle.std.specs.Cmp.Lexicographic.{pointwise}
 use Rattle.std.specs.List.{list_all, ends_with}
 use Rattle.dns_name.specs.Names.{Name, fold, same_name}
-use Rattle.dns_name.specs.Codes.{type_cname}
+use Rattle.dns_numbers.specs.Codes.{type_cname}
 use Rattle.zone_model.specs.Version.{RecordSet, Key, Version, all_differ}
 use Rattle.zone_model.proofs.Folded.{same_name-Decides}
 use Rattle.zone_versions.specs.Sound.{IsSound}

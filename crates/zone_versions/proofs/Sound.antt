@@ -11,7 +11,7 @@ use Rattle.std.specs.Cmp.Lexicographic.{pointwise_decides, bytes_decides}
 use Rattle.std.proofs.lemmas.List.Kept.{IsStrictlySortedBy-filter}
 use Rattle.std.proofs.lemmas.Map.Entries.{lookup-filter-keys}
 use Rattle.dns_name.specs.Names.{Name, fold, under}
-use Rattle.dns_name.specs.Codes.{type_ns, type_cname, type_soa, type_ds}
+use Rattle.dns_numbers.specs.Codes.{type_ns, type_cname, type_soa, type_ds}
 use Rattle.dns_rdata.specs.Records.{Field, Record, same_data}
 use Rattle.zone_model.specs.Version.{RecordSet, Key, Sets, Version, IsValid, key_cmp, has_key, set_in, set_at, data_at, in_zone, below_apex, all_differ, is_kept}
 use Rattle.zone_model.specs.Edits.{OutOfZone, Incompatible, InvalidData, with_sets, put_set, remove_set, has_data, second_alias, add, delete, is_stray, close}
@@ -23,7 +23,7 @@ use Rattle.zone_versions.specs.Strays.{is_stray_at}
 use Rattle.zone_versions.specs.Puts.{with_soa, opened_by, adds_alias}
 use Rattle.zone_model.specs.Classify.{lowest_ttl}
 use Rattle.zone_values.proofs.Equality.{filter_map}
-use Rattle.zone_sets.proofs.KeptTypes.{all_insert, all_remove}
+use Rattle.zone_values.proofs.KeptTypes.{all_insert, all_remove}
 use Rattle.zone_versions.proofs.Closing.{closed_is}
 use Rattle.zone_versions.proofs.Distinct.{differ_push, differ_pushed, pushed_new, has_distinct_data}
 

@@ -12,7 +12,7 @@ use Rattle.zone_model.specs.Walk.{Stop, shown_owner, walk}
 use Rattle.zone_model.proofs.Folded.{fold-fold, key_total, same_name-Decides}
 use Rattle.zone_values.specs.TypedSets.{TypedSet}
 use Rattle.zone_values.proofs.Equality.{list_any_map}
-use Rattle.zone_nodes.specs.Held.{told}
+use Rattle.zone_versions.specs.Held.{told}
 use Rattle.zone_versions.specs.Stops.{stop_of, first_of, first_stop, entry_told, key_told}
 use Rattle.zone_versions.proofs.Cuts.{below_alike}
 

@@ -1,3 +1,10 @@
+pub mod Trees
+pub mod Ways
+pub mod Held
+pub mod Keyed
+pub mod Rows
+pub mod Lends
+pub mod DataEdits
 pub mod Causes
 pub mod Puts
 pub mod Stops

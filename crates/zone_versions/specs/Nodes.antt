@@ -4,7 +4,7 @@ use Rattle.std.specs.Option.{option_map_or}
 use Rattle.std.specs.BTreeMap.{insert_entry}
 use Rattle.std.specs.Map.{remove_entry}
 use Rattle.dns_name.specs.Names.{under}
-use Rattle.dns_name.specs.Codes.{type_a, type_aaaa}
+use Rattle.dns_numbers.specs.Codes.{type_a, type_aaaa}
 use Rattle.dns_rdata.specs.Records.{Record}
 use Rattle.zone_model.specs.Version.{Version, RecordSet, Key, Sets, key_cmp, has_key, set_at, data_at}
 use Rattle.zone_model.specs.Edits.{put_set}

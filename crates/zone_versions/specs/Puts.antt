@@ -1,7 +1,7 @@
 -- What single edits make of a version (RFC 2136, 3.4.2; RFC 2181, 5.2).
 use Rattle.std.specs.Prelude.{◌≡◌, ℕ, Bool, List, ◌++◌, ◌∷◌, [], not, ◌&&◌, filter, if◌then◌else◌}
 use Rattle.dns_name.specs.Names.{fold}
-use Rattle.dns_name.specs.Codes.{type_soa}
+use Rattle.dns_numbers.specs.Codes.{type_soa}
 use Rattle.dns_rdata.specs.Records.{Field, Record, same_data}
 use Rattle.zone_model.specs.Version.{Key, Version, set_at, data_at}
 use Rattle.zone_model.specs.Edits.{put_set, has_data, second_alias}

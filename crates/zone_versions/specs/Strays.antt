@@ -1,6 +1,6 @@
 -- Sets that a commit leaves out (RFC 4035, 2.4).
 use Rattle.std.specs.Prelude.{Bool, ◌&&◌, ◌==◌, not, is_some}
-use Rattle.dns_name.specs.Codes.{type_ns, type_ds}
+use Rattle.dns_numbers.specs.Codes.{type_ns, type_ds}
 use Rattle.zone_model.specs.Version.{Key, Version, set_at, below_apex}
 
 -- whether a DS set at this key would be without NS, below the apex

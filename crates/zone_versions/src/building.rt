@@ -1,13 +1,14 @@
 // Edits of the version that a zone opens with.
 ghost use Rattle.std.specs.Prelude.{◌≡◌, [], true, false, OnOk, OnErr, IfSome, option_map, unwrap_or, fold as fold_list};
 ghost use Rattle.dns_name.specs.Names.{under};
-ghost use Rattle.dns_name.specs.Codes.{type_cname, type_ns, type_ds};
+ghost use Rattle.dns_numbers.specs.Codes.{type_cname, type_ns, type_ds};
 ghost use Rattle.zone_model.specs.Edits as edits;
 ghost use Rattle.zone_model.specs.Edits.{distinct_set};
 ghost use Rattle.zone_values.specs.TypedSets.{TypedSet};
 
 use crate::version::ZoneVersion;
-use dns_name::{KeyName, Rtype};
+use dns_name::KeyName;
+use dns_numbers::Rtype;
 use dns_rdata::StoredRecord;
 use std::alloc::{AllocError, Global};
 use zone_values::{Rrset, SharedRr, SharedRrset};

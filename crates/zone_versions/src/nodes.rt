@@ -2,7 +2,7 @@
 ghost use Rattle.std.specs.Prelude.{◌≡◌, ◌+◌, ◌%◌, ◌^◌, ◌==◌, ◌||◌, ◌&&◌, not, true, false, map, length, filter, option_copied, option_map, IfOk, OnOk, OnErr};
 ghost use Rattle.std.specs.List.{list_all};
 ghost use Rattle.dns_name.specs.Names.{under, same_name};
-ghost use Rattle.dns_name.specs.Codes.{type_a, type_cname, type_aaaa, type_soa};
+ghost use Rattle.dns_numbers.specs.Codes.{type_a, type_cname, type_aaaa, type_soa};
 ghost use Rattle.dns_rdata.specs.Records.{same_data};
 ghost use Rattle.dns_rdata.specs.DataFields.{soa_fields};
 ghost use Rattle.dns_rdata.specs.Soa.{serial_of, with_serial};
@@ -14,11 +14,13 @@ ghost use Rattle.zone_values.specs.TypedEntries.{typed};
 ghost use Rattle.zone_versions.specs.Puts.{with_soa};
 ghost use Rattle.zone_versions.specs.Nodes.{put_at, is_address_in, with_glue};
 
+use crate::node::NodeCount;
+use crate::tree::VersionTree;
 use crate::version::{ZoneVersion, put_opening};
-use dns_name::{KeyName, Labelled, Rtype, StoredName, ToName, Ttl};
+use dns_name::{KeyName, Labelled, StoredName, ToName};
+use dns_numbers::{Rtype, Ttl};
 use dns_rdata::{RecordData, Soa, StoredRecord, StoredRecordData, ZoneRecordData};
 use std::alloc::{AllocError, Global};
-use zone_nodes::{NodeCount, VersionTree};
 use zone_values::Rrset;
 
 impl ZoneVersion {

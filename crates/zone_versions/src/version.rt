@@ -6,8 +6,8 @@ ghost use Rattle.zone_model.specs.Version.{IsValid, key_cmp, set_in, set_at, bel
 ghost use Rattle.zone_model.specs.Classify.{opened_with};
 ghost use Rattle.zone_model.specs.Answer.{highest_cut};
 ghost use Rattle.zone_model.specs.Walk.{next_stop};
-ghost use Rattle.zone_nodes.specs.Held.{told, counted};
-ghost use Rattle.zone_nodes.specs.Trees.{built};
+ghost use Rattle.zone_versions.specs.Held.{told, counted};
+ghost use Rattle.zone_versions.specs.Trees.{built};
 ghost use Rattle.zone_versions.specs.Stops.{stop_of, first_stop, first_from, entry_told, key_told};
 ghost use Rattle.zone_model.specs.Edits.{delete, with_sets};
 ghost use Rattle.zone_model.specs.Edits as edits;
@@ -20,19 +20,22 @@ ghost use Rattle.zone_values.specs.PutCauses.{TellsPut};
 ghost use Rattle.zone_values.specs.SetEdits.{put_with, last_set, opening_set};
 ghost use Rattle.std.specs.Map.{keys_of};
 ghost use Rattle.std.specs.Ordering.{is_lt};
-ghost use Rattle.dns_name.specs.Codes.{type_cname};
+ghost use Rattle.dns_numbers.specs.Codes.{type_cname};
 ghost use Rattle.dns_rdata.specs.Records.{Record};
 ghost use Rattle.dns_rdata.specs.DataFields.{soa_fields};
 ghost use Rattle.dns_rdata.specs.ZoneData.{rtype_of, data_fields};
 
 use crate::errors::EditError;
+use crate::node::NodeCount;
 use crate::places::is_at_or_below;
+use crate::tree::VersionTree;
+use crate::tree_walk::{TreeSet, TreeSets};
 use crate::walk::{VersionKeys, WalkItem, key_of};
-use dns_name::{Class, KeyName, Labelled, NameRef, Rtype, StoredName, ToName, Ttl};
+use dns_name::{KeyName, Labelled, NameRef, StoredName, ToName};
+use dns_numbers::{Class, Rtype, Ttl};
 use dns_rdata::{RecordData, Soa, StoredRecord, StoredRecordData, ZoneRecordData};
 use std::alloc::{AllocError, Global};
 use std::marker::Model;
-use zone_nodes::{NodeCount, TreeSet, TreeSets, VersionTree};
 use zone_sets::SetKey;
 use zone_values::{PutError, Rrset};
 

@@ -5,11 +5,12 @@ ghost use Rattle.zone_model.specs.Walk.{walk};
 ghost use Rattle.zone_values.specs.TypedEntries.{typed};
 ghost use Rattle.zone_versions.specs.Stops.{stop_of, entry_told, key_told};
 
+use crate::tree_walk::{TreeSet, TreeSets};
 use crate::version::ZoneVersion;
-use dns_name::{KeyName, Rtype, Ttl};
+use dns_name::KeyName;
+use dns_numbers::{Rtype, Ttl};
 use dns_rdata::StoredRecordData;
 use std::marker::Model;
-use zone_nodes::{TreeSet, TreeSets};
 use zone_sets::SetKey;
 use zone_values::SharedRrset;
 

@@ -1,6 +1,6 @@
 use Rattle.std.proofs.Common.{ℕ, not, ◌==◌, length, sym, ap, ◌∙◌}
 use Rattle.dns_name.specs.Names.{Name, fold}
-use Rattle.dns_name.specs.Codes.{type_soa}
+use Rattle.dns_numbers.specs.Codes.{type_soa}
 use Rattle.zone_values.specs.TypedSets.{TypedSet}
 use Rattle.xfr_replies.proofs.Reading.{soa_count, no_soas}
 use Rattle.xfr_replies.proofs.of_difference.has_soas.Goals as goal

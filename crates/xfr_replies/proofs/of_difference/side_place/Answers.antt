@@ -1,5 +1,5 @@
 use Rattle.std.proofs.Common.{◌≡◌, ◌++◌, Some, None, sym, ◌∙◌, subst}
-use Rattle.dns_name.specs.Codes.{type_soa}
+use Rattle.dns_numbers.specs.Codes.{type_soa}
 use Rattle.xfr_replies.specs.Sides.{side_text}
 use Rattle.xfr_replies.specs.Places.{Begins, sides_text}
 use Rattle.xfr_replies.specs.declared.place.Place.{Place}

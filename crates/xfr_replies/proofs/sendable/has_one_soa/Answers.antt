@@ -1,7 +1,7 @@
 use Rattle.std.proofs.Common.{ℕ, ◌==◌, List, length, sym, ap, ◌∙◌}
 use Rattle.std.proofs.lemmas.List.{length-map}
 use Rattle.dns_name.specs.Names.{Name, fold}
-use Rattle.dns_name.specs.Codes.{type_soa}
+use Rattle.dns_numbers.specs.Codes.{type_soa}
 use Rattle.dns_name.specs.Records.{Field}
 use Rattle.dns_rdata.specs.ZoneData.{data_fields}
 use Rattle.zone_values.specs.TypedSets.{TypedSet}

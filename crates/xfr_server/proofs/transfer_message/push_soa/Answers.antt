@@ -1,10 +1,11 @@
 use Rattle.std.proofs.Common.{◌≡◌, refl, sym, ap, ◌∙◌}
-use Rattle.dns_name.specs.Codes.{type_soa}
+use Rattle.dns_numbers.specs.Codes.{type_soa}
 use Rattle.dns_rdata.specs.ZoneData.{rtype_of, data_fields}
 use Rattle.zone_values.specs.TypedEntries.{untyped}
 use Rattle.zone_versions.proofs.TypedStops.{untyped_typed}
-use Rattle.xfr_server.proofs.Adding.{adds_none, soa_none}
-use Rattle.xfr_server.proofs.Loops.{record_with, looked_up_type, no_soa_data, pushed_soa}
+use Rattle.xfr_server.proofs.Adding.{adds_none}
+use Rattle.xfr_outcomes.proofs.ApexSoa.{soa_none, record_with, looked_up_type, no_soa_data}
+use Rattle.xfr_server.proofs.Loops.{pushed_soa}
 use Rattle.xfr_server.proofs.transfer_message.push_soa.Goals as goal
 
 pub returns-in_default : goal.returns-in_default

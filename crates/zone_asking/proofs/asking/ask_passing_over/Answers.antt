@@ -1,8 +1,8 @@
 use Rattle.std.proofs.Common.{List, Option, ℕ}
-use Rattle.zone_sync.specs.Modes.{mode_of}
-use Rattle.zone_sync.specs.SoFar.{asks_with}
-use Rattle.zone_sync.proofs.Clients.{nothing_pending}
-use Rattle.zone_sync.proofs.Handles.{keeps_handles}
+use Rattle.xfr_outcomes.specs.Modes.{mode_of}
+use Rattle.xfr_client.specs.SoFar.{asks_with}
+use Rattle.xfr_client.proofs.Clients.{nothing_pending}
+use Rattle.xfr_client.proofs.Handles.{keeps_handles}
 use Rattle.zone_asking.specs.Exchanges.{crossing}
 use Rattle.zone_asking.proofs.Requests.{rolled_exchanges}
 use Rattle.zone_asking.proofs.asking.ask_passing_over.Goals as goal

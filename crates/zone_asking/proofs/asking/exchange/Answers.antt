@@ -1,6 +1,6 @@
 use Rattle.std.proofs.Common.{ap, sym, ◌∙◌, ◌≤◌, length, subst}
 use Rattle.std.proofs.lemmas.Result.{err_from_is_err_and}
-use Rattle.zone_sync.specs.Standing.{asking_of}
+use Rattle.xfr_client.specs.Standing.{asking_of}
 use Rattle.zone_asking.proofs.Requests.{not_made, not_sent, replied, under_way}
 use Rattle.zone_asking.proofs.asking.exchange.Goals as goal
 

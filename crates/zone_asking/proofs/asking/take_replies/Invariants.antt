@@ -1,7 +1,7 @@
 use Rattle.std.proofs.Common.{◌≡◌, ◌-◌, ◌≤◌, List, [], IsSome}
 use Rattle.zone_model.specs.Commits.{Commit}
-use Rattle.zone_sync.specs.SoFar.{Asking}
-use Rattle.zone_sync.specs.Standing.{Stands}
+use Rattle.xfr_client.specs.SoFar.{Asking}
+use Rattle.xfr_client.specs.Standing.{Stands}
 use Rattle.zone_asking.specs.Exchanges.{TakenSoFar}
 use Rattle.zone_asking.proofs.asking.take_replies.Given as goal
 

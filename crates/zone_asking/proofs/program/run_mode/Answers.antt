@@ -1,7 +1,6 @@
 use Rattle.std.proofs.Common.{refl, inl}
-use Rattle.zone_sync.specs.declared.program.Status.TheVariants.{SourceFault, TooLong}
-use Rattle.zone_sync.proofs.Dues.{along, wrote_last, wrote_nothing}
-use Rattle.zone_sync.proofs.ScriptRuns.{is_told}
+use Rattle.zone_report.specs.declared.status.Status.TheVariants.{SourceFault, TooLong}
+use Rattle.zone_report.proofs.WrittenParts.{along, wrote_last, wrote_nothing, is_told}
 use Rattle.zone_asking.proofs.Dues.{untouched, written_of_file, first_of_file}
 use Rattle.zone_asking.proofs.Ends.{script_tells}
 use Rattle.zone_asking.proofs.program.run_mode.Goals as goal

@@ -1,6 +1,6 @@
 use Rattle.std.proofs.Common.{refl, inl}
-use Rattle.zone_sync.specs.Modes.{mode_of}
-use Rattle.zone_sync.proofs.Dues.{wrote_nothing}
+use Rattle.xfr_outcomes.specs.Modes.{mode_of}
+use Rattle.zone_report.proofs.WrittenParts.{wrote_nothing}
 use Rattle.zone_asking.proofs.Dues.{untouched, written_of_transfer, first_due_of_report, wrote_line}
 use Rattle.zone_asking.proofs.Ends.{tells_line}
 use Rattle.zone_asking.proofs.program.run_script.Goals as goal

@@ -1,6 +1,6 @@
 use Rattle.std.proofs.Common.{refl}
-use Rattle.zone_sync.specs.declared.program.Status.TheVariants.{Usage}
-use Rattle.zone_sync.proofs.Dues.{wrote_last}
+use Rattle.zone_report.specs.declared.status.Status.TheVariants.{Usage}
+use Rattle.zone_report.proofs.WrittenParts.{wrote_last}
 use Rattle.zone_asking.proofs.Dues.{untouched}
 use Rattle.zone_asking.proofs.program.run_secondary.Goals as goal
 

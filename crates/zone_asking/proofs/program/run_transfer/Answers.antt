@@ -1,4 +1,4 @@
-use Rattle.zone_sync.specs.Modes.{mode_of}
+use Rattle.xfr_outcomes.specs.Modes.{mode_of}
 use Rattle.zone_asking.proofs.Dues.{report_taken}
 use Rattle.zone_asking.proofs.Ends.{tells_last, tells_memory}
 use Rattle.zone_asking.proofs.program.run_transfer.Goals as goal

@@ -1,7 +1,7 @@
 use Rattle.std.proofs.Common.{sym, ap, ◌∙◌}
 use Rattle.zone_model.specs.Session.{Session}
-use Rattle.zone_sync.specs.Modes.{mode_of}
-use Rattle.zone_sync.proofs.ReportLaw.{known_by_status}
+use Rattle.xfr_outcomes.specs.Modes.{mode_of}
+use Rattle.zone_report.proofs.ReportedAnswers.{known_by_status}
 use Rattle.zone_asking.proofs.Dues.{transfer_so, reported_so}
 use Rattle.zone_asking.proofs.Ends.{no_link, tells_answer}
 use Rattle.zone_asking.proofs.program.transfer.Goals as goal

@@ -1,8 +1,8 @@
 use Rattle.std.proofs.Common.{refl, sym, ◌∙◌, subst, Some}
 use Rattle.zone_model.specs.TransferText.{Axfr}
 use Rattle.zone_devices.specs.Calls.{Rose}
-use Rattle.zone_sync.specs.Modes.{mode_of}
-use Rattle.zone_sync.specs.SoFar.{asks_with}
+use Rattle.xfr_outcomes.specs.Modes.{mode_of}
+use Rattle.xfr_client.specs.SoFar.{asks_with}
 use Rattle.zone_asking.specs.Exchanges.{crossing}
 use Rattle.zone_asking.proofs.TwoExchanges.{twice, keeps_both, no_source_fault, no_sink_fault}
 use Rattle.zone_asking.proofs.retrying.transfer_zone.Goals as goal

@@ -2,8 +2,8 @@ use Rattle.std.proofs.Common.{◌≡◌, sym, ap, subst, ◌∙◌, rules}
 use Rattle.std.specs.Arc.{arc_value}
 use Rattle.dns_rdata.specs.ZoneData.{data_fields}
 use Rattle.zone_model.specs.Version.{Version}
-use Rattle.zone_nodes.specs.Held.{counted}
-use Rattle.zone_nodes.specs.Trees.{built}
+use Rattle.zone_versions.specs.Held.{counted}
+use Rattle.zone_versions.specs.Trees.{built}
 use Rattle.zone_versions.proofs.Outcomes.{on_ok}
 use Rattle.zone_changes.specs.Touched.{Covers}
 use Rattle.zone_changes.proofs.Drafting.{added_covers, added_apex}

@@ -1,7 +1,7 @@
 use Rattle.std.proofs.Common.{◌≡◌, Some, ◌==◌, ◌&&◌, false, sym, ap, ◌∙◌}
 use Rattle.std.specs.Option.{option_copied}
 use Rattle.dns_name.specs.Names.{same_name}
-use Rattle.dns_name.specs.Codes.{type_ns, type_ds}
+use Rattle.dns_numbers.specs.Codes.{type_ns, type_ds}
 use Rattle.zone_model.specs.Answer.Answer.{Referral}
 use Rattle.zone_values.specs.TypedEntries.{untyped}
 use Rattle.zone_parts.proofs.LentTypes.{lent_set, lent_type}

@@ -3,7 +3,7 @@ use Rattle.std.specs.List.{list_all}
 use Rattle.std.specs.Map.{keys_of}
 use Rattle.dns_name.specs.Names.{Name, under}
 use Rattle.zone_model.specs.Version.{Key}
-use Rattle.zone_nodes.specs.Keyed.{named}
+use Rattle.zone_versions.specs.Keyed.{named}
 use Rattle.zone_records.proofs.Opened.{all_inside}
 use Rattle.zone_records.proofs.opening_sets.lies_within.Goals as goal
 

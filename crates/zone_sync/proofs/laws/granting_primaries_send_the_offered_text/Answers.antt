@@ -1,5 +1,5 @@
 use Rattle.zone_model.specs.Difference.{zone_serial}
-use Rattle.zone_sync.specs.SoFar.{asked_octets}
+use Rattle.xfr_client.specs.SoFar.{asked_octets}
 use Rattle.zone_sync.specs.Serving.{request_at}
 use Rattle.zone_sync.proofs.Grants.{granted}
 use Rattle.zone_sync.proofs.HonestRequests.{kind_of}

@@ -2,7 +2,7 @@ use Rattle.std.proofs.Common.{refl}
 use Rattle.tsig_port.specs.Tsig.{TsigKey}
 use Rattle.tsig_port.specs.Keys.{own_key}
 use Rattle.zone_model.specs.Difference.{zone_serial}
-use Rattle.zone_sync.specs.SoFar.{asked_octets}
+use Rattle.xfr_client.specs.SoFar.{asked_octets}
 use Rattle.zone_sync.specs.Serving.{request_at}
 use Rattle.zone_sync.specs.Grants.{history_offer}
 use Rattle.zone_sync.proofs.Grants.{granted, kept_told, history_offers}

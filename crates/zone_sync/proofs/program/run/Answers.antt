@@ -1,6 +1,7 @@
-use Rattle.zone_sync.specs.declared.program.Status.TheVariants.{Usage}
+use Rattle.zone_report.specs.declared.status.Status.TheVariants.{Usage}
 use Rattle.zone_sync.proofs.Asked.{asked_form, asks_script, no_numbers_asked, words_asked, script_asked}
-use Rattle.zone_sync.proofs.Dues.{untouched, wrote_last, usage_due}
+use Rattle.zone_sync.proofs.Dues.{untouched, usage_due}
+use Rattle.zone_report.proofs.WrittenParts.{wrote_last}
 use Rattle.zone_sync.proofs.program.run.Goals as goal
 
 -- A script's transfer.

@@ -1,5 +1,5 @@
 use Rattle.std.proofs.Common.{refl}
-use Rattle.zone_sync.proofs.Dues.{wrote_last, wrote_nothing}
+use Rattle.zone_report.proofs.WrittenParts.{wrote_last, wrote_nothing}
 use Rattle.zone_sync.proofs.Numbers.{numbers_due, tells_numbers, tells_memory}
 use Rattle.zone_sync.proofs.program.run_generated.Goals as goal
 

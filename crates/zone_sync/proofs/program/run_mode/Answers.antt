@@ -1,7 +1,8 @@
 use Rattle.std.proofs.Common.{refl, inl}
-use Rattle.zone_sync.specs.declared.program.Status.TheVariants.{SourceFault, TooLong}
-use Rattle.zone_sync.proofs.Dues.{untouched, along, written_of_source, first_of_source, wrote_last, wrote_nothing}
-use Rattle.zone_sync.proofs.ScriptRuns.{is_told, script_runs}
+use Rattle.zone_report.specs.declared.status.Status.TheVariants.{SourceFault, TooLong}
+use Rattle.zone_sync.proofs.Dues.{untouched, written_of_source, first_of_source}
+use Rattle.zone_report.proofs.WrittenParts.{along, wrote_last, wrote_nothing, is_told}
+use Rattle.zone_sync.proofs.ScriptRuns.{script_runs}
 use Rattle.zone_sync.proofs.program.run_mode.Goals as goal
 
 pub returns-in-Ok-clause-wrote : goal.returns-in-Ok-clause-wrote

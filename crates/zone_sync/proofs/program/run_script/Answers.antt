@@ -1,7 +1,8 @@
 use Rattle.std.proofs.Common.{refl, inl}
-use Rattle.zone_sync.specs.Modes.{mode_of}
+use Rattle.xfr_outcomes.specs.Modes.{mode_of}
 use Rattle.zone_sync.specs.Primaries.{refuser}
-use Rattle.zone_sync.proofs.Dues.{untouched, script_told, written_of_transfer, first_due_of_report, wrote_line, wrote_nothing}
+use Rattle.zone_sync.proofs.Dues.{untouched, script_told, written_of_transfer, first_due_of_report, wrote_line}
+use Rattle.zone_report.proofs.WrittenParts.{wrote_nothing}
 use Rattle.zone_sync.proofs.Endings.{delivers_so}
 use Rattle.zone_sync.proofs.program.run_script.Goals as goal
 

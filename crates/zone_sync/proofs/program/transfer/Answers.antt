@@ -1,5 +1,5 @@
 use Rattle.std.proofs.Common.{inl, inr}
-use Rattle.zone_sync.specs.Modes.{mode_of}
+use Rattle.xfr_outcomes.specs.Modes.{mode_of}
 use Rattle.zone_sync.proofs.Dues.{untouched}
 use Rattle.zone_sync.proofs.ReportLaw.{reported_so}
 use Rattle.zone_sync.proofs.program.transfer.Goals as goal

@@ -1,7 +1,8 @@
 use Rattle.std.proofs.Common.{refl, sym, ap, ◌∙◌}
 use Rattle.zone_model.specs.Session.{Session}
-use Rattle.zone_sync.specs.Modes.{mode_of}
-use Rattle.zone_sync.proofs.ReportLaw.{transfer_so, ends_reported, known_by_status, link_failed, link_fails}
+use Rattle.xfr_outcomes.specs.Modes.{mode_of}
+use Rattle.zone_sync.proofs.ReportLaw.{transfer_so}
+use Rattle.zone_report.proofs.ReportedAnswers.{ends_reported, known_by_status, link_failed, link_fails}
 use Rattle.zone_sync.proofs.program.transfer_to.Goals as goal
 
 pub returns-clause-ended : goal.returns-clause-ended

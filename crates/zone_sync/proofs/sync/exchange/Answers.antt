@@ -2,10 +2,10 @@ use Rattle.std.proofs.Common.{refl, [], ◌∷◌, ap, ◌∙◌, subst, inl, in
 use Rattle.std.proofs.lemmas.Result.{err_from_is_err_and}
 use Rattle.zone_devices.specs.Calls.{Rose}
 use Rattle.zone_sync.specs.Serving.{request_at}
-use Rattle.zone_sync.specs.SoFar.{CanAsk}
-use Rattle.zone_sync.specs.Standing.{asking_of}
+use Rattle.xfr_client.specs.SoFar.{CanAsk}
+use Rattle.xfr_client.specs.Standing.{asking_of}
 use Rattle.zone_sync.proofs.Passing.{nothing_more, request_taken, request_handed, requests_ended, link_on}
-use Rattle.zone_sync.proofs.Checking.{headed}
+use Rattle.xfr_client.proofs.Checking.{headed}
 use Rattle.zone_sync.proofs.Exchanges.{not_made, not_carried, not_handed, no_message, headless, not_served, replied, under_way}
 use Rattle.zone_sync.proofs.sync.exchange.Goals as goal
 

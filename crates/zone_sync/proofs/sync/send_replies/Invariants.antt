@@ -1,6 +1,6 @@
 use Rattle.std.proofs.Common.{◌≡◌, List}
 use Rattle.xfr_server.specs.Items.{Sending}
-use Rattle.zone_sync.specs.Transfers.{SentSoFar}
+use Rattle.zone_sync.specs.LinkTransfers.{SentSoFar}
 use Rattle.zone_sync.proofs.sync.send_replies.Given as goal
 
 abbrev pub invariant-replies : goal.invariant-replies

@@ -1,12 +1,12 @@
 use Rattle.std.proofs.Common.{ℕ, List, Option}
 use Rattle.xfr_server.specs.Items.{Sending}
-use Rattle.zone_sync.specs.Modes.{mode_of}
-use Rattle.zone_sync.specs.SoFar.{asks_with}
+use Rattle.xfr_outcomes.specs.Modes.{mode_of}
+use Rattle.xfr_client.specs.SoFar.{asks_with}
 use Rattle.zone_sync.specs.Serving.{request_at}
-use Rattle.zone_sync.proofs.Clients.{nothing_pending}
+use Rattle.xfr_client.proofs.Clients.{nothing_pending}
 use Rattle.zone_sync.proofs.Exchanges.{rolled_says}
 use Rattle.zone_sync.proofs.Delivery.{delivered}
-use Rattle.zone_sync.proofs.Handles.{keeps_handles}
+use Rattle.xfr_client.proofs.Handles.{keeps_handles}
 use Rattle.zone_sync.proofs.sync.sync_zone.Goals as goal
 
 pub returns-clause-headline : goal.returns-clause-headline

@@ -1,8 +1,8 @@
 use Rattle.std.proofs.Common.{ap, ◌∙◌, arith, Ok, Err}
 use Rattle.std.proofs.lemmas.Result.{err_from_is_err_and}
-use Rattle.zone_sync.proofs.Replying.{no_link_fault}
+use Rattle.xfr_client.proofs.Replying.{no_link_fault}
 use Rattle.zone_sync.proofs.Replies.{reply_takes, no_reply, no_more, all_came, ends_refused, ends_well, takes_on, err_same}
-use Rattle.zone_sync.specs.declared.outcome.SyncError.TheVariants as why
+use Rattle.xfr_outcomes.specs.declared.outcome.SyncError.TheVariants as why
 use Rattle.zone_sync.proofs.sync.take_replies.Goals as goal
 
 pub returns-in_err-reply-clause-ends : goal.returns-in_err-reply-clause-ends

@@ -1,8 +1,8 @@
 use Rattle.std.proofs.Common.{◌≡◌, ◌-◌, ◌≤◌, List, [], IsSome}
 use Rattle.zone_model.specs.Commits.{Commit}
-use Rattle.zone_sync.specs.SoFar.{Asking}
-use Rattle.zone_sync.specs.Standing.{Stands}
-use Rattle.zone_sync.specs.Transfers.{TakenSoFar}
+use Rattle.xfr_client.specs.SoFar.{Asking}
+use Rattle.xfr_client.specs.Standing.{Stands}
+use Rattle.zone_sync.specs.LinkTransfers.{TakenSoFar}
 use Rattle.zone_sync.proofs.sync.take_replies.Given as goal
 
 abbrev pub invariant-taking : goal.invariant-taking

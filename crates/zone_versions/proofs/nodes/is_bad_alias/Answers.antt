@@ -1,5 +1,5 @@
 use Rattle.std.proofs.Common.{◌==◌, ◌&&◌, not, length, sym, ap, ◌∙◌}
-use Rattle.dns_name.specs.Codes.{type_cname}
+use Rattle.dns_numbers.specs.Codes.{type_cname}
 use Rattle.dns_name.specs.Names.{under, same_name}
 use Rattle.zone_model.specs.Edits.{distinct}
 use Rattle.zone_versions.proofs.nodes.is_bad_alias.Goals as goal

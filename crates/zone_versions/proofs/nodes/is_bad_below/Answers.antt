@@ -1,6 +1,6 @@
 use Rattle.std.proofs.Common.{◌≡◌, ◌==◌, ◌&&◌, true, not, length, List, sym, ap, ◌∙◌}
 use Rattle.dns_rdata.specs.Records.{Field}
-use Rattle.dns_name.specs.Codes.{type_cname}
+use Rattle.dns_numbers.specs.Codes.{type_cname}
 use Rattle.dns_name.specs.Names.{under, same_name}
 use Rattle.zone_model.specs.Edits.{distinct}
 use Rattle.zone_versions.proofs.Conditions.{not_false, third}

@@ -5,8 +5,8 @@ use Rattle.zone_model.specs.Version.{RecordSet, set_at}
 use Rattle.zone_model.specs.Edits.{put_set}
 use Rattle.zone_values.specs.PutCauses.{TellsPut}
 use Rattle.zone_values.specs.SetEdits.{last_set}
-use Rattle.zone_nodes.specs.Held.{counted}
-use Rattle.zone_nodes.specs.Trees.{built}
+use Rattle.zone_versions.specs.Held.{counted}
+use Rattle.zone_versions.specs.Trees.{built}
 use Rattle.zone_versions.proofs.Adding.{last_put, set_there}
 use Rattle.zone_versions.proofs.Outcomes.{on_ok}
 use Rattle.zone_versions.proofs.version.put_last.Goals as goal

@@ -1,7 +1,7 @@
 use Rattle.std.proofs.Common.{◌≡◌, false, Some, sym, ◌∙◌, ap, subst}
 use Rattle.std.proofs.lemmas.Result.{err_from_is_err_and}
 use Rattle.xfr_model.specs.Messages.{ReadMessage}
-use Rattle.xfr_client.specs.declared.protocol.Error.{Error}
+use Rattle.xfr_outcomes.specs.declared.protocol.Error.{Error}
 use Rattle.xfr_client.specs.Interpreting.{Interpreting, Interprets, Refuses, interpreting_of, is_over, sections_here}
 use Rattle.xfr_client.proofs.MessageParts.{read_parts, sections_read}
 use Rattle.xfr_client.proofs.Taking.{interprets, refuses}

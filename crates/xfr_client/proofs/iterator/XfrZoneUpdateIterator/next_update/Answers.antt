@@ -6,8 +6,8 @@ use Rattle.zone_model.specs.TransferText.{Axfr}
 use Rattle.xfr_model.specs.Machine.{step, AtEnd}
 use Rattle.xfr_client.specs.declared.interpreter_state.Told.{Told}
 use Rattle.xfr_client.specs.declared.interpreter_state.Told.TheVariants as told
-use Rattle.xfr_client.specs.declared.update.ZoneUpdate.{ZoneUpdate}
-use Rattle.xfr_client.specs.declared.protocol.IterationError.TheVariants as error
+use Rattle.xfr_outcomes.specs.declared.update.ZoneUpdate.{ZoneUpdate}
+use Rattle.xfr_outcomes.specs.declared.protocol.IterationError.TheVariants as error
 use Rattle.xfr_client.specs.Places.{place_of}
 use Rattle.xfr_client.specs.Told.{run_of, EndsBefore}
 use Rattle.xfr_client.specs.Items.{NextItem, items_left}

@@ -1,7 +1,7 @@
 use Rattle.std.proofs.Common.{[], ◌∷◌, ap, ◌∙◌}
 use Rattle.dns_name.specs.Names.{fold}
 use Rattle.zone_model.specs.Version.{Version}
-use Rattle.dns_name.specs.Codes.{type_soa}
+use Rattle.dns_numbers.specs.Codes.{type_soa}
 use Rattle.dns_rdata.specs.DataFields.{soa_fields}
 use Rattle.zone_versions.specs.Puts.{with_soa}
 use Rattle.zone_changes.proofs.Drafting.{covers_edit, covers_put, began_either, put_apex}

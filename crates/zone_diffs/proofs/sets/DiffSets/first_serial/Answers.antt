@@ -1,5 +1,5 @@
 use Rattle.std.proofs.Common.{◌≡◌, ◌==◌, ◌∙◌, sym, ap, ℕ, true, Some}
-use Rattle.dns_name.specs.Codes.{type_soa}
+use Rattle.dns_numbers.specs.Codes.{type_soa}
 use Rattle.zone_values.specs.TypedSets.{TypedSet}
 use Rattle.zone_diffs.specs.Building.{set_serial}
 use Rattle.zone_diffs.proofs.Finding.{first_typed, first_of_items, first_here}

@@ -1,7 +1,7 @@
 use Rattle.std.proofs.Common.{◌∙◌, ap}
 use Rattle.zone_model.specs.Version.{Sets}
 use Rattle.zone_values.specs.TypedEntries.{typed_set_in}
-use Rattle.zone_sets.proofs.KeptTypes.{lookup_seen}
+use Rattle.zone_values.proofs.KeptTypes.{lookup_seen}
 use Rattle.zone_diffs.proofs.Entries.{kept_own}
 use Rattle.zone_diffs.proofs.sets.DiffSets.get.Goals as goal
 

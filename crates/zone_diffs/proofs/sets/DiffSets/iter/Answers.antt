@@ -1,6 +1,6 @@
 use Rattle.std.proofs.Common.{◌∙◌, ap, map}
 use Rattle.zone_values.specs.TypedEntries.{item_of}
-use Rattle.zone_sets.proofs.KeptTypes.{items_seen}
+use Rattle.zone_values.proofs.KeptTypes.{items_seen}
 use Rattle.zone_diffs.proofs.Entries.{kept_own}
 use Rattle.zone_diffs.proofs.sets.DiffSets.iter.Goals as goal
 

@@ -4,7 +4,7 @@ use Rattle.std.specs.List.Sorted.{IsStrictlySortedBy}
 use Rattle.std.specs.Map.{keys_of}
 use Rattle.zone_model.specs.Version.{key_cmp, Sets}
 use Rattle.zone_diffs.specs.Kept.{holds_data}
-use Rattle.zone_sets.proofs.KeptTypes.{keys_seen}
+use Rattle.zone_values.proofs.KeptTypes.{keys_seen}
 use Rattle.zone_diffs.proofs.Entries.{full_seen}
 use Rattle.zone_diffs.proofs.sets.DiffSets.len.Goals as goal
 

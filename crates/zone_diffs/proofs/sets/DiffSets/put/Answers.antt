@@ -5,7 +5,7 @@ use Rattle.std.specs.BTreeMap.{insert_entry}
 use Rattle.zone_model.specs.Version.{key_cmp, has_key, set_in, Sets}
 use Rattle.zone_values.specs.TypedSets.{TypedSet}
 use Rattle.zone_values.specs.TypedEntries.{entry_of}
-use Rattle.zone_sets.proofs.KeptTypes.{TypedEntries, insert_seen, remove_seen}
+use Rattle.zone_values.proofs.KeptTypes.{TypedEntries, insert_seen, remove_seen}
 use Rattle.zone_diffs.specs.Kept.{is_kept}
 use Rattle.zone_diffs.proofs.Entries.{insert_kept, remove_kept, never_found, put_empty, put_full}
 use Rattle.zone_diffs.proofs.sets.DiffSets.put.Goals as goal

@@ -1,6 +1,6 @@
 use Rattle.std.proofs.Common.{ap, ◌∙◌, option_map}
 use Rattle.zone_model.specs.Version.{Sets}
-use Rattle.zone_nodes.specs.Held.{told}
+use Rattle.zone_versions.specs.Held.{told}
 use Rattle.zone_versions.proofs.Stops.{first_owner}
 use Rattle.zone_records.specs.TypeSteps.{type_from}
 use Rattle.zone_records.proofs.TypesIn.{found_type, no_type}

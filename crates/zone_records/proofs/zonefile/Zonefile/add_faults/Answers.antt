@@ -3,7 +3,7 @@ use Rattle.dns_name.specs.Names.{Name}
 use Rattle.zone_model.specs.Version.{Key}
 use Rattle.zone_values.specs.TypedSets.{TypedSet}
 use Rattle.zone_errors.specs.declared.errors.ContextError.{ContextError}
-use Rattle.zone_nodes.specs.Held.{told}
+use Rattle.zone_versions.specs.Held.{told}
 use Rattle.zone_versions.specs.Stops.{key_told}
 use Rattle.zone_versions.proofs.Stops.{keys_told}
 use Rattle.zone_records.specs.Parsed.{sets_for}

@@ -1,7 +1,7 @@
 use Rattle.std.proofs.Common.{map, ap, ◌∙◌}
 use Rattle.std.specs.Prelude.{is_none}
 use Rattle.zone_model.specs.Version.{Key}
-use Rattle.zone_nodes.specs.Held.{told}
+use Rattle.zone_versions.specs.Held.{told}
 use Rattle.zone_records.specs.Parsed.{sets_for}
 use Rattle.zone_records.specs.Seen.{kind_seen}
 use Rattle.zone_records.specs.Faults.{fault_at}

@@ -1,6 +1,6 @@
 use Rattle.std.proofs.Common.{◌≡◌, ℕ, [], ◌∷◌, sym, ap, ◌∙◌}
 use Rattle.dns_name.specs.Names.{Name}
-use Rattle.dns_name.specs.Codes.{type_cname}
+use Rattle.dns_numbers.specs.Codes.{type_cname}
 use Rattle.zone_model.specs.Edits.{make_alias}
 use Rattle.zone_sessions.proofs.KeptApex.{place, put_place, kept}
 use Rattle.zone_sessions.proofs.opening.Opening.make_alias.Goals as goal

@@ -1,8 +1,8 @@
 use Rattle.std.proofs.Common.{ap, ◌∙◌}
 use Rattle.dns_name.specs.Names.{fold}
-use Rattle.zone_nodes.specs.Held.{counted}
-use Rattle.zone_nodes.specs.Trees.{built}
-use Rattle.zone_nodes.proofs.Told.{built_folded}
+use Rattle.zone_versions.specs.Held.{counted}
+use Rattle.zone_versions.specs.Trees.{built}
+use Rattle.zone_versions.proofs.Told.{built_folded}
 use Rattle.zone_versions.proofs.Outcomes.{on_ok}
 use Rattle.zone_sessions.proofs.write.WriteZone.add_record_counted.Goals as goal
 

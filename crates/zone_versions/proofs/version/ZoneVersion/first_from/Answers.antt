@@ -1,6 +1,6 @@
 use Rattle.std.proofs.Common.{option_map, ap, ◌∙◌}
 use Rattle.zone_model.specs.Version.{Version}
-use Rattle.zone_nodes.specs.Held.{told}
+use Rattle.zone_versions.specs.Held.{told}
 use Rattle.zone_versions.specs.Stops.{first_from}
 use Rattle.zone_versions.proofs.Stops.{first_owner}
 use Rattle.zone_versions.proofs.version.ZoneVersion.first_from.Goals as goal

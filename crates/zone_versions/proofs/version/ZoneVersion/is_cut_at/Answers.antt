@@ -1,6 +1,6 @@
 use Rattle.std.proofs.Common.{◌&&◌, is_some, length, ap, ◌∙◌, arith}
 use Rattle.dns_name.specs.Names.{name_wire, under}
-use Rattle.dns_name.specs.Codes.{type_ns}
+use Rattle.dns_numbers.specs.Codes.{type_ns}
 use Rattle.zone_model.specs.Version.{set_at}
 use Rattle.zone_versions.proofs.ApexLengths.{of_short, of_long}
 use Rattle.zone_versions.proofs.version.ZoneVersion.is_cut_at.Goals as goal

@@ -1,6 +1,6 @@
 use Rattle.std.proofs.Common.{◌≡◌, ◌==◌, true, is_some, sym, ap, ◌∙◌}
 use Rattle.zone_model.specs.Version.{set_at, below_apex}
-use Rattle.dns_name.specs.Codes.{type_cname}
+use Rattle.dns_numbers.specs.Codes.{type_cname}
 use Rattle.zone_versions.proofs.Conditions.{not_false, third}
 use Rattle.zone_versions.proofs.version.ZoneVersion.is_second_alias.Goals as goal
 

@@ -1,6 +1,6 @@
 use Rattle.std.proofs.Common.{◌≡◌, ◌==◌, true, not, is_some, sym, ap, ◌∙◌}
 use Rattle.zone_model.specs.Version.{set_at, below_apex}
-use Rattle.dns_name.specs.Codes.{type_ds, type_ns}
+use Rattle.dns_numbers.specs.Codes.{type_ds, type_ns}
 use Rattle.zone_versions.proofs.Conditions.{not_false, third}
 use Rattle.zone_versions.proofs.version.ZoneVersion.is_stray.Goals as goal
 

@@ -3,8 +3,8 @@ use Rattle.dns_name.specs.Names.{under}
 use Rattle.dns_rdata.specs.Records.{same_data}
 use Rattle.zone_model.specs.Version.{Version, data_at}
 use Rattle.zone_model.specs.Edits.{delete, put_set}
-use Rattle.zone_nodes.specs.Held.{counted}
-use Rattle.zone_nodes.specs.Trees.{built}
+use Rattle.zone_versions.specs.Held.{counted}
+use Rattle.zone_versions.specs.Trees.{built}
 use Rattle.zone_versions.specs.Puts.{without}
 use Rattle.zone_versions.proofs.Outcomes.{on_ok, sound_after}
 use Rattle.zone_versions.proofs.Sound.{delete_sound, delete_in_zone}

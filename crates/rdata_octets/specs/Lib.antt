@@ -1,3 +1,0 @@
-pub mod DataValues
-pub mod Texts
-pub mod OctetFields

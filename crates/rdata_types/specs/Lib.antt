@@ -1,2 +1,0 @@
-pub mod Soa
-pub mod DataFields

@@ -1,0 +1,4 @@
+pub mod ZoneUpdates
+pub mod UpdateTexts
+pub mod Modes
+pub mod Refusals

@@ -1,6 +1,0 @@
-use Rattle.xfr_services.proofs.Failing.{checked_fails}
-use Rattle.xfr_services.proofs.laws.signed_replies_fail_where_long.Goals as goal
-
-pub returns : goal.returns
-returns g c = λ next keys short r sent sends failed.
-    checked_fails g.KS.Key.KeyRef.the_key (g.KS.KeyStore.key_of keys) (g.N.Service.Sends next) short r sent sends failed

@@ -1,5 +1,0 @@
-use Rattle.xfr_services.proofs.Keys.{stores_are_named}
-use Rattle.xfr_services.proofs.laws.stores_are_named.Goals as goal
-
-pub returns : goal.returns
-returns c = stores_are_named

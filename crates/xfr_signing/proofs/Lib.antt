@@ -1,0 +1,6 @@
+pub mod Failing
+pub mod Keys
+pub mod Puts
+pub mod Received
+pub mod Room
+pub mod Sends

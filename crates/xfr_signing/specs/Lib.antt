@@ -1,0 +1,4 @@
+pub mod Signing
+pub mod SignedStreams
+pub mod SignedServing
+pub mod Failing

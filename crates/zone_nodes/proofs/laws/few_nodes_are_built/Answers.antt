@@ -1,5 +1,0 @@
-use Rattle.zone_nodes.proofs.Few.{few_built}
-use Rattle.zone_nodes.proofs.laws.few_nodes_are_built.Goals as goal
-
-pub returns : goal.returns
-returns c = few_built
