@@ -11,7 +11,7 @@ use Rattle.zone_model.specs.Version.{RecordSet, Version, set_at}
 use Rattle.zone_model.specs.Answer.{apex_soa_record}
 use Rattle.xfr_server.specs.TransferMessage.{AddsAnswers}
 use Rattle.xfr_server.proofs.Adding.{adds_none, adds_one, adds_behind, refused_front}
-use Rattle.xfr_outcomes.proofs.ApexSoa.{soa_first, record_with, has_first}
+use Rattle.zone_values.proofs.ApexSoa.{soa_first, record_with, has_first}
 
 -- ---- what a loop keeps
 

@@ -3,7 +3,7 @@ use Rattle.dns_numbers.specs.Codes.{type_soa}
 use Rattle.dns_rdata.specs.ZoneData.{rtype_of, data_fields}
 use Rattle.zone_values.specs.TypedEntries.{untyped}
 use Rattle.zone_versions.proofs.TypedStops.{untyped_typed}
-use Rattle.xfr_outcomes.proofs.ApexSoa.{soa_none, record_with, looked_up_type, no_soa_data}
+use Rattle.zone_values.proofs.ApexSoa.{soa_none, record_with, looked_up_type, no_soa_data}
 use Rattle.xfr_client.proofs.Requests.{pushed_nothing, pushed_soa}
 use Rattle.xfr_client.proofs.client.push_soa.Goals as goal
 

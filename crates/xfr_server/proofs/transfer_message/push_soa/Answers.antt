@@ -4,7 +4,7 @@ use Rattle.dns_rdata.specs.ZoneData.{rtype_of, data_fields}
 use Rattle.zone_values.specs.TypedEntries.{untyped}
 use Rattle.zone_versions.proofs.TypedStops.{untyped_typed}
 use Rattle.xfr_server.proofs.Adding.{adds_none}
-use Rattle.xfr_outcomes.proofs.ApexSoa.{soa_none, record_with, looked_up_type, no_soa_data}
+use Rattle.zone_values.proofs.ApexSoa.{soa_none, record_with, looked_up_type, no_soa_data}
 use Rattle.xfr_server.proofs.Loops.{pushed_soa}
 use Rattle.xfr_server.proofs.transfer_message.push_soa.Goals as goal
 

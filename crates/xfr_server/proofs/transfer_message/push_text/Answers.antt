@@ -1,6 +1,6 @@
 use Rattle.std.proofs.Common.{refl, ap, ◌∙◌}
 use Rattle.std.proofs.lemmas.Result.{err_from_is_err_and}
-use Rattle.xfr_outcomes.proofs.ApexSoa.{first_left, no_first}
+use Rattle.zone_values.proofs.ApexSoa.{first_left, no_first}
 use Rattle.xfr_server.proofs.Loops.{kept_first, record_more, record_refused, kept_last}
 use Rattle.xfr_server.proofs.transfer_message.push_text.Goals as goal
 
