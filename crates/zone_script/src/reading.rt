@@ -1,5 +1,5 @@
 //! The lines of a script up to the first edit or question, and the zones that they open.
-ghost use Rattle.std.specs.Prelude.{◌≡◌, ◌==◌, Ok, Err, IfOk, IfErr, IfSome, IsSomeAnd, OnOk};
+ghost use Rattle.std.specs.Prelude.{◌≡◌, ◌==◌, Some, None, Ok, Err, IfOk, IfErr, IfSome, IsSomeAnd, OnOk};
 ghost use Rattle.zone_script.specs.Script.{stage_of};
 ghost use Rattle.zone_script.specs.Keeping as keeping;
 ghost use Rattle.script_words.specs.Lines.{line_of};
@@ -33,6 +33,29 @@ impl Zones {
             primary,
             secondary: OpeningZone::new(alloc, apex, class),
         })
+    }
+
+    /// The zones open, with what else the lines say. Where the records of one make no zone, the line of its last record, the primary's before the secondary's.
+    fn open(self, key: Key, at_primary: Time48, at_secondary: Time48) -> Result<Opened, ScriptError>
+        ensures ok { IfOk result (λ o. (keeping.zones_refusal (Some self) ≡ None) × (o ≡ record { key = key; at_primary = at_primary; at_secondary = at_secondary; primary = keeping.commit_of self.primary; secondary = keeping.commit_of self.secondary })) }
+        ensures bad { IfErr result (λ e. IfSome (line_in e) (λ n. keeping.zones_refusal (Some self) ≡ Some n)) }
+        ensures first { IfOk result (λ o. o.primary.number ≡ 0) }
+    {
+        let Zones { primary, secondary } = self;
+        match primary.build() {
+            Ok(primary) => Ok(Opened {
+                key,
+                at_primary,
+                at_secondary,
+                primary,
+                secondary: secondary.build()?,
+            }),
+            Err(error) => {
+                drop(secondary);
+                drop(key);
+                Err(error)
+            }
+        }
     }
 }
 
@@ -165,24 +188,22 @@ impl Reading {
         ensures bad { IfErr result (λ e. IfSome (line_in e) (λ n. keeping.open_zones self number ≡ Err n)) }
         ensures first { IfOk result (λ o. o.primary.number ≡ 0) }
     {
-        let (Some(zones), Some(key)) = (self.zones, self.key) else {
+        let Reading {
+            zones,
+            key,
+            at_primary,
+            at_secondary,
+            ..
+        } = self;
+        let Some(zones) = zones else {
+            drop(key);
             return Err(ScriptError::Line(number));
         };
-        let (primary, secondary) = (zones.primary, zones.secondary);
-        match primary.build() {
-            Ok(primary) => Ok(Opened {
-                key,
-                at_primary: self.at_primary,
-                at_secondary: self.at_secondary,
-                primary,
-                secondary: secondary.build()?,
-            }),
-            Err(error) => {
-                drop(secondary);
-                drop(key);
-                Err(error)
-            }
-        }
+        let Some(key) = key else {
+            drop(zones);
+            return Err(ScriptError::Line(number));
+        };
+        zones.open(key, at_primary, at_secondary)
     }
 }
 
