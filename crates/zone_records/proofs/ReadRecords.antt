@@ -86,19 +86,13 @@ file_kept (first ∷ more) p h = by (first.rtype == type_soa) h
 -- ---- what calls answer
 
 -- nothing was refused, or something
-pub all_taken : (p q : Parsed) (begun errors : Refusals) (rs : List Record) → begun ≡ [] → (q, errors) ≡ read_all (p, begun) rs → errors ≡ [] → unless_refused (read_all (p, []) rs) ≡ Ok q
-all_taken p q begun errors rs b h n =
-    let back : [] ≡ errors = sym n in
-    let whole : (q, []) ≡ read_all (p, []) rs = (λ i. (q, back i)) ∙ h ∙ ap (λ (l : Refusals). read_all (p, l) rs) b in
-    ap unless_refused (sym whole)
+pub all_taken : (p : Parsed) (errors : Refusals) → errors ≡ [] → unless_refused (p, errors) ≡ Ok p
+all_taken p errors n = ap (λ (l : Refusals). unless_refused (p, l)) n
 
-pub some_refused : (p q : Parsed) (begun errors refused : Refusals) (rs : List Record) → begun ≡ [] → (q, errors) ≡ read_all (p, begun) rs → refused ≡ errors → 0 < length errors
-    → unless_refused (read_all (p, []) rs) ≡ Err refused
-some_refused p q begun errors refused rs b h e n =
-    let whole : (q, errors) ≡ read_all (p, []) rs = h ∙ ap (λ (l : Refusals). read_all (p, l) rs) b in
-    ap unless_refused (sym whole) ∙ by (length errors == 0) refl ∙ ap Err (sym e)
+pub some_refused : (p : Parsed) (errors refused : Refusals) → refused ≡ errors → 0 < length errors → unless_refused (p, errors) ≡ Err refused
+some_refused p errors refused e n = by (length errors == 0) refl ∙ ap Err (sym e)
   where
-    by : (c : Bool) → (length errors == 0) ≡ c → (if c then Ok q else Err errors) ≡ Err errors
+    by : (c : Bool) → (length errors == 0) ≡ c → (if c then Ok p else Err errors) ≡ Err errors
     by true g = let none : length errors ≡ 0 = eqb-true (length errors) 0 g in absurd (omega arith)
     by false g = refl
 

@@ -32,7 +32,6 @@ impl Zonefile {
     }
 
     /// The zone file with some records, unless one of them is refused.
-    #[tactic(auto, using(crate::proofs::ReadRecords::all_taken, crate::proofs::ReadRecords::some_refused))]
     fn read(
         mut self,
         alloc: Global,
@@ -42,7 +41,25 @@ impl Zonefile {
         ensures refused { IfErr result (λ e. IfSome (errors_in e) (λ errors. unless_refused (read_all (self, []) records.items) ≡ Err errors)) }
     {
         let mut errors = ZoneErrors::new(alloc);
-        self.insert_all(records, &mut errors)?;
+        match self.insert_all(records, &mut errors) {
+            Ok(()) => self.unless_refused(errors),
+            Err(error) => {
+                drop(self);
+                drop(errors);
+                Err(FileError::from(error))
+            }
+        }
+    }
+
+    /// The zone file, unless records were refused.
+    #[tactic(auto, using(crate::proofs::ReadRecords::all_taken, crate::proofs::ReadRecords::some_refused))]
+    fn unless_refused(
+        self,
+        errors: ZoneErrors<RecordError>,
+    ) -> Result<Zonefile, FileError<RecordError>>
+        ensures ok { IfOk result (λ z. unless_refused (self, errors) ≡ Ok z) }
+        ensures refused { IfErr result (λ e. IfSome (errors_in e) (λ found. unless_refused (self, errors) ≡ Err found)) }
+    {
         match errors.unwrap() {
             Ok(()) => Ok(self),
             Err(refused) => {

@@ -1,9 +1,16 @@
 // The records of a zone file.
-ghost use Rattle.std.specs.Prelude.{◌≡◌, ◌==◌, ◌&&◌, ◌||◌, ◌<◌, [], length, not, None, Ok, OnOk, OnErr, IfOk, IfErr, IfSome, if◌then◌else◌};
+ghost use Rattle.std.specs.Prelude.{◌≡◌, ◌==◌, ◌&&◌, ◌||◌, ◌<◌, [], length, map, not, true, None, Ok, OnOk, OnErr, IfOk, IfErr, IfSome, IsTrue, if◌then◌else◌};
+ghost use Rattle.std.specs.List.{list_all};
+ghost use Rattle.std.specs.Map.{keys_of};
 ghost use Rattle.dns_name.specs.Names.{same_name, under};
 ghost use Rattle.dns_numbers.specs.Codes.{type_ns, type_ds};
 ghost use Rattle.zone_model.specs.Classify.{ZoneFile, Accepted, is_address, classify};
-ghost use Rattle.zone_records.specs.Parsed.{kept, with_record, empty_file, version_of, sets_for};
+ghost use Rattle.zone_model.specs.Edits.{with_sets};
+ghost use Rattle.zone_values.specs.SetEdits.{put_all};
+ghost use Rattle.zone_versions.specs.Sound.{IsSound};
+ghost use Rattle.zone_versions.specs.Stops.{entry_told};
+ghost use Rattle.zone_records.specs.OpeningSets.{is_put_at};
+ghost use Rattle.zone_records.specs.Parsed.{IsTidy, kept, with_record, empty_file, version_of, sets_for};
 ghost use Rattle.zone_records.specs.Taking.{cut_in, verdict_in, verdict_as, cut_verdict, alias_verdict, normal_verdict, kind_in, taken_in, take};
 ghost use Rattle.zone_records.specs.Seen.{kind_seen, verdict_seen};
 ghost use Rattle.zone_records.specs.Refusals.{refusal};
@@ -12,15 +19,15 @@ ghost use Rattle.zone_records.specs.Causes.{errors_in};
 
 use crate::errors::FileError;
 use crate::kinds::{Obstacle, RecordKind};
-use crate::opening_sets::put_sets;
+use crate::opening_sets::{OwnerSets, put_sets};
 use crate::owners::Owners;
 use dns_name::{StoredName, ToName};
 use dns_numbers::{Class, Rtype};
 use dns_rdata::StoredRecord;
 use std::alloc::{AllocError, Global};
 use std::marker::Model;
-use zone_errors::{ContextError, RecordError};
-use zone_versions::{ZoneVersion, is_at_or_below};
+use zone_errors::{ContextError, RecordError, ZoneErrors};
+use zone_versions::{VersionTree, ZoneVersion, is_at_or_below};
 
 /// The records of a zone file by kind (RFC 1034, 4.2.1), under an origin and a class.
 #[derive(Drop)]
@@ -290,7 +297,24 @@ impl Zonefile {
         ensures ok { IfOk result (λ v. (faults self ≡ []) × (v ≡ version_of self)) }
         ensures refused { IfErr result (λ e. IfSome (errors_in e) (λ errors. (errors ≡ faults self) × (0 < length errors))) }
     {
-        let found = self.faults(self.alloc)?;
+        match self.faults(self.alloc) {
+            Ok(found) => self.unless_faults(found),
+            Err(error) => {
+                drop(self);
+                Err(FileError::from(error))
+            }
+        }
+    }
+
+    /// The version that the records make, unless these are faults.
+    fn unless_faults(
+        self,
+        found: ZoneErrors<ContextError>,
+    ) -> Result<ZoneVersion, FileError<ContextError>>
+        requires { found ≡ faults self }
+        ensures ok { IfOk result (λ v. (faults self ≡ []) × (v ≡ version_of self)) }
+        ensures refused { IfErr result (λ e. IfSome (errors_in e) (λ errors. (errors ≡ faults self) × (0 < length errors))) }
+    {
         match found.unwrap() {
             Ok(()) => Ok(self.joined()?),
             Err(errors) => {
@@ -306,15 +330,57 @@ impl Zonefile {
         ensures { IfOk result (λ v. v ≡ version_of self) }
     {
         drop(self.out_of_zone);
-        let origin = self.origin;
-        let mut tree = self.normal.into_tree(self.alloc, &origin, self.class)?;
-        put_sets(&mut tree, self.alloc, self.zone_cuts.iter())?;
-        put_sets(&mut tree, self.alloc, self.cnames.iter())?;
-        drop(self.zone_cuts);
-        drop(self.cnames);
-        drop(origin);
-        Ok(ZoneVersion::of_tree(tree))
+        let tree = self.normal.into_tree(self.alloc, &self.origin, self.class);
+        drop(self.origin);
+        match tree {
+            Ok(tree) => joined_with(tree, self.alloc, self.zone_cuts, self.cnames),
+            Err(error) => {
+                drop(self.zone_cuts);
+                drop(self.cnames);
+                Err(error)
+            }
+        }
     }
+}
+
+/// The version of a tree, once the RRsets of cuts and aliases are put to it.
+fn joined_with(
+    tree: VersionTree,
+    alloc: Global,
+    zone_cuts: Owners,
+    cnames: Owners,
+) -> Result<ZoneVersion, AllocError>
+    requires cuts { list_all (λ k. under k.0 tree.apex) (keys_of zone_cuts) ≡ true }
+    requires aliases { list_all (λ k. under k.0 tree.apex) (keys_of cnames) ≡ true }
+    requires sound { IsTidy zone_cuts → IsTidy cnames → IsSound (with_sets tree (put_all (put_all tree.sets zone_cuts) cnames)) }
+    ensures { IfOk result (λ v. v ≡ with_sets tree (put_all (put_all tree.sets zone_cuts) cnames)) }
+{
+    let mut tree = tree;
+    let put = put_both(&mut tree, alloc, zone_cuts.iter(), cnames.iter());
+    drop(zone_cuts);
+    drop(cnames);
+    match put {
+        Ok(()) => Ok(ZoneVersion::of_tree(tree)),
+        Err(error) => {
+            drop(tree);
+            Err(error)
+        }
+    }
+}
+
+/// Puts the RRsets of cuts and aliases to a tree. Without memory some of them may have been put.
+fn put_both(
+    tree: &mut VersionTree,
+    alloc: Global,
+    zone_cuts: OwnerSets<'_>,
+    cnames: OwnerSets<'_>,
+) -> Result<(), AllocError>
+    requires cuts { IsTrue (list_all (is_put_at tree.old.apex) zone_cuts) }
+    requires aliases { IsTrue (list_all (is_put_at tree.old.apex) cnames) }
+    ensures { OnOk result (tree.new ≡ with_sets tree.old (put_all (put_all tree.old.sets (map entry_told zone_cuts.entry)) (map entry_told cnames.entry))) }
+{
+    put_sets(tree, alloc, zone_cuts)?;
+    put_sets(tree, alloc, cnames)
 }
 
 /// Whether a type is one of addresses.
