@@ -117,20 +117,38 @@ impl<'z> WriteZone<'z> {
         ensures ok { OnOk result (self.new ≡ with_pending self.old (edits.make_cut self.old.pending owner.now cut.ns.contents (option_map (λ (s : TypedSet). s.contents) cut.ds) cut.glue.items)) }
         ensures err { OnErr result (self.new ≡ self.old) }
     {
-        let before = self.copy()?;
-        let put = self.put_cut(owner, cut);
-        if put.is_err() {
-            self.keep(before);
-        }
+        let put = self.cut_whole(owner, &cut);
+        drop(cut);
         put
     }
 
-    /// Puts the parts of a zone cut, in turn.
-    fn put_cut(&mut self, owner: &KeyName, cut: ZoneCut) -> Result<(), AllocError>
+    /// Makes an owner a zone cut, all of it or nothing.
+    fn cut_whole(&mut self, owner: &KeyName, cut: &ZoneCut) -> Result<(), AllocError>
         requires zone { under owner.now self.old.pending.apex ≡ true }
-        requires ns { cut.ns.rtype ≡ type_ns }
-        requires ds { IfSome cut.ds (λ s. s.rtype ≡ type_ds) }
-        ensures ok { OnOk result (self.new ≡ with_pending self.old (edits.make_cut self.old.pending owner.now cut.ns.contents (option_map (λ (s : TypedSet). s.contents) cut.ds) cut.glue.items)) }
+        requires ns { cut.now.ns.rtype ≡ type_ns }
+        requires ds { IfSome cut.now.ds (λ s. s.rtype ≡ type_ds) }
+        ensures ok { OnOk result (self.new ≡ with_pending self.old (edits.make_cut self.old.pending owner.now cut.now.ns.contents (option_map (λ (s : TypedSet). s.contents) cut.now.ds) cut.now.glue.items)) }
+        ensures err { OnErr result (self.new ≡ self.old) }
+    {
+        let before = self.copy()?;
+        match self.put_cut(owner, cut) {
+            Ok(()) => {
+                drop(before);
+                Ok(())
+            }
+            Err(error) => {
+                self.keep(before);
+                Err(error)
+            }
+        }
+    }
+
+    /// Puts the parts of a zone cut, in turn.
+    fn put_cut(&mut self, owner: &KeyName, cut: &ZoneCut) -> Result<(), AllocError>
+        requires zone { under owner.now self.old.pending.apex ≡ true }
+        requires ns { cut.now.ns.rtype ≡ type_ns }
+        requires ds { IfSome cut.now.ds (λ s. s.rtype ≡ type_ds) }
+        ensures ok { OnOk result (self.new ≡ with_pending self.old (edits.make_cut self.old.pending owner.now cut.now.ns.contents (option_map (λ (s : TypedSet). s.contents) cut.now.ds) cut.now.glue.items)) }
         ensures else_same { self.new ≡ with_pending self.old self.new.pending }
     {
         self.replace_set(owner, &cut.ns)?;

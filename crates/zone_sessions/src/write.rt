@@ -132,7 +132,7 @@ impl<'z> WriteZone<'z> {
         requires { pending.base ≡ self.old.current.version }
         ensures { self.new ≡ with_pending self.old pending.version }
     {
-        self.pending = Some(pending);
+        drop(self.pending.replace(pending));
     }
 
     /// Where memory comes from.
@@ -340,9 +340,9 @@ impl<'z> WriteZone<'z> {
             Ok(publication) => {
                 drop(closed);
                 self.zone.publish(publication.next);
-                self.pending = None;
+                drop(self.pending.take());
                 self.compares = false;
-                self.spare = Some(publication.spare);
+                drop(self.spare.replace(publication.spare));
                 Ok(publication.told)
             }
             Err(error) => {
@@ -374,13 +374,35 @@ impl<'z> WriteZone<'z> {
         ensures spare { IfOk result (λ p. p.spare ≡ record { number = number; version = closed.now.version }) }
         ensures told { IfOk result (λ p. p.told ≡ told_of self.now.compares closed.now) }
     {
-        let told = self.told(closed)?;
         let next = ReadZone::of(number, closed.share()?);
-        Ok(Publication {
-            spare: next.clone()?,
-            next,
-            told,
-        })
+        match next.clone() {
+            Ok(spare) => self.publication_of(next, spare, closed),
+            Err(error) => {
+                drop(next);
+                Err(error)
+            }
+        }
+    }
+
+    /// The publication of these two handles.
+    fn publication_of(
+        &self,
+        next: ReadZone,
+        spare: ReadZone,
+        closed: &ClosedDraft,
+    ) -> Result<Publication, AllocError>
+        ensures next { IfOk result (λ p. p.next ≡ next) }
+        ensures spare { IfOk result (λ p. p.spare ≡ spare) }
+        ensures told { IfOk result (λ p. p.told ≡ told_of self.now.compares closed.now) }
+    {
+        match self.told(closed) {
+            Ok(told) => Ok(Publication { next, spare, told }),
+            Err(error) => {
+                drop(spare);
+                drop(next);
+                Err(error)
+            }
+        }
     }
 
     /// What a commit of it tells.
@@ -407,7 +429,7 @@ impl<'z> WriteZone<'z> {
     pub fn rollback(&mut self)
         ensures { self.new ≡ rolled_back self.old }
     {
-        self.pending = None;
+        drop(self.pending.take());
         self.compares = false;
     }
 
