@@ -154,21 +154,80 @@ impl Reading {
         ensures ok { OnOk result (keeping.put_line self.old number (line_of line) ≡ Ok self.new) }
         ensures bad { IfErr result (λ e. IfSome (line_in e) (λ n. keeping.put_line self.old number (line_of line) ≡ Err n)) }
     {
-        let stage = line.stage().min(6);
         match line {
-            Line::Zone(apex, class) => self.zones = Some(Zones::new(alloc, apex, class)?),
-            Line::Key(key) => self.key = Some(key),
-            Line::At(at_primary, at_secondary) => {
-                self.at_primary = at_primary;
-                self.at_secondary = at_secondary;
-            }
-            Line::Primary(found) => put_primary(&mut self.zones, found, number)?,
-            Line::Secondary(found) => put_secondary(&mut self.zones, found, number)?,
-            Line::Change(change) => drop(change),
-            Line::Query(qname, _) => drop(qname),
+            Line::Zone(apex, class) => self.begin_zones(alloc, apex, class),
+            Line::Key(key) => Ok(self.put_key(key)),
+            Line::At(at_primary, at_secondary) => Ok(self.put_times(at_primary, at_secondary)),
+            Line::Primary(found) => self.take_primary(found, number),
+            Line::Secondary(found) => self.take_secondary(found, number),
+            Line::Change(change) => Ok(self.leave(change)),
+            Line::Query(qname, _) => Ok(self.leave(qname)),
         }
-        self.stage = stage;
+    }
+
+    /// Begins zones of this apex and class, without records.
+    fn begin_zones(
+        &mut self,
+        alloc: Global,
+        apex: StoredName,
+        class: Class,
+    ) -> Result<(), ScriptError>
+        ensures ok { OnOk result (self.new ≡ record self.old { stage = 1; zones = Some (keeping.empty_zones apex class) }) }
+        ensures memory { IfErr result (λ e. e ≡ ScriptError.Memory) }
+    {
+        match Zones::new(alloc, apex, class) {
+            Ok(zones) => {
+                drop(self.zones.replace(zones));
+                self.stage = 1;
+                Ok(())
+            }
+            Err(_) => Err(ScriptError::Memory),
+        }
+    }
+
+    /// Puts the key to what was read.
+    fn put_key(&mut self, key: Key)
+        ensures { self.new ≡ record self.old { stage = 2; key = Some key } }
+    {
+        drop(self.key.replace(key));
+        self.stage = 2;
+    }
+
+    /// Puts the two moments to what was read.
+    fn put_times(&mut self, at_primary: Time48, at_secondary: Time48)
+        ensures { self.new ≡ record self.old { stage = 3; at_primary = at_primary; at_secondary = at_secondary } }
+    {
+        self.at_primary = at_primary;
+        self.at_secondary = at_secondary;
+        self.stage = 3;
+    }
+
+    /// Puts a record into the primary's zone.
+    fn take_primary(&mut self, found: StoredRecord, number: u64) -> Result<(), ScriptError>
+        ensures ok { OnOk result (keeping.with_zones self.old 4 (keeping.into_primary self.old.zones number found) ≡ Ok self.new) }
+        ensures bad { IfErr result (λ e. IfSome (line_in e) (λ n. keeping.into_primary self.old.zones number found ≡ Err n)) }
+    {
+        put_primary(&mut self.zones, found, number)?;
+        self.stage = 4;
         Ok(())
+    }
+
+    /// Puts a record into the secondary's zone.
+    fn take_secondary(&mut self, found: StoredRecord, number: u64) -> Result<(), ScriptError>
+        ensures ok { OnOk result (keeping.with_zones self.old 5 (keeping.into_secondary self.old.zones number found) ≡ Ok self.new) }
+        ensures bad { IfErr result (λ e. IfSome (line_in e) (λ n. keeping.into_secondary self.old.zones number found ≡ Err n)) }
+    {
+        put_secondary(&mut self.zones, found, number)?;
+        self.stage = 5;
+        Ok(())
+    }
+
+    /// Leaves the first edit or question.
+    fn leave<T: Drop>(&mut self, line: T)
+        ensures { self.new ≡ record self.old { stage = 6 } }
+    {
+        drop(line);
+        self.stage = 6;
     }
 
     /// Whether a line of a stage may stand here: the first three once each, and all after the zone and, but for these two, after the key.
