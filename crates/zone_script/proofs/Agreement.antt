@@ -14,7 +14,7 @@ use Rattle.zone_records.specs.Faults.{is_whole, makes_zone}
 use Rattle.zone_script.specs.Script as scripts
 use Rattle.zone_script.specs.Script.{Line, ZoneLine, KeyLine, AtLine, PrimaryLine, SecondaryLine, ChangeLine, QueryLine, Plus, Minus, Commit, stage_of, is_skipped, read_line, read_lines, read_next, next_line, take_from, or_line, no_script, accept, begun, begin_edits, opened_before, opening_fault}
 use Rattle.zone_script.specs.ScriptReaders.{wire_readers}
-use Rattle.zone_script.specs.Keeping.{empty_zone, with_file, nothing_read, may_come, is_of_class, is_of_zones, may_stand, and_zones, into_primary, into_secondary, with_zones, put_line, zones_refusal, unless, take_line, take_read, take_text, opened_with, opened_from, read_on, finished, begin}
+use Rattle.zone_script.specs.Keeping.{empty_zone, with_file, nothing_read, may_come, is_of_class, is_of_zones, may_stand, and_zones, into_primary, into_secondary, with_zones, put_line, zones_refusal, unless, take_line, take_read, take_text, commit_of, opened_with, opened_from, read_on, finished, begin}
 use Rattle.zone_script.specs.declared.opening.OpeningZone.{OpeningZone}
 use Rattle.zone_script.specs.declared.reading.Zones.{Zones}
 use Rattle.zone_script.specs.declared.reading.Reading.{Reading}
@@ -449,7 +449,7 @@ module _ (laws : FileLaws) where
   pub finish_alike : (k : Reading) (s : scripts.Script TsigKey) (n : ℕ) (lines : List (List ℕ)) → OpensAs k s → GivesAlike (finished k n lines) (on_from s n lines)
   finish_alike k s n lines h = by_key k.zones k.key refl refl h.zones h.key
     where
-      begins : (z : Zones) (key : TsigKey) → k.zones ≡ Some z → s.key ≡ Some key → ZonesStand (Some z) s → EditsStand (opened_with k z key) (begin (opened_with k z key)) (begin_edits s)
+      begins : (z : Zones) (key : TsigKey) → k.zones ≡ Some z → s.key ≡ Some key → ZonesStand (Some z) s → EditsStand (opened_with k z key) (begin (commit_of z.primary)) (begin_edits s)
       begins z key e d some = record {
         key = d;
         at_primary = sym h.at_primary;
@@ -467,7 +467,7 @@ module _ (laws : FileLaws) where
 
       opens : (z : Zones) (key : TsigKey) (o : Option ℕ) → k.zones ≡ Some z → s.key ≡ Some key → ZonesStand (Some z) s
           → GivesAlike (read_on n lines (unless o (Ok (opened_with k z key)))) (read_lines wire_readers (begun s o) n lines)
-      opens z key None e d some = rest_alike (opened_with k z key) (Ok (begin (opened_with k z key))) (Ok (begin_edits s)) n lines (begins z key e d some)
+      opens z key None e d some = rest_alike (opened_with k z key) (Ok (begin (commit_of z.primary))) (Ok (begin_edits s)) n lines (begins z key e d some)
       opens z key (Some m) e d some = edits.refused_alike m n lines
 
       at_key : (z : Option Zones) (key : Option TsigKey) → k.zones ≡ z → s.key ≡ key → ZonesStand z s → GivesAlike (read_on n lines (opened_from k n z key)) (if is_some key then read_lines wire_readers (opened_before s 7) n lines else Err n)

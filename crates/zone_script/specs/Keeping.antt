@@ -178,15 +178,26 @@ take_rest (Ok e) n (l ∷ more) = take_rest (take_later_text e n l) (n + 1) more
 
 -- ---- the whole
 
-abbrev pub script_with : Opened → Result Edited ℕ → Result Script ℕ
-script_with o (Ok e) = Ok (record { key = o.key; at_primary = o.at_primary; at_secondary = o.at_secondary; opening = o.primary; commits = e.editing.commits; secondary = o.secondary; queries = e.editing.queries })
-script_with o (Err n) = Err n
+abbrev pub begin : Commit → Edited
+begin c = record { current = c; pending = c.version; editing = nothing_edited c.version.class }
 
-abbrev pub begin : Opened → Edited
-begin o = record { current = o.primary; pending = o.primary.version; editing = nothing_edited o.primary.version.class }
+abbrev pub editing_in : Result Edited ℕ → Result Editing ℕ
+editing_in (Ok e) = Ok e.editing
+editing_in (Err n) = Err n
+
+-- what is read from a zone's opening version on
+abbrev pub read_edits : Commit → ℕ → List (List ℕ) → Result Editing ℕ
+read_edits c n lines = editing_in (take_rest (Ok (begin c)) n lines)
+
+abbrev pub script_of_editing : Opened → Result Editing ℕ → Result Script ℕ
+script_of_editing o (Ok k) = Ok (record { key = o.key; at_primary = o.at_primary; at_secondary = o.at_secondary; opening = o.primary; commits = k.commits; secondary = o.secondary; queries = k.queries })
+script_of_editing o (Err n) = Err n
+
+abbrev pub script_with : Opened → Result Edited ℕ → Result Script ℕ
+script_with o e = script_of_editing o (editing_in e)
 
 abbrev pub read_on : ℕ → List (List ℕ) → Result Opened ℕ → Result Script ℕ
-read_on n lines (Ok o) = script_with o (take_rest (Ok (begin o)) n lines)
+read_on n lines (Ok o) = script_of_editing o (read_edits o.primary n lines)
 read_on n lines (Err m) = Err m
 
 abbrev pub finished : Reading → ℕ → List (List ℕ) → Result Script ℕ

@@ -161,9 +161,13 @@ impl Editing {
         ensures numbers { OnOk result (session.new.current.number ≤ number) }
     {
         let told = publish(rt, session, number)?;
-        let handle = session.handle()?;
-        self.commits.push(handle, told)?;
-        Ok(())
+        match session.handle() {
+            Ok(handle) => Ok(self.commits.push(handle, told)?),
+            Err(_) => {
+                drop(told);
+                Err(ScriptError::Memory)
+            }
+        }
     }
 
     /// Adds a record to what is pending.

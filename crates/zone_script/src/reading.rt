@@ -43,13 +43,20 @@ impl Zones {
     {
         let Zones { primary, secondary } = self;
         match primary.build() {
-            Ok(primary) => Ok(Opened {
-                key,
-                at_primary,
-                at_secondary,
-                primary,
-                secondary: secondary.build()?,
-            }),
+            Ok(primary) => match secondary.build() {
+                Ok(secondary) => Ok(Opened {
+                    key,
+                    at_primary,
+                    at_secondary,
+                    primary,
+                    secondary,
+                }),
+                Err(error) => {
+                    drop(primary);
+                    drop(key);
+                    Err(error)
+                }
+            },
             Err(error) => {
                 drop(secondary);
                 drop(key);

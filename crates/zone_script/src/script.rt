@@ -75,7 +75,13 @@ pub fn parse<R>(rt: &R, alloc: Global, text: &[u8]) -> Result<Script, ScriptErro
     let mut rest = text;
     let mut number = 1u64;
     'opening: while let Some((line, behind)) = next_line(rest) {
-        reading.read(alloc, number, line)?;
+        match reading.read(alloc, number, line) {
+            Ok(()) => {}
+            Err(error) => {
+                drop(reading);
+                return Err(error);
+            }
+        }
         if reading.is_over() {
             return finish(rt, alloc, reading, number, rest);
         }
@@ -117,19 +123,76 @@ fn read_on<R>(
     ensures ok { IfOk result (λ s. keeping.read_on number (script_lines rest.now) (Ok opened) ≡ Ok s) }
     ensures bad { IfErr result (λ e. IfSome (line_in e) (λ n. keeping.read_on number (script_lines rest.now) (Ok opened) ≡ Err n)) }
 {
-    let mut primary = opened.primary;
-    let opening = primary.read(rt)?;
-    let mut editing = Editing::new(alloc, primary.class());
-    let mut session = primary.write(alloc);
-    read_rest(rt, alloc, &mut session, &mut editing, number, rest)?;
+    let Opened {
+        key,
+        at_primary,
+        at_secondary,
+        primary,
+        secondary,
+    } = opened;
+    match read_edits(rt, alloc, primary, number, rest) {
+        Ok((opening, editing)) => Ok(Script {
+            key,
+            at_primary,
+            at_secondary,
+            opening,
+            commits: editing.commits,
+            secondary,
+            queries: editing.queries,
+        }),
+        Err(error) => {
+            drop(secondary);
+            drop(key);
+            Err(error)
+        }
+    }
+}
+
+/// The opening version of the primary's zone, and what the edits and questions say, which begin at the line of this number.
+fn read_edits<R>(
+    rt: &R,
+    alloc: Global,
+    primary: ZoneApex,
+    number: u64,
+    rest: &[u8],
+) -> Result<(ReadZone, Editing), ScriptError>
+    requires first { primary.number < number }
+    requires lines { number + length rest.now < 2 ^ 64 }
+    ensures opening { IfOk result (λ r. r.0 ≡ primary) }
+    ensures ok { IfOk result (λ r. keeping.read_edits primary number (script_lines rest.now) ≡ Ok r.1) }
+    ensures bad { IfErr result (λ e. IfSome (line_in e) (λ n. keeping.read_edits primary number (script_lines rest.now) ≡ Err n)) }
+{
+    let mut zone = primary;
+    let told = edit_zone(rt, alloc, &mut zone, number, rest);
+    drop(zone);
+    told
+}
+
+/// The same of a zone that is lent.
+fn edit_zone<R>(
+    rt: &R,
+    alloc: Global,
+    zone: &mut ZoneApex,
+    number: u64,
+    rest: &[u8],
+) -> Result<(ReadZone, Editing), ScriptError>
+    requires first { zone.old.number < number }
+    requires lines { number + length rest.now < 2 ^ 64 }
+    ensures opening { IfOk result (λ r. r.0 ≡ zone.old) }
+    ensures ok { IfOk result (λ r. keeping.read_edits zone.old number (script_lines rest.now) ≡ Ok r.1) }
+    ensures bad { IfErr result (λ e. IfSome (line_in e) (λ n. keeping.read_edits zone.old number (script_lines rest.now) ≡ Err n)) }
+{
+    let opening = zone.read(rt)?;
+    let mut editing = Editing::new(alloc, zone.class());
+    let mut session = zone.write(alloc);
+    let read = read_rest(rt, alloc, &mut session, &mut editing, number, rest);
     drop(session);
-    Ok(Script {
-        key: opened.key,
-        at_primary: opened.at_primary,
-        at_secondary: opened.at_secondary,
-        opening,
-        commits: editing.commits,
-        secondary: opened.secondary,
-        queries: editing.queries,
-    })
+    match read {
+        Ok(()) => Ok((opening, editing)),
+        Err(error) => {
+            drop(editing);
+            drop(opening);
+            Err(error)
+        }
+    }
 }

@@ -1,5 +1,4 @@
-use Rattle.std.proofs.Common.{sym, subst, ◌∙◌, arith}
-use Rattle.std.proofs.lemmas.Result.{err_from_is_err_and}
+use Rattle.std.proofs.Common.{sym, subst, ◌∙◌, arith, Err}
 use Rattle.zone_script.specs.Script.{script_of}
 use Rattle.zone_script.specs.ScriptReaders.{wire_readers}
 use Rattle.zone_script.proofs.FileLaws.{FileLaws}
@@ -12,46 +11,44 @@ opening-init g c = (subst (λ k. Reads k 1 c.args.text.now c.args.text.now) (sym
 pub opening-preserved : goal.opening-preserved
 opening-preserved g c =
     let laws : FileLaws = record { takes = c.zone_files_open.ensures.takes; whole = c.zone_files_open.ensures.whole; opens = c.zone_files_open.ensures.opens } in (
-      reads_more laws c.opening.reading c.read.new.self c.opening.number c.in-Some.line.now c.opening.rest.now c.in-Some.behind.now c.args.text.now c.in_ok-read.ensures.ok (sym c.is_over.ensures ∙ c.if-is_over.false) c.in-Some.ensures.found c.opening.invariant.0,
+      reads_more laws c.opening.reading c.read.new.self c.opening.number c.in-Some.line.now c.opening.rest.now c.in-Some.behind.now c.args.text.now c.in-Ok.ensures.ok (sym c.is_over.ensures ∙ c.if-is_over.false) c.in-Some.ensures.found c.opening.invariant.0,
       omega arith,
       omega (arith, c.in-Some.ensures.shorter, c.opening.invariant.2),
     )
 
-pub returns-in_err-read-clause-bad : goal.returns-in_err-read-clause-bad
-returns-in_err-read-clause-bad g c =
+pub returns-in-Err-clause-bad : goal.returns-in-Err-clause-bad
+returns-in-Err-clause-bad g c =
     let laws : FileLaws = record { takes = c.zone_files_open.ensures.takes; whole = c.zone_files_open.ensures.whole; opens = c.zone_files_open.ensures.opens } in
-    let p = err_from_is_err_and c.from_residual.result c.from_residual.ensures.1 in
-    let told : Tells c.from_residual.result (script_of wire_readers c.args.text.now) =
-    rw (p.1, p.2) (tells_at_line laws c.in_err-read.field-0.0 c.opening.reading c.opening.number c.in-Some.line.now c.opening.rest.now c.in-Some.behind.now c.args.text.now c.in_err-read.ensures.bad c.in-Some.ensures.found c.opening.invariant.0) in
+    let told : Tells (Err c.in-Err.error) (script_of wire_readers c.args.text.now) =
+    tells_at_line laws c.in-Err.error c.opening.reading c.opening.number c.in-Some.line.now c.opening.rest.now c.in-Some.behind.now c.args.text.now c.in-Err.ensures.bad c.in-Some.ensures.found c.opening.invariant.0 in
     told.bad
 
-pub returns-in_err-read-clause-only_bad : goal.returns-in_err-read-clause-only_bad
-returns-in_err-read-clause-only_bad g c =
+pub returns-in-Err-clause-only_bad : goal.returns-in-Err-clause-only_bad
+returns-in-Err-clause-only_bad g c =
     let laws : FileLaws = record { takes = c.zone_files_open.ensures.takes; whole = c.zone_files_open.ensures.whole; opens = c.zone_files_open.ensures.opens } in
-    let p = err_from_is_err_and c.from_residual.result c.from_residual.ensures.1 in
-    let told : Tells c.from_residual.result (script_of wire_readers c.args.text.now) =
-    rw (p.1, p.2) (tells_at_line laws c.in_err-read.field-0.0 c.opening.reading c.opening.number c.in-Some.line.now c.opening.rest.now c.in-Some.behind.now c.args.text.now c.in_err-read.ensures.bad c.in-Some.ensures.found c.opening.invariant.0) in
-    only_names c.from_residual.result (script_of wire_readers c.args.text.now) told
+    let told : Tells (Err c.in-Err.error) (script_of wire_readers c.args.text.now) =
+    tells_at_line laws c.in-Err.error c.opening.reading c.opening.number c.in-Some.line.now c.opening.rest.now c.in-Some.behind.now c.args.text.now c.in-Err.ensures.bad c.in-Some.ensures.found c.opening.invariant.0 in
+    only_names (Err c.in-Err.error) (script_of wire_readers c.args.text.now) told
 
 pub returns-then-is_over-clause-ok : goal.returns-then-is_over-clause-ok
 returns-then-is_over-clause-ok g c =
     let laws : FileLaws = record { takes = c.zone_files_open.ensures.takes; whole = c.zone_files_open.ensures.whole; opens = c.zone_files_open.ensures.opens } in
     let told : Tells c.finish.result (script_of wire_readers c.args.text.now) =
-    tells_over laws c.finish.result c.opening.reading c.read.new.self c.opening.number c.in-Some.line.now c.opening.rest.now c.in-Some.behind.now c.args.text.now c.in_ok-read.ensures.ok (sym c.is_over.ensures ∙ c.if-is_over.true) c.in-Some.ensures.found c.finish.ensures.ok c.finish.ensures.bad c.opening.invariant.0 in
+    tells_over laws c.finish.result c.opening.reading c.read.new.self c.opening.number c.in-Some.line.now c.opening.rest.now c.in-Some.behind.now c.args.text.now c.in-Ok.ensures.ok (sym c.is_over.ensures ∙ c.if-is_over.true) c.in-Some.ensures.found c.finish.ensures.ok c.finish.ensures.bad c.opening.invariant.0 in
     told.ok
 
 pub returns-then-is_over-clause-bad : goal.returns-then-is_over-clause-bad
 returns-then-is_over-clause-bad g c =
     let laws : FileLaws = record { takes = c.zone_files_open.ensures.takes; whole = c.zone_files_open.ensures.whole; opens = c.zone_files_open.ensures.opens } in
     let told : Tells c.finish.result (script_of wire_readers c.args.text.now) =
-    tells_over laws c.finish.result c.opening.reading c.read.new.self c.opening.number c.in-Some.line.now c.opening.rest.now c.in-Some.behind.now c.args.text.now c.in_ok-read.ensures.ok (sym c.is_over.ensures ∙ c.if-is_over.true) c.in-Some.ensures.found c.finish.ensures.ok c.finish.ensures.bad c.opening.invariant.0 in
+    tells_over laws c.finish.result c.opening.reading c.read.new.self c.opening.number c.in-Some.line.now c.opening.rest.now c.in-Some.behind.now c.args.text.now c.in-Ok.ensures.ok (sym c.is_over.ensures ∙ c.if-is_over.true) c.in-Some.ensures.found c.finish.ensures.ok c.finish.ensures.bad c.opening.invariant.0 in
     told.bad
 
 pub returns-then-is_over-clause-only_bad : goal.returns-then-is_over-clause-only_bad
 returns-then-is_over-clause-only_bad g c =
     let laws : FileLaws = record { takes = c.zone_files_open.ensures.takes; whole = c.zone_files_open.ensures.whole; opens = c.zone_files_open.ensures.opens } in
     let told : Tells c.finish.result (script_of wire_readers c.args.text.now) =
-    tells_over laws c.finish.result c.opening.reading c.read.new.self c.opening.number c.in-Some.line.now c.opening.rest.now c.in-Some.behind.now c.args.text.now c.in_ok-read.ensures.ok (sym c.is_over.ensures ∙ c.if-is_over.true) c.in-Some.ensures.found c.finish.ensures.ok c.finish.ensures.bad c.opening.invariant.0 in
+    tells_over laws c.finish.result c.opening.reading c.read.new.self c.opening.number c.in-Some.line.now c.opening.rest.now c.in-Some.behind.now c.args.text.now c.in-Ok.ensures.ok (sym c.is_over.ensures ∙ c.if-is_over.true) c.in-Some.ensures.found c.finish.ensures.ok c.finish.ensures.bad c.opening.invariant.0 in
     only_names c.finish.result (script_of wire_readers c.args.text.now) told
 
 pub returns-clause-ok : goal.returns-clause-ok
