@@ -78,6 +78,7 @@ fn record_of(owner: StoredName, data: StoredRecordData) -> StoredRecord
 pub(crate) fn soa(alloc: Global) -> Result<StoredRecord, AllocError>
     ensures { IfOk result (λ r. r ≡ soa_record) }
 {
+    let owner = apex(alloc)?;
     let none = Ttl::from_int(0);
     let soa = Soa::new(
         StoredName::root(),
@@ -88,15 +89,21 @@ pub(crate) fn soa(alloc: Global) -> Result<StoredRecord, AllocError>
         none,
         none,
     );
-    Ok(record_of(apex(alloc)?, ZoneRecordData::Soa(soa)))
+    Ok(record_of(owner, ZoneRecordData::Soa(soa)))
 }
 
 /// The NS record of the apex.
 pub(crate) fn ns(alloc: Global) -> Result<StoredRecord, AllocError>
     ensures { IfOk result (λ r. r ≡ ns_record) }
 {
-    let data = ZoneRecordData::Ns(Ns::new(server(alloc)?));
-    Ok(record_of(apex(alloc)?, data))
+    let owner = apex(alloc)?;
+    match server(alloc) {
+        Ok(server) => Ok(record_of(owner, ZoneRecordData::Ns(Ns::new(server)))),
+        Err(error) => {
+            drop(owner);
+            Err(error)
+        }
+    }
 }
 
 /// The A record of a draw's host, one of `count`.
@@ -105,7 +112,9 @@ pub(crate) fn host_record(alloc: Global, count: u32, draw: u64) -> Result<Stored
     ensures { IfOk result (λ r. r ≡ generated.host_record count draw) }
 {
     let label = host_label(alloc, count, draw)?;
-    let owner = below_apex(alloc, label.as_bytes())?;
+    let owner = below_apex(alloc, label.as_bytes());
+    drop(label);
+    let owner = owner?;
     let address = ZoneRecordData::A(A::new(host_address(draw)));
     Ok(record_of(owner, address))
 }

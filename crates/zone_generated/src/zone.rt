@@ -1,10 +1,11 @@
 // The zone, record by record.
-ghost use Rattle.std.specs.Prelude.{◌≡◌, ◌==◌, ◌<◌, ◌≤◌, IfOk, OnOk, true, false};
+ghost use Rattle.std.specs.Prelude.{◌≡◌, ◌==◌, ◌<◌, ◌≤◌, ◌∷◌, map, fold, IfOk, OnOk, true, false};
 ghost use Rattle.dns_name.specs.Names.{under};
 ghost use Rattle.dns_numbers.specs.Codes.{type_cname};
 ghost use Rattle.zone_model.specs.Classify.{opened_with};
+ghost use Rattle.zone_model.specs.Edits.{close};
 ghost use Rattle.zone_generated.specs.Generated as generated;
-ghost use Rattle.zone_generated.specs.Generated.{zone_name};
+ghost use Rattle.zone_generated.specs.Generated.{zone_name, soa_record, ns_record};
 
 use crate::draws::draws_by_owner;
 use crate::records::{apex, host_record, ns, soa};
@@ -29,6 +30,54 @@ fn put(builder: &mut ZoneBuilder, added: StoredRecord) -> Result<(), AllocError>
     }
 }
 
+/// Puts the hosts of these draws, each one of `count`.
+fn put_hosts(
+    alloc: Global,
+    builder: &mut ZoneBuilder,
+    count: u32,
+    drawn: &[u64],
+) -> Result<(), AllocError>
+    requires some { 1 ≤ count }
+    requires apex { builder.old.apex ≡ zone_name }
+    ensures { OnOk result (builder.new ≡ fold opened_with builder.old (map (generated.host_record count) drawn.now)) }
+{
+    for draw in drawn.iter() {
+        put(builder, host_record(alloc, count, *draw)?)?;
+    }
+    Ok(())
+}
+
+/// Puts the records of the apex, an SOA and an NS record, and those hosts.
+fn put_all(
+    alloc: Global,
+    builder: &mut ZoneBuilder,
+    count: u32,
+    drawn: &[u64],
+) -> Result<(), AllocError>
+    requires some { 1 ≤ count }
+    requires apex { builder.old.apex ≡ zone_name }
+    ensures { OnOk result (builder.new ≡ fold opened_with builder.old (soa_record ∷ ns_record ∷ map (generated.host_record count) drawn.now)) }
+{
+    put(builder, soa(alloc)?)?;
+    put(builder, ns(alloc)?)?;
+    put_hosts(alloc, builder, count, drawn)
+}
+
+/// The zone of those records.
+fn zone_of(alloc: Global, count: u32, drawn: &[u64]) -> Result<ZoneApex, AllocError>
+    requires { 1 ≤ count }
+    ensures { IfOk result (λ z. z ≡ record { number = 0; version = close (fold opened_with generated.empty (soa_record ∷ ns_record ∷ map (generated.host_record count) drawn.now)) }) }
+{
+    let mut builder = ZoneBuilder::new(alloc, apex(alloc)?, Class::IN);
+    match put_all(alloc, &mut builder, count, drawn) {
+        Ok(()) => builder.build(),
+        Err(error) => {
+            drop(builder);
+            Err(error)
+        }
+    }
+}
+
 /// The zone `example.` of so many draws after the seed, its version numbered 0: an SOA and an NS record at the apex, and the A record of each draw's
 /// host. Equal records count once. The hosts are put in the order of their owners.
 pub fn generated(alloc: Global, count: u32, seed: u64) -> Result<ZoneApex, AllocError>
@@ -36,13 +85,9 @@ pub fn generated(alloc: Global, count: u32, seed: u64) -> Result<ZoneApex, Alloc
     ensures { IfOk result (λ z. z ≡ record { number = 0; version = generated.generated count seed }) }
 {
     let drawn = draws_by_owner(alloc, count, seed)?;
-    let mut builder = ZoneBuilder::new(alloc, apex(alloc)?, Class::IN);
-    put(&mut builder, soa(alloc)?)?;
-    put(&mut builder, ns(alloc)?)?;
-    for draw in drawn.iter() {
-        put(&mut builder, host_record(alloc, count, *draw)?)?;
-    }
-    builder.build()
+    let zone = zone_of(alloc, count, drawn.as_slice());
+    drop(drawn);
+    zone
 }
 
 /// The zone before it has records, its version numbered 0.
