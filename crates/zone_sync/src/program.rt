@@ -1,9 +1,11 @@
 //! The program over its streams and its link.
-ghost use Rattle.std.specs.Prelude.{◌≡◌, ◌≢◌, ◌⊎◌, ◌<◌, ◌≤◌, ℕ, List, Some, Ok, Err, map, length, take, string_bytes, IfOk, OnOk, IfSome, IsTrue};
+ghost use Rattle.std.specs.Prelude.{◌≡◌, ◌≢◌, ◌⊎◌, ◌<◌, ◌≤◌, ℕ, List, [], ◌∷◌, ◌++◌, Some, Ok, Err, map, length, take, string_bytes, IfOk, OnOk, IfSome, IsTrue};
 ghost use Rattle.zone_model.specs.TransferText.{Mode};
 ghost use Rattle.zone_devices.specs.Calls.{Rose};
 ghost use Rattle.zone_devices.specs.Streams.{with_more, emptied};
-ghost use Rattle.zone_sync.specs.Reported.{ReportsOn, TransfersOn, Transferred, Untouched, FitsLink, AreTold, versions_of, pushed_all, provider_of, IsDue, IsDueOf, IsDueOfNumbers, ReportsNumbers, TransfersNumbers, EndsAs, crossed};
+ghost use Rattle.zone_sync.specs.Reported.{ReportsOn, TransfersOn, Transferred, Untouched, FitsLink, AreTold, versions_of, pushed_all, provider_of, IsDue, IsDueOf, IsDueOfNumbers, ReportsNumbers, TransfersNumbers, EndsAs, crossed, generated_asking};
+ghost use Rattle.xfr_providers.specs.Offers.{key_id};
+ghost use Rattle.zone_generated.specs.Generated as numbers;
 ghost use Rattle.zone_report.specs.ReportsWritten.{Took, TookFirst, Wrote, status_by};
 ghost use Rattle.zone_sync.specs.Statuses.{AsksNoScript, IsOther, TellsLink, TellsNumbers, TellsScript, TellsWords};
 ghost use Rattle.zone_report.specs.StreamFaults.{TellsSink, TellsSource};
@@ -42,7 +44,7 @@ use zone_report::report::{counts_octets, report_octets};
 use zone_script::commits::Commits;
 use zone_script::script::{Script, ScriptError, parse};
 use zone_script::words::{generated_of, transfer_of};
-use zone_sessions::ZoneApex;
+use zone_sessions::{WriteZone, ZoneApex};
 
 /// The usage line.
 const USAGE: &[u8] = b"usage: zonesync axfr [K] / ixfr [K] / gen N SEED\n";
@@ -263,10 +265,30 @@ fn primary_of(
     ensures { IfOk result (λ p. p ≡ ((refuser, provider_of opening.version (versions_of commits) key.now), key.now)) }
 {
     let mut provider = HistoryProvider::new(alloc, opening);
-    provider.grant(key.name().duplicate(), key.algorithm())?;
-    push_all(&mut provider, commits)?;
-    let transfers = XfrMiddlewareSvc::new(RefuseSvc, provider);
-    Ok(TsigMiddlewareSvc::new(transfers, key.duplicate()))
+    match provide(&mut provider, commits, key) {
+        Ok(()) => {
+            let transfers = XfrMiddlewareSvc::new(RefuseSvc, provider);
+            Ok(TsigMiddlewareSvc::new(transfers, key.duplicate()))
+        }
+        Err(error) => {
+            drop(provider);
+            Err(error)
+        }
+    }
+}
+
+/// Grants a provider's zone to a key, and pushes commits to it.
+fn provide(provider: &mut HistoryProvider, commits: Commits, key: &Key) -> Result<(), AllocError>
+    requires { AreTold provider.old.kept commits }
+    ensures { OnOk result (provider.new ≡ pushed_all (record provider.old { grants = provider.old.grants ++ key_id key.now ∷ [] }) (versions_of commits)) }
+{
+    match provider.grant(key.name().duplicate(), key.algorithm()) {
+        Ok(()) => push_all(provider, commits),
+        Err(error) => {
+            drop(commits);
+            Err(error)
+        }
+    }
 }
 
 /// Pushes commits to a provider, each with its difference.
@@ -315,20 +337,53 @@ fn transfer_to<R, L: Link>(
     let mut made = Vec::new(alloc);
     let mut zone = secondary;
     let mut session = zone.write(alloc);
-    let outcome = sync_zone(
+    let ended = transfer_into(
         rt,
         alloc,
         primary,
         &mut session,
         key,
         mode,
-        link,
         moments,
+        link,
         &mut made,
     );
+    drop(session);
+    drop(made);
+    drop(zone);
+    ended
+}
+
+/// Transfers a zone from a primary into a session, with a new list of handles.
+fn transfer_into<R, L: Link>(
+    rt: &R,
+    alloc: Global,
+    primary: &Primary,
+    session: &mut WriteZone<'_>,
+    key: &Key,
+    mode: XfrMode,
+    moments: Moments,
+    link: &mut L,
+    made: &mut Vec<ReadZone>,
+) -> Result<Ended, AllocError>
+    requires new { made.old.items ≡ [] }
+    ensures ended { IfOk result (λ e. EndsAs
+        (λ m. ⟦<Primary as Service<()>>⟧.Sends primary.now (request_at m moments.at_primary))
+        (asks_with key.now (mode_of mode) moments.at_secondary session.old.current) moments.at_primary
+        (crossed (L.longest link.old) (L.lists link.old) (L.lists link.new) (L.faults link.old) (L.faults link.new))
+        e.outcome e.made e.last e.status) }
+    ensures over_link { Transferred
+        (λ m. ⟦<Primary as Service<()>>⟧.Sends primary.now (request_at m moments.at_primary))
+        (asks_with key.now (mode_of mode) moments.at_secondary session.old.current) moments.at_primary
+        (crossed (L.longest link.old) (L.lists link.old) (L.lists link.new) (L.faults link.old) (L.faults link.new)) }
+    ensures link_fault { IfOk result (λ e. e.status ≡ Status.LinkFault → Rose (L.faults link.old) (L.faults link.new)) }
+    ensures link_fails { IfOk result (λ e. L.faults link.old < L.faults link.new → e.status ≡ Status.LinkFault) }
+{
+    let outcome = sync_zone(rt, alloc, primary, session, key, mode, link, moments, made);
     let last = session.handle()?;
     let status = status_of(&outcome);
     if status == Status::Memory {
+        drop(last);
         return Err(AllocError);
     }
     Ok(Ended {
@@ -337,6 +392,46 @@ fn transfer_to<R, L: Link>(
         last,
         status,
     })
+}
+
+/// Transfers a zone from the primary that opened with a version and committed these after it.
+fn transfer_from<R, L: Link>(
+    rt: &R,
+    alloc: Global,
+    opening: ReadZone,
+    commits: Commits,
+    secondary: ZoneApex,
+    key: &Key,
+    mode: XfrMode,
+    moments: Moments,
+    link: &mut L,
+) -> Result<Ended, AllocError>
+    requires told { AreTold opening.version commits }
+    ensures ended { IfOk result (λ e. EndsAs
+        (λ m. ⟦<Primary as Service<()>>⟧.Sends ((refuser, provider_of opening.version (versions_of commits) key.now), key.now) (request_at m moments.at_primary))
+        (asks_with key.now (mode_of mode) moments.at_secondary secondary) moments.at_primary
+        (crossed (L.longest link.old) (L.lists link.old) (L.lists link.new) (L.faults link.old) (L.faults link.new))
+        e.outcome e.made e.last e.status) }
+    ensures over_link { Untouched (crossed (L.longest link.old) (L.lists link.old) (L.lists link.new)
+        (L.faults link.old) (L.faults link.new))
+        ⊎ Transferred
+        (λ m. ⟦<Primary as Service<()>>⟧.Sends ((refuser, provider_of opening.version (versions_of commits) key.now), key.now) (request_at m moments.at_primary))
+        (asks_with key.now (mode_of mode) moments.at_secondary secondary) moments.at_primary
+        (crossed (L.longest link.old) (L.lists link.old) (L.lists link.new) (L.faults link.old) (L.faults link.new)) }
+    ensures link_fault { IfOk result (λ e. e.status ≡ Status.LinkFault → Rose (L.faults link.old) (L.faults link.new)) }
+    ensures link_fails { IfOk result (λ e. L.faults link.old < L.faults link.new → e.status ≡ Status.LinkFault) }
+{
+    match primary_of(alloc, opening, commits, key) {
+        Ok(primary) => {
+            let ended = transfer_to(rt, alloc, &primary, secondary, key, mode, moments, link);
+            drop(primary);
+            ended
+        }
+        Err(error) => {
+            drop(secondary);
+            Err(error)
+        }
+    }
 }
 
 /// Transfers the zone; what is to be written, and the status.
@@ -373,20 +468,31 @@ fn transfer<R, L: Link>(
         secondary,
         queries,
     } = script;
-    let primary = primary_of(alloc, opening, commits, &key)?;
     let moments = Moments {
         at_primary,
         at_secondary,
     };
-    let ended = transfer_to(rt, alloc, &primary, secondary, &key, mode, moments, link)?;
-    let report = report_octets(
-        alloc,
-        &ended.outcome,
-        ended.made,
-        &ended.last,
-        queries.as_slice(),
-    )?;
-    Ok((report, ended.status))
+    match transfer_from(
+        rt, alloc, opening, commits, secondary, &key, mode, moments, link,
+    ) {
+        Ok(ended) => {
+            let report = report_octets(
+                alloc,
+                &ended.outcome,
+                ended.made,
+                &ended.last,
+                queries.as_slice(),
+            );
+            let status = ended.status;
+            drop(queries);
+            drop(ended);
+            Ok((report?, status))
+        }
+        Err(error) => {
+            drop(queries);
+            Err(error)
+        }
+    }
 }
 
 /// Makes the zone of so many hosts, transfers it to an empty one, and writes the report.
@@ -446,26 +552,75 @@ fn transfer_generated<R, L: Link>(
     ensures link_fails { IfOk result (λ r. L.faults link.old < L.faults link.new → r.1 ≡ Status.LinkFault) }
     ensures others { IfOk result (λ r. IsTrue (is_reported r.1)) }
 {
-    let key = generated_key();
+    let sent = generated_version(rt, alloc, size, seed)?;
+    match transfer_sent(rt, alloc, &sent, link) {
+        Ok(ended) => {
+            let report = counts_octets(alloc, &ended.outcome, ended.made, &ended.last, &sent);
+            let status = ended.status;
+            drop(ended);
+            drop(sent);
+            Ok((report?, status))
+        }
+        Err(error) => {
+            drop(sent);
+            Err(error)
+        }
+    }
+}
+
+/// The version of the zone of so many hosts.
+fn generated_version<R>(rt: &R, alloc: Global, size: u32, seed: u64) -> Result<ReadZone, AllocError>
+    requires { 1 ≤ size }
+    ensures { IfOk result (λ z. z.version ≡ numbers.generated size seed) }
+{
     let zone = generated(alloc, size, seed)?;
-    let opening = zone.read(rt)?;
-    let sent = zone.read(rt)?;
-    let primary = primary_of(alloc, opening, Commits::new(alloc), &key)?;
+    let sent = zone.read(rt);
+    drop(zone);
+    sent
+}
+
+/// Transfers a version to a zone without records, with the key of zones that numbers make.
+fn transfer_sent<R, L: Link>(
+    rt: &R,
+    alloc: Global,
+    sent: &ReadZone,
+    link: &mut L,
+) -> Result<Ended, AllocError>
+    ensures ended { IfOk result (λ e. EndsAs
+        (λ m. ⟦<Primary as Service<()>>⟧.Sends ((refuser, provider_of sent.now.version [] numbers.key), numbers.key) (request_at m 0))
+        generated_asking 0
+        (crossed (L.longest link.old) (L.lists link.old) (L.lists link.new) (L.faults link.old) (L.faults link.new))
+        e.outcome e.made e.last e.status) }
+    ensures over_link { Untouched (crossed (L.longest link.old) (L.lists link.old) (L.lists link.new)
+        (L.faults link.old) (L.faults link.new))
+        ⊎ Transferred
+        (λ m. ⟦<Primary as Service<()>>⟧.Sends ((refuser, provider_of sent.now.version [] numbers.key), numbers.key) (request_at m 0))
+        generated_asking 0
+        (crossed (L.longest link.old) (L.lists link.old) (L.lists link.new) (L.faults link.old) (L.faults link.new)) }
+    ensures link_fault { IfOk result (λ e. e.status ≡ Status.LinkFault → Rose (L.faults link.old) (L.faults link.new)) }
+    ensures link_fails { IfOk result (λ e. L.faults link.old < L.faults link.new → e.status ≡ Status.LinkFault) }
+{
+    let secondary = empty(alloc)?;
     let begin = Time48::from_u64(0);
     let moments = Moments {
         at_primary: begin,
         at_secondary: begin,
     };
-    let ended = transfer_to(
-        rt,
-        alloc,
-        &primary,
-        empty(alloc)?,
-        &key,
-        XfrMode::Axfr,
-        moments,
-        link,
-    )?;
-    let report = counts_octets(alloc, &ended.outcome, ended.made, &ended.last, &sent)?;
-    Ok((report, ended.status))
+    match sent.clone() {
+        Ok(opening) => transfer_from(
+            rt,
+            alloc,
+            opening,
+            Commits::new(alloc),
+            secondary,
+            &generated_key(),
+            XfrMode::Axfr,
+            moments,
+            link,
+        ),
+        Err(error) => {
+            drop(secondary);
+            Err(error)
+        }
+    }
 }

@@ -73,6 +73,7 @@ pub fn sync_zone<R, P: Service<()>, L: Link>(
         moments.at_primary,
         made,
     );
+    drop(client);
     session.rollback();
     outcome
 }
@@ -93,7 +94,9 @@ fn exchange<R, P: Service<()>, L: Link>(
     ensures steady { result ≢ Err SyncError.LinkFault → L.faults link.new ≡ L.faults link.old }
 {
     let request = client.request(session, link.max_len())?;
-    link.send_request(request.as_slice())?;
+    let sent = link.send_request(request.as_slice());
+    drop(request);
+    sent?;
     let Some(asked) = link.take_request()? else {
         return Err(SyncError::Ended);
     };

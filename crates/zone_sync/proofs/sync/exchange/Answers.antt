@@ -20,17 +20,17 @@ returns-in_err-request-clause-says g c =
     let current = ap (λ x. x.current) c.request.ensures.session in
     rw (p.1, p.2) (not_made (λ m. g.P.Service.Sends c.args.primary.now (request_at m c.args.at_primary)) a longest c.max_len.result first before s c.in_err-request.field-0.0 c.max_len.ensures c.in_err-request.ensures.refused current)
 
-pub returns-in_err-send_request-clause-says : goal.returns-in_err-send_request-clause-says
-returns-in_err-send_request-clause-says g c =
+pub returns-in_err-sent-clause-says : goal.returns-in_err-sent-clause-says
+returns-in_err-sent-clause-says g c =
     let a = asking_of c.args.client.now c.args.session.now.current in
     let first = g.L.Link.lists c.args.link.now in
     let before = c.args.made.now.items in
     let s = c.request.new.session in
     let longest = g.L.Link.longest c.args.link.now in
-    let p = err_from_is_err_and c.from_residual-in_err-send_request.result c.from_residual-in_err-send_request.ensures.1 in
+    let p = err_from_is_err_and c.from_residual-in_err-sent.result c.from_residual-in_err-sent.ensures.1 in
     let current = ap (λ x. x.current) c.request.ensures.session in
     let can = subst (CanAsk a) c.max_len.ensures c.in_ok-request.ensures.ok.1 in
-    rw (p.1, p.2) (not_carried (λ m. g.P.Service.Sends c.args.primary.now (request_at m c.args.at_primary)) a longest first (g.L.Link.lists c.send_request.new.self) before s c.in_err-send_request.field-0.0 [] can (nothing_more first (g.L.Link.lists c.send_request.new.self) c.in_err-send_request.ensures.err) (inr refl) current)
+    rw (p.1, p.2) (not_carried (λ m. g.P.Service.Sends c.args.primary.now (request_at m c.args.at_primary)) a longest first (g.L.Link.lists c.send_request-sent.new.self) before s c.in_err-sent.field-0.0 [] can (nothing_more first (g.L.Link.lists c.send_request-sent.new.self) (rw c.in_err-sent.was at c.send_request-sent.ensures.err)) (inr refl) current)
 
 pub returns-in_err-asked-clause-says : goal.returns-in_err-asked-clause-says
 returns-in_err-asked-clause-says g c =
@@ -45,8 +45,8 @@ returns-in_err-asked-clause-says g c =
     let m = c.as_slice.result.now in
     let is = c.as_slice.ensures.value ∙ c.in_ok-request.ensures.ok.0 in
     let asked = ap (λ x. x ∷ []) is in
-    let mid = g.L.Link.lists c.send_request.new.self in
-    let took = request_taken first mid m c.in_ok-send_request.ensures.ok in
+    let mid = g.L.Link.lists c.send_request-sent.new.self in
+    let took = request_taken first mid m (rw c.in_ok-sent.was at c.send_request-sent.ensures.ok) in
     rw (p.1, p.2) (not_carried (λ m. g.P.Service.Sends c.args.primary.now (request_at m c.args.at_primary)) a longest first (g.L.Link.lists c.take_request.new.self) before s c.in_err-asked.field-0.0 (m ∷ []) can (link_on first mid (g.L.Link.lists c.take_request.new.self) (m ∷ []) [] [] [] [] [] [] [] took (nothing_more mid (g.L.Link.lists c.take_request.new.self) c.in_err-asked.ensures.err)) (inl asked) current)
 
 pub returns-in_default-clause-says : goal.returns-in_default-clause-says
@@ -61,8 +61,8 @@ returns-in_default-clause-says g c =
     let m = c.as_slice.result.now in
     let is = c.as_slice.ensures.value ∙ c.in_ok-request.ensures.ok.0 in
     let asked = ap (λ x. x ∷ []) is in
-    let mid = g.L.Link.lists c.send_request.new.self in
-    let took = request_taken first mid m c.in_ok-send_request.ensures.ok in
+    let mid = g.L.Link.lists c.send_request-sent.new.self in
+    let took = request_taken first mid m (rw c.in_ok-sent.was at c.send_request-sent.ensures.ok) in
     not_handed (λ m. g.P.Service.Sends c.args.primary.now (request_at m c.args.at_primary)) a longest first (g.L.Link.lists c.take_request.new.self) before s (m ∷ []) can (link_on first mid (g.L.Link.lists c.take_request.new.self) (m ∷ []) [] [] [] [] [] [] [] took (request_handed mid (g.L.Link.lists c.take_request.new.self) None (rw c.in_default.is at c.in_ok-asked.ensures.ok))) asked current (requests_ended mid (g.L.Link.lists c.take_request.new.self) (rw c.in_default.is at c.in_ok-asked.ensures.ok))
 
 pub returns-in_err-from_octets-clause-says : goal.returns-in_err-from_octets-clause-says
@@ -78,8 +78,8 @@ returns-in_err-from_octets-clause-says g c =
     let m = c.as_slice.result.now in
     let is = c.as_slice.ensures.value ∙ c.in_ok-request.ensures.ok.0 in
     let asked = ap (λ x. x ∷ []) is in
-    let mid = g.L.Link.lists c.send_request.new.self in
-    let took = request_taken first mid m c.in_ok-send_request.ensures.ok in
+    let mid = g.L.Link.lists c.send_request-sent.new.self in
+    let took = request_taken first mid m (rw c.in_ok-sent.was at c.send_request-sent.ensures.ok) in
     let heard = c.in-Some.asked.items in
     let told = g.L.Link.lists c.take_request.new.self in
     let heard_it = link_on first mid told (m ∷ []) [] [] [] [] (heard ∷ []) [] [] took (request_handed mid told (Some heard) (rw c.in-Some.is at c.in_ok-asked.ensures.ok)) in
@@ -98,8 +98,8 @@ returns-in_err-serve-clause-says g c =
     let m = c.as_slice.result.now in
     let is = c.as_slice.ensures.value ∙ c.in_ok-request.ensures.ok.0 in
     let asked = ap (λ x. x ∷ []) is in
-    let mid = g.L.Link.lists c.send_request.new.self in
-    let took = request_taken first mid m c.in_ok-send_request.ensures.ok in
+    let mid = g.L.Link.lists c.send_request-sent.new.self in
+    let took = request_taken first mid m (rw c.in_ok-sent.was at c.send_request-sent.ensures.ok) in
     let heard = c.in-Some.asked.items in
     let told = g.L.Link.lists c.take_request.new.self in
     let heard_it = link_on first mid told (m ∷ []) [] [] [] [] (heard ∷ []) [] [] took (request_handed mid told (Some heard) (rw c.in-Some.is at c.in_ok-asked.ensures.ok)) in
@@ -128,8 +128,8 @@ returns-clause-says g c =
     let m = c.as_slice.result.now in
     let is = c.as_slice.ensures.value ∙ c.in_ok-request.ensures.ok.0 in
     let asked = ap (λ x. x ∷ []) is in
-    let mid = g.L.Link.lists c.send_request.new.self in
-    let took = request_taken first mid m c.in_ok-send_request.ensures.ok in
+    let mid = g.L.Link.lists c.send_request-sent.new.self in
+    let took = request_taken first mid m (rw c.in_ok-sent.was at c.send_request-sent.ensures.ok) in
     let heard = c.in-Some.asked.items in
     let told = g.L.Link.lists c.take_request.new.self in
     let heard_it = link_on first mid told (m ∷ []) [] [] [] [] (heard ∷ []) [] [] took (request_handed mid told (Some heard) (rw c.in-Some.is at c.in_ok-asked.ensures.ok)) in
@@ -145,5 +145,5 @@ returns-clause-failed g c h =
     let s = c.request.new.session in
     let longest = g.L.Link.longest c.args.link.now in
     let st = c.in_ok-request.ensures.begun before in
-    let steady = c.in_ok-serve.ensures.steady (λ k. absurd (cc k)) ∙ c.in_ok-asked.ensures.steady (λ k. absurd (cc k)) ∙ c.in_ok-send_request.ensures.steady (λ k. absurd (cc k)) in
+    let steady = c.in_ok-serve.ensures.steady (λ k. absurd (cc k)) ∙ c.in_ok-asked.ensures.steady (λ k. absurd (cc k)) ∙ (rw c.in_ok-sent.was at c.send_request-sent.ensures.steady) (λ k. absurd (cc k)) in
     subst (λ n. Rose n (g.L.Link.faults c.take_replies.new.link)) steady (c.take_replies.ensures.failed a before st h)
