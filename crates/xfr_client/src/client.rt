@@ -217,16 +217,14 @@ impl XfrClient {
         self.is_full = false;
         match exchange.take(rt, session, octets, self.at, self.most, &mut is_full, made) {
             Ok(None) => {
-                drop(self.exchange.replace(exchange));
+                self.exchange = Some(exchange);
                 Ok(None)
             }
             Ok(Some(outcome)) => {
-                drop(exchange);
                 session.rollback();
                 Ok(Some(outcome))
             }
             Err(error) => {
-                drop(exchange);
                 self.is_full = is_full;
                 session.rollback();
                 Err(error)
@@ -258,9 +256,7 @@ impl Exchange {
     {
         let message = self.checked(octets, at)?;
         let updates = self.read(&message)?;
-        let done = apply_all(rt, session, &mut self.updater, updates, most, full, made);
-        drop(message);
-        if let Err(error) = done {
+        if let Err(error) = apply_all(rt, session, &mut self.updater, updates, most, full, made) {
             return self.settle(error);
         }
         if self.interpreter.is_finished() {
@@ -454,35 +450,8 @@ fn apply_all<R>(
     ensures stops { (base : Commit) (before : List Commit) (g : Progress) → Ahead base before updater.old session.old made.old.items g
         → full.old ≡ false → result ≡ Err SyncError.Memory → StopsAt most base before session.new made.new.items g updates.entry.run.updates full.new }
 {
-    let done = apply_each(rt, session, updater, &mut updates, most, full, made);
-    drop(updates);
-    done
-}
-
-/// Applies the updates that are left of one message.
-fn apply_each<R>(
-    rt: &R,
-    session: &mut WriteZone<'_>,
-    updater: &mut ZoneUpdater,
-    updates: &mut XfrZoneUpdateIterator<'_>,
-    most: Option<usize>,
-    full: &mut bool,
-    made: &mut Vec<ReadZone>,
-) -> Result<(), SyncError>
-    ensures takes { (base : Commit) (before : List Commit) (g : Progress) → Ahead base before updater.old session.old made.old.items g
-        → TakesAll base before updater.new session.new made.new.items g updates.old result }
-    ensures keeps { OnOk result (KeepsWish session.old session.new) }
-    ensures room { (base : Commit) (before : List Commit) (g : Progress) → Ahead base before updater.old session.old made.old.items g
-        → KeepsAllRoom most base before session.new made.new.items g updates.old.run.updates result }
-    ensures full { full.old ≡ false → full.new ≡ true → result ≡ Err SyncError.Memory }
-    ensures stops { (base : Commit) (before : List Commit) (g : Progress) → Ahead base before updater.old session.old made.old.items g
-        → full.old ≡ false → result ≡ Err SyncError.Memory → StopsAt most base before session.new made.new.items g updates.old.run.updates full.new }
-{
-    'updates: while let Some(next) = updates.next_update() {
-        let update = next?;
-        let done = apply_one(rt, session, updater, &update, most, full, made);
-        drop(update);
-        done?;
+    'updates: while let Some(update) = updates.next_update() {
+        apply_one(rt, session, updater, update?, most, full, made)?;
     }
     Ok(())
 }
@@ -493,26 +462,28 @@ fn apply_one<R>(
     rt: &R,
     session: &mut WriteZone<'_>,
     updater: &mut ZoneUpdater,
-    update: &ZoneUpdate<ReadRecord<'_>>,
+    update: ZoneUpdate<ReadRecord<'_>>,
     most: Option<usize>,
     full: &mut bool,
     made: &mut Vec<ReadZone>,
 ) -> Result<(), update::Error>
     ensures takes { (base : Commit) (before : List Commit) (g : Progress) → Ahead base before updater.old session.old made.old.items g
-        → TakesOne base before updater.new session.new made.new.items g (update_of update.now) result }
+        → TakesOne base before updater.new session.new made.new.items g (update_of update.entry) result }
     ensures keeps { OnOk result (KeepsWish session.old session.new) }
-    ensures room { (result ≡ Err Memory) ⊎ (adds_to_full most session.old.pending (update_of update.now) ≡ false) }
-    ensures full { full.old ≡ false → full.new ≡ adds_to_full most session.old.pending (update_of update.now) }
+    ensures room { (result ≡ Err Memory) ⊎ (adds_to_full most session.old.pending (update_of update.entry) ≡ false) }
+    ensures full { full.old ≡ false → full.new ≡ adds_to_full most session.old.pending (update_of update.entry) }
 {
-    if adds_to_full(session, most, update) {
+    if adds_to_full(session, most, &update) {
         *full = true;
+        drop(update);
         return Err(update::Error::Memory);
     }
     if made.reserve(1).is_err() {
+        drop(update);
         return Err(update::Error::Memory);
     }
     let commits = update.commits();
-    let told = updater.apply_lent(rt, session, update)?;
+    let told = updater.apply(rt, session, update)?;
     drop(told);
     if commits {
         let Ok(handle) = session.handle() else {

@@ -103,32 +103,8 @@ impl ZoneUpdater {
         // Want of memory or of a number changes nothing of the updater.
         ensures unchanged { IfErr result (λ e. update_fault_of e ≡ None → self.new ≡ self.old) }
     {
-        let done = self.apply_lent(rt, session, &update);
-        drop(update);
-        done
-    }
-
-    // Applies an update that is lent.
-    pub(crate) fn apply_lent<R>(
-        &mut self,
-        rt: &R,
-        session: &mut WriteZone<'_>,
-        update: &ZoneUpdate<ReadRecord<'_>>,
-    ) -> Result<Option<InMemoryZoneDiff>, Error>
-        ensures ok { (before : List Version) → OnOk result (apply_update (progress_of self.old session.old before) (update_of update.now) ≡ Ok (progress_of self.new session.new (before ++ new_version (commits (update_of update.now)) session.new))) }
-        ensures refused { (before : List Version) → IfErr result (λ e. IfSome (update_fault_of e) (λ why. (apply_update (progress_of self.old session.old before) (update_of update.now) ≡ Err why) × (progress_of self.new session.new before ≡ after_refusal (progress_of self.old session.old before) why))) }
-        ensures difference { IfOk result (λ told. told ≡ told_by session.old (update_of update.now)) }
-        ensures wish { OnOk result (session.new.compares ≡ wants_after session.old.compares (update_of update.now)) }
-        ensures current { OnOk result (session.new.current ≡ next_commit (commits (update_of update.now)) session.old.current session.new.current.version) }
-        ensures ready { OnOk result (commits (update_of update.now) ≡ true → session.new.has_handle ≡ true) }
-        ensures kept { OnOk result (commits (update_of update.now) ≡ false → session.new ≡ with_pending session.old session.new.pending) }
-        ensures err { OnErr result (session.new ≡ with_pending session.old session.new.pending) }
-        ensures left { OnErr result (Leaves (update_of update.now) session.old session.new) }
-        ensures numbered { OnOk result (lacks_number session.old.current.number (update_of update.now) ≡ false) }
-        ensures exhausted { (before : List Version) → result ≡ Err VersionsExhausted → (lacks_number session.old.current.number (update_of update.now) ≡ true) × IsOk (apply_update (progress_of self.old session.old before) (update_of update.now)) }
-        ensures unchanged { IfErr result (λ e. update_fault_of e ≡ None → self.new ≡ self.old) }
-    {
         if self.is_finished {
+            drop(update);
             return Err(Error::Finished);
         }
         match update {
@@ -138,24 +114,33 @@ impl ZoneUpdater {
                 Ok(None)
             }
             ZoneUpdate::DeleteRecord(deleted) => {
-                self.delete(session, deleted)?;
+                let done = self.delete(session, &deleted);
+                drop(deleted);
+                done?;
                 Ok(None)
             }
             ZoneUpdate::AddRecord(added) => {
-                self.add(session, added)?;
+                let done = self.add(session, &added);
+                drop(added);
+                done?;
                 Ok(None)
             }
-            ZoneUpdate::BeginBatchDelete(_) => {
+            ZoneUpdate::BeginBatchDelete(soa) => {
+                drop(soa);
                 let told = self.publish(rt, session)?;
                 session.want_difference(true);
                 Ok(told)
             }
             ZoneUpdate::BeginBatchAdd(soa) => {
-                put_soa(self.alloc, session, soa)?;
+                let put = put_soa(self.alloc, session, &soa);
+                drop(soa);
+                put?;
                 Ok(None)
             }
             ZoneUpdate::Finished(soa) => {
-                put_soa(self.alloc, session, soa)?;
+                let put = put_soa(self.alloc, session, &soa);
+                drop(soa);
+                put?;
                 let told = self.publish(rt, session)?;
                 self.is_finished = true;
                 Ok(told)

@@ -16,7 +16,7 @@ returns-in-Ok-None-clause-takes g c base taken before st =
     record {
       asks = ap (λ s. asking_of s base) v;
       exchange = c.take-2.new.self;
-      under_way = c.replace.ensures.after;
+      under_way = refl;
       stands = rw c.in-Ok-None.field-0-is at k;
     }
 

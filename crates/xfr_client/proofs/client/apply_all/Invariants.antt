@@ -3,7 +3,7 @@ use Rattle.zone_model.specs.Commits.{Commit}
 use Rattle.zone_model.specs.Updates.{Progress}
 use Rattle.xfr_client.specs.Steps.{Ahead, KeepsWish}
 use Rattle.xfr_client.proofs.Room.{RoomOn}
-use Rattle.xfr_client.proofs.client.apply_each.Given as goal
+use Rattle.xfr_client.proofs.client.apply_all.Given as goal
 
 abbrev pub invariant-updates : goal.invariant-updates
 invariant-updates met l =
