@@ -5,7 +5,7 @@ use crate::exchanges::{Primary, at, primary_of};
 use dns_wire::MessageBuf;
 use std::alloc::Global;
 use tsig_port::{Key, Time48};
-use xfr_server::{ReplyStream, Request, Service, TransportSpecificContext};
+use xfr_server::{CallResult, ReplyStream, Request, Service, TransportSpecificContext};
 use zone_store::{ReadZone, WriteZone};
 use zone_sync::{SyncError, SyncOk, XfrClient, XfrMode};
 
@@ -43,21 +43,11 @@ struct Connection {
 impl Connection {
     /// Sends a request.
     fn send<R>(&mut self, rt: &R, octets: &[u8]) -> Result<(), SyncError> {
-        let message = MessageBuf::from_octets(octets.to_vec(self.alloc)?)?;
-        let request = Request::new(message, TransportSpecificContext::NonUdp, at(), ());
+        let request = request_of(self.alloc, octets)?;
         let mut items = self.primary.call(rt, self.alloc, request)?;
-        for _ in 0..9u8 {
-            let Some(item) = items.next_item() else {
-                break;
-            };
-            if let Some(reply) = item?.into_response() {
-                let octets = reply.finish().into_octets();
-                if self.replies.push(octets).is_err() {
-                    return Err(SyncError::Memory);
-                }
-            }
-        }
-        Ok(())
+        let taken = take_items(&mut self.replies, &mut items);
+        drop(items);
+        taken
     }
 
     /// Takes the next reply, where there is one.
@@ -67,6 +57,35 @@ impl Connection {
         }
         Some(self.replies.remove(0))
     }
+}
+
+/// The request of these octets, at the primary.
+fn request_of(alloc: Global, octets: &[u8]) -> Result<Request<()>, SyncError> {
+    let message = MessageBuf::from_octets(octets.to_vec(alloc)?)?;
+    let transport = TransportSpecificContext::NonUdp;
+    Ok(Request::new(message, transport, at(), ()))
+}
+
+/// Takes what a primary replies.
+fn take_items<S: ReplyStream>(replies: &mut Vec<Vec<u8>>, items: &mut S) -> Result<(), SyncError> {
+    for _ in 0..9u8 {
+        let Some(item) = items.next_item() else {
+            break;
+        };
+        take_item(replies, item?)?;
+    }
+    Ok(())
+}
+
+/// Takes the reply of an item, where it has one.
+fn take_item(replies: &mut Vec<Vec<u8>>, item: CallResult) -> Result<(), SyncError> {
+    if let Some(reply) = item.into_response() {
+        let octets = reply.finish().into_octets();
+        if replies.push(octets).is_err() {
+            return Err(SyncError::Memory);
+        }
+    }
+    Ok(())
 }
 
 /// How many RRsets a version has.

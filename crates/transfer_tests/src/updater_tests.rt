@@ -4,7 +4,7 @@ use crate::common::{append_set, digits_of, is, octets_of, stored_name};
 use crate::transfer_vectors::{RECORDS, octets_at};
 use dns_name::StoredName;
 use dns_numbers::{Class, Rtype};
-use dns_rdata::{ReadRecord, RecordData, record_from_octets};
+use dns_rdata::{ReadRecord, RecordData, StoredRecord, record_from_octets};
 use std::alloc::Global;
 use std::process::Abort;
 use xfr_client::{ZoneUpdate, ZoneUpdater, update};
@@ -54,25 +54,45 @@ fn name_of<R: Abort>(rt: &R, alloc: Global, digits: &str) -> StoredName {
     name
 }
 
-/// An update of the kind that `ZoneUpdate` prints so.
-fn update_of<'m>(kind: &str, found: ReadRecord<'m>) -> Option<ZoneUpdate<ReadRecord<'m>>> {
+/// The kinds of updates that lines name.
+#[derive(Clone, Copy)]
+enum Kind {
+    AddRecord,
+    DeleteRecord,
+    BeginBatchDelete,
+    BeginBatchAdd,
+    Finished,
+}
+
+/// The kind that `ZoneUpdate` prints so.
+fn kind_of(kind: &str) -> Option<Kind> {
     if kind == "AddRecord" {
-        return Some(ZoneUpdate::AddRecord(found));
+        return Some(Kind::AddRecord);
     }
     if kind == "DeleteRecord" {
-        return Some(ZoneUpdate::DeleteRecord(found));
+        return Some(Kind::DeleteRecord);
     }
     if kind == "BeginBatchDelete" {
-        return Some(ZoneUpdate::BeginBatchDelete(found));
+        return Some(Kind::BeginBatchDelete);
     }
     if kind == "BeginBatchAdd" {
-        return Some(ZoneUpdate::BeginBatchAdd(found));
+        return Some(Kind::BeginBatchAdd);
     }
     if kind == "Finished" {
-        return Some(ZoneUpdate::Finished(found));
+        return Some(Kind::Finished);
     }
-    drop(found);
     None
+}
+
+/// An update of a kind.
+fn update_of<'m>(kind: Kind, found: ReadRecord<'m>) -> ZoneUpdate<ReadRecord<'m>> {
+    match kind {
+        Kind::AddRecord => ZoneUpdate::AddRecord(found),
+        Kind::DeleteRecord => ZoneUpdate::DeleteRecord(found),
+        Kind::BeginBatchDelete => ZoneUpdate::BeginBatchDelete(found),
+        Kind::BeginBatchAdd => ZoneUpdate::BeginBatchAdd(found),
+        Kind::Finished => ZoneUpdate::Finished(found),
+    }
 }
 
 /// What an update tells: the serials of its difference, and how many sets are removed and added.
@@ -91,6 +111,23 @@ fn counted(told: Option<InMemoryZoneDiff>) -> Told {
     Some(counted)
 }
 
+/// The record of octets, read.
+fn read_of<'m, R: Abort>(rt: &R, octets: &'m [u8]) -> ReadRecord<'m> {
+    record_from_octets(octets).expect(rt, "a record")
+}
+
+/// Applies an update, its record by octets.
+fn apply_octets<R: Abort>(
+    rt: &R,
+    updater: &mut ZoneUpdater,
+    session: &mut WriteZone<'_>,
+    kind: Kind,
+    octets: &[u8],
+) -> Result<Option<InMemoryZoneDiff>, update::Error> {
+    let update = update_of(kind, read_of(rt, octets));
+    updater.apply(rt, session, update)
+}
+
 /// Applies an update, its record by a word.
 fn apply<R: Abort>(
     rt: &R,
@@ -100,10 +137,9 @@ fn apply<R: Abort>(
     kind: &str,
     word: &str,
 ) -> Result<Told, update::Error> {
+    let kind = kind_of(kind).expect(rt, "a kind of update");
     let octets = octets_at(rt, alloc, RECORDS, word);
-    let found = record_from_octets(octets.as_slice()).expect(rt, "a record");
-    let update = update_of(kind, found).expect(rt, "a kind of update");
-    let told = updater.apply(rt, session, update);
+    let told = apply_octets(rt, updater, session, kind, octets.as_slice());
     drop(octets);
     match told {
         Ok(told) => Ok(counted(told)),
@@ -305,17 +341,51 @@ AddRecord com-soa Err(Finished)";
     drop(zone);
 }
 
+/// The record of a word.
+fn stored_at<R: Abort>(rt: &R, alloc: Global, word: &str) -> StoredRecord {
+    let octets = octets_at(rt, alloc, RECORDS, word);
+    let record = stored_of(rt, alloc, octets.as_slice());
+    drop(octets);
+    record
+}
+
+/// The record of octets.
+fn stored_of<R: Abort>(rt: &R, alloc: Global, octets: &[u8]) -> StoredRecord {
+    let found = read_of(rt, octets);
+    let record = flat(rt, alloc, &found);
+    drop(found);
+    record
+}
+
+/// A record that was read, stored.
+fn flat<R: Abort>(rt: &R, alloc: Global, found: &ReadRecord<'_>) -> StoredRecord {
+    found.flatten(alloc).expect(rt, "memory")
+}
+
+/// Adds the record of a word by the session.
+fn add<R: Abort>(rt: &R, alloc: Global, session: &mut WriteZone<'_>, word: &str) {
+    let told = session.add_record(stored_at(rt, alloc, word));
+    told.expect(rt, "a new record");
+}
+
 /// Adds the records of words by the session.
 fn adds<R: Abort>(rt: &R, alloc: Global, session: &mut WriteZone<'_>, words: &str) {
     for word in words.split_ascii_whitespace() {
-        let octets = octets_at(rt, alloc, RECORDS, word);
-        let found = record_from_octets(octets.as_slice()).expect(rt, "a record");
-        let added = found.flatten(alloc).expect(rt, "memory");
-        let told = session.add_record(added);
-        drop(found);
-        drop(octets);
-        told.expect(rt, "a new record");
+        add(rt, alloc, session, word);
     }
+}
+
+/// Deletes the record of a word by the session.
+fn delete<R: Abort>(
+    rt: &R,
+    alloc: Global,
+    session: &mut WriteZone<'_>,
+    word: &str,
+) -> Result<(), EditError> {
+    let deleted = stored_at(rt, alloc, word);
+    let told = session.delete_record(&deleted);
+    drop(deleted);
+    told
 }
 
 /// Deletes the records of words by the session, and asserts what each answers.
@@ -327,14 +397,7 @@ fn deletes<R: Abort>(
     wanted: Result<(), EditError>,
 ) {
     for word in words.split_ascii_whitespace() {
-        let octets = octets_at(rt, alloc, RECORDS, word);
-        let found = record_from_octets(octets.as_slice()).expect(rt, "a record");
-        let deleted = found.flatten(alloc).expect(rt, "memory");
-        let told = session.delete_record(&deleted);
-        drop(deleted);
-        drop(found);
-        drop(octets);
-        is(rt, told, wanted);
+        is(rt, delete(rt, alloc, session, word), wanted);
     }
 }
 

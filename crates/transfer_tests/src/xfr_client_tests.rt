@@ -2,11 +2,12 @@
 
 use crate::common::{assert_texts, empty_zone, is, octets_of};
 use dns_numbers::Rtype;
+use dns_rdata::ReadRecord;
 use dns_wire::MessageBuf;
 use std::alloc::Global;
 use std::process::Abort;
 use xfr_client::protocol::{Error, IterationError};
-use xfr_client::{XfrResponseInterpreter, XfrZoneUpdateIterator, ZoneUpdater, update};
+use xfr_client::{XfrResponseInterpreter, XfrZoneUpdateIterator, ZoneUpdate, ZoneUpdater, update};
 use zone_store::{ReadZone, WriteZone};
 
 /// `example.` in class IN, asked for as a whole.
@@ -104,8 +105,20 @@ fn equal_data_are_passed_over(rt: HostRuntime) {
 
 /// The error of the next update.
 fn next_error(updates: &mut XfrZoneUpdateIterator<'_>) -> Option<IterationError> {
-    let update = updates.next_update()?;
-    update.err()
+    let update = updates.next_update();
+    let error = error_in(&update);
+    drop(update);
+    error
+}
+
+/// The error that stands in the place of an update.
+fn error_in(
+    update: &Option<Result<ZoneUpdate<ReadRecord<'_>>, IterationError>>,
+) -> Option<IterationError> {
+    match update {
+        Some(Err(error)) => Some(*error),
+        _ => None,
+    }
 }
 
 #[test]
