@@ -2,9 +2,9 @@
 use Rattle.std.proofs.Common.{◌≡◌, ℕ, suc, ◌<◌, ◌≤◌, ◌^◌, true, false, Bool, List, [], ◌∷◌, ◌++◌, length, drop, refl, ap, ◌∙◌, arith, subst}
 use Rattle.std.specs.Prelude.{Ok, Err, replicate, if◌then◌else◌}
 use Rattle.std.proofs.lemmas.Bool.Decides.{nat_tests}
-use Rattle.dns_message.specs.Wire.{Building, Header, Question, header_in, header_wire, message_wire, with_question, fits}
-use Rattle.dns_message.specs.Parse.{questions_in}
-use Rattle.dns_message.specs.Reply.{answer_header, answer_with, fitting, fitting_in, error_answer}
+use Rattle.dns_wire.specs.Wire.{Building, Header, Question, header_in, header_wire, message_wire, with_question, fits}
+use Rattle.dns_wire.specs.Parse.{questions_in}
+use Rattle.dns_wire.specs.Reply.{answer_header, answer_with, fitting, fitting_in, error_answer}
 use Rattle.dns_wire.specs.Builds.{with_questions, AddsFitting, Builds, building}
 use Rattle.dns_wire.proofs.Questions.{all_questions}
 use Rattle.dns_wire.specs.declared.builder.PushError.{PushError}

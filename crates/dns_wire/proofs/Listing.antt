@@ -2,8 +2,8 @@
 use Rattle.std.proofs.Common.{◌≡◌, ℕ, ◌<◌, ◌^◌, List, [], ◌∷◌, ◌++◌, length, sym, ap, ◌∙◌}
 use Rattle.std.specs.Prelude.{Result, Ok, Err, OnOk}
 use Rattle.dns_rdata.specs.Records.{Record, record_wire}
-use Rattle.dns_message.specs.Wire.{Header, Message, Question, Building, question_wire, message_wire, in_answer, in_authority, with_item}
-use Rattle.dns_message.proofs.Pushing.{message_wire-more_questions, message_wire-more_answers, message_wire-more_authority, message_wire-more_additional, with_more}
+use Rattle.dns_wire.specs.Wire.{Header, Message, Question, Building, question_wire, message_wire, in_answer, in_authority, with_item}
+use Rattle.dns_wire.proofs.Pushing.{message_wire-more_questions, message_wire-more_answers, message_wire-more_authority, message_wire-more_additional, with_more}
 use Rattle.dns_wire.specs.Builds.{Adds}
 use Rattle.dns_wire.specs.declared.builder.PushError.{PushError}
 

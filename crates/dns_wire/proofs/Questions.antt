@@ -6,11 +6,11 @@ use Rattle.std.proofs.lemmas.Bool.Decides.{nat_tests}
 use Rattle.std.proofs.lemmas.List.{append_assoc, append-nil, drop_at, take_at, length-take-le, length-append, length-take, length-drop}
 use Rattle.std.proofs.lemmas.Nat.{from_be_bytes-to_be_bytes_2}
 use Rattle.dns_name.specs.Octets.{u16_octets}
-use Rattle.dns_message.specs.Wire.{Building, Question, question_wire, header_in, header_wire, message_wire, header_number, with_item, with_question, fits}
+use Rattle.dns_wire.specs.Wire.{Building, Question, question_wire, header_in, header_wire, message_wire, header_number, with_item, with_question, fits}
 use Rattle.dns_wire.specs.Builds.{with_questions, Adds, AddsQuestions, Builds, building}
-use Rattle.dns_message.specs.Parse.{questions_in}
-use Rattle.dns_message.specs.Reply.{answer_header, answer_with, empty_answer}
-use Rattle.dns_message.proofs.Pushing.{message_wire-more_questions}
+use Rattle.dns_wire.specs.Parse.{questions_in}
+use Rattle.dns_wire.specs.Reply.{answer_header, answer_with, empty_answer}
+use Rattle.dns_wire.proofs.Pushing.{message_wire-more_questions}
 use Rattle.dns_wire.specs.declared.builder.PushError.{PushError}
 use Rattle.dns_wire.specs.declared.builder.PushError.TheVariants.{ShortBuf, CountOverflow, Memory}
 

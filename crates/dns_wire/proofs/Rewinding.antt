@@ -6,12 +6,12 @@ use Rattle.std.proofs.lemmas.Nat.{from_be_bytes-to_be_bytes_2}
 use Rattle.dns_name.specs.Octets.{◌>>=◌, u16_octets}
 use Rattle.dns_rdata.specs.Records.{Record, record_wire}
 use Rattle.dns_rdata.specs.Heads.{RawRecord, raw_record_at}
-use Rattle.dns_message.specs.Wire.{Header, Question, Message, Building, question_wire, header_wire, counts_wire, counts_of, message_wire, in_answer, in_authority, qdcount_in, ancount_in, nscount_in}
-use Rattle.dns_message.specs.Numbers.{with_number}
-use Rattle.dns_message.specs.Parse.{question_at, after_items, answers_start, authority_start, additional_start}
-use Rattle.dns_message.specs.Written.{IsMessage}
+use Rattle.dns_wire.specs.Wire.{Header, Question, Message, Building, question_wire, header_wire, counts_wire, counts_of, message_wire, in_answer, in_authority, qdcount_in, ancount_in, nscount_in}
+use Rattle.dns_wire.specs.Numbers.{with_number}
+use Rattle.dns_wire.specs.Parse.{question_at, after_items, answers_start, authority_start, additional_start}
+use Rattle.dns_wire.specs.Written.{IsMessage}
 use Rattle.dns_wire.specs.Builds.{building, cut_at, rewound}
-use Rattle.dns_message.proofs.ItemWriting.{questions_read, records_read, shifted}
+use Rattle.dns_wire.proofs.ItemWriting.{questions_read, records_read, shifted}
 
 -- the octets of a message with these counts
 abbrev counted_items : Header → ℕ → ℕ → ℕ → ℕ → List ℕ → List ℕ

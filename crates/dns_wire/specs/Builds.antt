@@ -1,9 +1,9 @@
 -- What adding to a message under construction, or taking back from it, leaves, and what is refused.
 use Rattle.std.specs.Prelude.{◌≡◌, ◌≢◌, ℕ, ◌+◌, ◌<◌, ◌==◌, nat_le, min, Bool, true, false, List, [], ◌∷◌, length, take, Option, Some, None, Result, Ok, Err}
 use Rattle.dns_rdata.specs.Records.{Record, record_wire}
-use Rattle.dns_message.specs.Wire.{Building, Question, with_item, with_question, header_number, fits}
-use Rattle.dns_message.specs.Numbers.{with_number}
-use Rattle.dns_message.specs.Reply.{fitting}
+use Rattle.dns_wire.specs.Wire.{Building, Question, with_item, with_question, header_number, fits}
+use Rattle.dns_wire.specs.Numbers.{with_number}
+use Rattle.dns_wire.specs.Reply.{fitting}
 use Rattle.dns_wire.specs.declared.builder.PushError.{PushError}
 use Rattle.dns_wire.specs.declared.builder.PushError.TheVariants.{ShortBuf, CountOverflow, Memory}
 

@@ -1,8 +1,8 @@
-pub use Rattle.dns_message.specs.Wire
-pub use Rattle.dns_message.specs.Numbers
-pub use Rattle.dns_message.specs.Parse
-pub use Rattle.dns_message.specs.Reply
-pub use Rattle.dns_message.specs.Written
-pub use Rattle.dns_message.specs.MessageRows
-pub use Rattle.dns_message.specs.Reads
+pub mod Wire
+pub mod Numbers
+pub mod Parse
+pub mod Reply
+pub mod Written
+pub mod MessageRows
+pub mod Reads
 pub mod Builds

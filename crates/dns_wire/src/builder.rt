@@ -3,18 +3,19 @@
 ghost use Rattle.std.specs.Prelude.{◌≡◌, ◌+◌, ◌^◌, ◌<◌, ◌≤◌, ◌++◌, length, take, drop, replicate, vec_len, if◌then◌else◌, IfOk, IsTrue, Some};
 ghost use Rattle.std.specs.List.{filter_map};
 ghost use Rattle.dns_rdata.specs.Records.{record_wire};
-ghost use Rattle.dns_message.specs.Wire.{header_in, header_wire, header_number, question_wire, message_wire, fits, Message as MessageOf};
-ghost use Rattle.dns_message.specs.Numbers.{counts_in};
+ghost use Rattle.dns_wire.specs.Wire.{header_in, header_wire, header_number, question_wire, message_wire, fits, Message as MessageOf};
+ghost use Rattle.dns_wire.specs.Numbers.{counts_in};
 ghost use Rattle.dns_wire.specs.Builds.{Adds, AddsFitting, AddsQuestions, Builds, HasRoom, cut_at, rewound};
-ghost use Rattle.dns_message.specs.Reply.{answer_header, empty_answer, error_answer};
-ghost use Rattle.dns_message.specs.Parse.{parsed, answers_start, authority_start, additional_start};
-ghost use Rattle.dns_message.specs.Written.{IsMessage, parsed_of};
+ghost use Rattle.dns_wire.specs.Reply.{answer_header, empty_answer, error_answer};
+ghost use Rattle.dns_wire.specs.Parse.{parsed, answers_start, authority_start, additional_start};
+ghost use Rattle.dns_wire.specs.Written.{IsMessage, parsed_of};
 
+use crate::header::{Header, HeaderCounts, write_header};
+use crate::message::{Message, MessageBuf};
+use crate::numbers::{number_at, set_number};
+use crate::question::Question;
 use crate::section_builders::{AnswerBuilder, Start};
-use dns_message::{
-    Header, HeaderCounts, Message, MessageBuf, Question, QuestionSection, number_at, set_number,
-    write_header,
-};
+use crate::sections::QuestionSection;
 use dns_name::Labelled;
 use dns_numbers::Rcode;
 use dns_rdata::ComposeRecord;
@@ -53,7 +54,7 @@ pub type MessageBuilder = SectionBuilder<Start>;
 
 impl<S> Model for SectionBuilder<S> {
     ghost use Rattle.std.specs.Prelude.{◌≤◌, length};
-    ghost use Rattle.dns_message.specs.Wire.{Building};
+    ghost use Rattle.dns_wire.specs.Wire.{Building};
 
     ghost Value = { Building };
 

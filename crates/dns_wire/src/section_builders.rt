@@ -1,14 +1,14 @@
 // The sections of a message that is being built: items are added at its end, so no section comes after a later one.
 
 ghost use Rattle.std.specs.Prelude.{◌≡◌, ◌<◌, ◌^◌, ◌++◌, List, [], ◌∷◌, length, OnOk};
-ghost use Rattle.dns_message.specs.Wire.{question_wire, message_wire, in_answer, in_authority, Header as HeaderOf, Question as QuestionOf, Message as MessageOf};
+ghost use Rattle.dns_wire.specs.Wire.{question_wire, message_wire, in_answer, in_authority, Header as HeaderOf, Question as QuestionOf, Message as MessageOf};
 ghost use Rattle.dns_rdata.specs.Records.{Record};
-ghost use Rattle.dns_message.specs.Parse.{answers_start, authority_start, additional_start};
-ghost use Rattle.dns_message.specs.Written.{IsMessage};
+ghost use Rattle.dns_wire.specs.Parse.{answers_start, authority_start, additional_start};
+ghost use Rattle.dns_wire.specs.Written.{IsMessage};
 ghost use Rattle.dns_wire.specs.Builds.{Adds, Pushes, cut_at, rewound};
 
 use crate::builder::{PushError, SectionBuilder};
-use dns_message::Question;
+use crate::question::Question;
 use dns_name::Labelled;
 use dns_rdata::ComposeRecord;
 

@@ -3,7 +3,7 @@ use Rattle.std.proofs.Common.{◌≡◌, ℕ, ◌+◌, List, ◌++◌, length, l
 use Rattle.std.proofs.lemmas.List.{append_assoc}
 use Rattle.dns_name.specs.Octets.{u16_octets, u48_octets}
 use Rattle.dns_name.specs.Names.{name_wire}
-use Rattle.dns_message.proofs.ItemWriting.{octets_read, name_read, shifted, u16_read}
+use Rattle.dns_wire.proofs.ItemWriting.{octets_read, name_read, shifted, u16_read}
 use Rattle.tsig_rdata.specs.TsigData.{Tsig, IsTsig, tsig_wire, tsig_rest, tsig_at}
 use Rattle.tsig_rdata.proofs.Times.{u48_read}
 

@@ -3,7 +3,7 @@ use Rattle.std.proofs.Common.{◌≡◌, ℕ, ◌+◌, ◌/◌, ◌<◌, ◌^◌
 use Rattle.std.specs.Prelude.{Result, Ok, Err, IfOk, OnErr}
 use Rattle.std.proofs.lemmas.Nat.{from_be_bytes-to_be_bytes_8}
 use Rattle.dns_name.specs.Octets.{u48_octets, u48_number, u48_at}
-use Rattle.dns_message.proofs.ItemWriting.{octets_read}
+use Rattle.dns_wire.proofs.ItemWriting.{octets_read}
 
 u48_again : (n : ℕ) → n < 2 ^ 48 → u48_number (u48_octets n) ≡ n
 u48_again n small =

@@ -11,7 +11,7 @@ use Rattle.dns_wire.specs.Wire.{Building, Question, Message, header_of, header_w
 use Rattle.std.specs.List.{flat_map}
 use Rattle.std.specs.Prelude.{◌⊎◌, option_map, slice_get}
 use Rattle.std.proofs.lemmas.Grind.{flat_map-append}
-use Rattle.dns_message.proofs.Pushing.{message_wire-more_questions, message_wire-more_authority}
+use Rattle.dns_wire.proofs.Pushing.{message_wire-more_questions, message_wire-more_authority}
 use Rattle.dns_wire.specs.Builds.{Adds, Pushes, building}
 use Rattle.dns_wire.specs.declared.builder.PushError.{PushError}
 use Rattle.dns_wire.specs.declared.builder.PushError.TheVariants.{ShortBuf, CountOverflow, Memory}

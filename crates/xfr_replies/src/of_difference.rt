@@ -16,7 +16,7 @@ use dns_numbers::Rtype;
 use std::sync::Arc;
 use zone_diffs::{DiffSets, InMemoryZoneDiff};
 use zone_reads::ReadZone;
-use zone_sets::SetKey;
+use zone_values::SetKey;
 
 /// The sets of a side; None from the last difference on.
 pub(crate) fn side_sets(diffs: &[Arc<InMemoryZoneDiff>], side: Side) -> Option<&DiffSets>

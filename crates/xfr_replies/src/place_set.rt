@@ -14,7 +14,7 @@ use crate::place::{Part, Place, Side};
 use std::sync::Arc;
 use zone_diffs::InMemoryZoneDiff;
 use zone_reads::ReadZone;
-use zone_sets::SetKey;
+use zone_values::SetKey;
 
 /// The set of a place: the one that is kept, or else the one that a look-up finds.
 pub(crate) fn set_of_place<'t>(

@@ -8,7 +8,7 @@ use dns_numbers::Rtype;
 use std::sync::Arc;
 use zone_diffs::{DiffSets, InMemoryZoneDiff};
 use zone_reads::ReadZone;
-use zone_sets::SetKey;
+use zone_values::SetKey;
 
 /// Whether each difference removes exactly one SOA record of the zone's apex and adds exactly one, as a text of changes wants it (RFC 1995, 4).
 pub fn are_sendable(zone: &ReadZone, diffs: &[Arc<InMemoryZoneDiff>]) -> bool

@@ -14,7 +14,7 @@ use crate::place_set::set_of_place;
 use std::sync::Arc;
 use zone_diffs::InMemoryZoneDiff;
 use zone_reads::ReadZone;
-use zone_sets::SetKey;
+use zone_values::SetKey;
 
 /// Where the whole text begins; None where it has no record.
 pub(crate) fn whole_place(zone: &ReadZone) -> Option<Place>

@@ -1,6 +1,6 @@
 -- One exchange over streams: the request that goes out, the replies that come in, and what they come to (RFC 5936, 2 and 6; RFC 8945, 5.3).
 use Rattle.std.specs.Prelude.{◌≡◌, ◌⊎◌, ℕ, List, [], length, take, Option, Result, Ok, Err}
-use Rattle.dns_message.specs.declared.message.ShortMessage.{ShortMessage}
+use Rattle.dns_wire.specs.declared.message.ShortMessage.{ShortMessage}
 use Rattle.zone_model.specs.Commits.{Commit}
 use Rattle.zone_model.specs.Session.{Session}
 use Rattle.zone_devices.specs.Streams.{with_more}

@@ -9,7 +9,7 @@ use crate::tracked::TrackedKeys;
 use dns_numbers::Rtype;
 use std::alloc::{AllocError, Global};
 use std::sync::Arc;
-use zone_sets::SetKey;
+use zone_values::SetKey;
 use zone_versions::ZoneVersion;
 
 /// What a commit publishes of an edited version that began as `base`: with `bumps` the serial is counted on from the one of `base`, and DS RRsets below

@@ -25,8 +25,7 @@ use std::alloc::{AllocError, Global};
 use std::marker::Model;
 use std::sync::Arc;
 use zone_diffs::InMemoryZoneDiff;
-use zone_sets::SetKey;
-use zone_values::Rrset;
+use zone_values::{Rrset, SetKey};
 use zone_versions::{EditError, NodeCount, ZoneVersion};
 
 /// A version that is edited, and the published one that it began as. They agree but at the tracked keys.

@@ -13,8 +13,7 @@ use dns_numbers::{Rtype, Serial};
 use std::alloc::{AllocError, Global};
 use std::cmp::Ordering;
 use std::marker::Model;
-use zone_sets::SetKey;
-use zone_values::{Rrset, SharedRrset};
+use zone_values::{Rrset, SetKey, SharedRrset};
 
 /// Builds a difference of the RRsets that come and go. A record that comes and goes, of the same TTL and data, is in neither side.
 /// A side's RRset keeps the TTL that it began with and has equal data once. Owners are compared ASCII case aside, and kept in lower case.

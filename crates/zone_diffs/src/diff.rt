@@ -12,8 +12,7 @@ use dns_name::Labelled;
 use dns_numbers::{Rtype, Serial};
 use std::alloc::AllocError;
 use std::marker::Model;
-use zone_sets::SetKey;
-use zone_values::SharedRrset;
+use zone_values::{SetKey, SharedRrset};
 
 /// The difference from one version of a zone to another: its serials, and the sets of records that one has and the other lacks (RFC 1995, 4).
 #[derive(Debug, Drop)]

@@ -19,8 +19,7 @@ use std::collections::BTreeMap;
 use std::collections::btree_map::Iter;
 use std::marker::Model;
 use std::ops::Bound;
-use zone_sets::SetKey;
-use zone_values::{Rrset, SharedRrset};
+use zone_values::{Rrset, SetKey, SharedRrset};
 
 /// RRsets by owner and type, none of them empty: owners in lower case and canonical order, each one's types ascending (RFC 4034, 6.1).
 #[derive(Debug, Drop)]

@@ -13,8 +13,7 @@ ghost use Rattle.zone_diffs.specs.Kept.{holds_data};
 
 use dns_name::Labelled;
 use dns_numbers::{Rtype, Serial};
-use zone_sets::SetKey;
-use zone_values::SharedRrset;
+use zone_values::{SetKey, SharedRrset};
 
 /// The difference from one version of a zone to another (RFC 1995, 4). Its items are RRsets that aren't empty, in canonical order of their owners,
 /// each owner's types ascending.

@@ -9,7 +9,7 @@ use Rattle.std.proofs.lemmas.List.{length-map}
 use Rattle.dns_name.specs.Names.{Name, name_wire, is_label, is_name, fold}
 use Rattle.dns_name.proofs.Elements.{octets_fit}
 use Rattle.dns_name.proofs.WireForms.{first_wire, fold_wire, fold_is_name}
-use Rattle.zone_parts.proofs.ChildNames.{Joined, joined}
+use Rattle.zone_reads.proofs.ChildNames.{Joined, joined}
 use Rattle.zone_generated.specs.Generated.{host_number, host_label, zone_name}
 
 -- `h` and ten digits at most

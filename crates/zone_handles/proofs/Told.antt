@@ -5,8 +5,8 @@ use Rattle.std.specs.Slice.{IsItemAt}
 use Rattle.std.proofs.lemmas.Option.{slice_get_within}
 use Rattle.zone_model.specs.Session.{Session}
 use Rattle.zone_model.specs.Commits.{CommitList}
-use Rattle.zone_errors.specs.declared.edits.CommitError.{CommitError}
-use Rattle.zone_errors.specs.declared.edits.CommitError.TheVariants.{VersionsExhausted as NoNumber, Memory as NoMemory}
+use Rattle.zone_values.specs.declared.edit_errors.CommitError.{CommitError}
+use Rattle.zone_values.specs.declared.edit_errors.CommitError.TheVariants.{VersionsExhausted as NoNumber, Memory as NoMemory}
 use Rattle.zone_handles.specs.declared.zone_edits.ZoneEdit.{ZoneEdit}
 use Rattle.zone_handles.specs.declared.steps.Step.{Step}
 use Rattle.zone_handles.specs.declared.steps.Step.TheVariants.{Edit as EditStep, Open as OpenStep, Commit as CommitStep, Rollback, EndSession, Read as ReadStep, Copy}

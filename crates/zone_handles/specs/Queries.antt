@@ -3,7 +3,7 @@ use Rattle.std.specs.Prelude.{◌≡◌, ℕ, true, false, Result, Ok, Err}
 use Rattle.dns_name.specs.Names.{Name}
 use Rattle.zone_model.specs.Version.{Version, in_zone}
 use Rattle.zone_model.specs.Answer.{answer}
-use Rattle.zone_answer.specs.Replies.{Reply}
+use Rattle.zone_lookup.specs.Replies.{Reply}
 use Rattle.zone_lookup.specs.Answers.{answered_by}
 use Rattle.zone_lookup.specs.Owned.{reply_of}
 use Rattle.zone_handles.specs.declared.errors.QueryError.{QueryError}

@@ -7,8 +7,8 @@ use Rattle.zone_model.specs.Answer.{answer}
 use Rattle.zone_model.specs.Session.{Session}
 use Rattle.zone_model.specs.Commits.{Commit, CommitList, Zone, latest, Event, Open, Edit, Publish, Abandon, Read, after, after_all, AllMayHappen, version_of}
 use Rattle.zone_lookup.specs.Answers.{AnsweredBy, answered_by}
-use Rattle.zone_errors.specs.declared.edits.CommitError.{CommitError}
-use Rattle.zone_errors.specs.declared.edits.CommitError.TheVariants.{VersionsExhausted as NoNumber, Memory as NoMemory}
+use Rattle.zone_values.specs.declared.edit_errors.CommitError.{CommitError}
+use Rattle.zone_values.specs.declared.edit_errors.CommitError.TheVariants.{VersionsExhausted as NoNumber, Memory as NoMemory}
 use Rattle.zone_handles.specs.declared.errors.AskError.{AskError}
 use Rattle.zone_handles.specs.declared.errors.AskError.TheVariants.{OutOfZone, NoHandle}
 use Rattle.zone_handles.specs.declared.steps.Step.{Step}

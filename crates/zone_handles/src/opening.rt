@@ -1,19 +1,19 @@
 // A zone of a zone file's records.
 ghost use Rattle.std.specs.Prelude.{◌≡◌, IfSome, IsSomeAnd};
-ghost use Rattle.zone_errors.specs.Invalid.{invalid_records};
+ghost use Rattle.zone_values.specs.Invalid.{invalid_records};
 ghost use Rattle.zone_records.specs.Causes.{errors_in};
 
 use crate::zones::Zone;
-use zone_errors::{ContextError, RecordError};
 use zone_records::{FileError, Zonefile};
 use zone_sessions::{ZoneApex, ZoneBuilder};
+use zone_values::{ContextError, RecordError};
 
 /// A zone opens with the records of a zone file, its version numbered 0. Where they make no zone, what keeps them from it is told in the order of
 /// `faults`, each as `InvalidRecord`. The file is gone either way.
 impl TryFrom<Zonefile> for Zone<ZoneApex> {
     ghost use Rattle.std.specs.Prelude.{◌≡◌, ◌<◌, [], length, IfOk, IfErr, IfSome};
     ghost use Rattle.zone_model.specs.Edits.{close};
-    ghost use Rattle.zone_errors.specs.Invalid.{invalid_records};
+    ghost use Rattle.zone_values.specs.Invalid.{invalid_records};
     ghost use Rattle.zone_records.specs.Parsed.{version_of};
     ghost use Rattle.zone_records.specs.Faults.{faults};
     ghost use Rattle.zone_records.specs.Causes.{errors_in};

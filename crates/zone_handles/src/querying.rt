@@ -5,8 +5,7 @@ use crate::errors::QueryError;
 use dns_name::ToName;
 use dns_numbers::Rtype;
 use std::alloc::Global;
-use zone_answer::Answer;
-use zone_lookup::look_up;
+use zone_lookup::{Answer, look_up};
 use zone_reads::ReadZone;
 
 /// What the handle's version has for a name and a type, with records of the answer's own (RFC 1034, 4.3.2; RFC 4592). `OutOfZone` exactly where the

@@ -13,8 +13,7 @@ use crate::walking::walk;
 use dns_name::{Labelled, ToName};
 use dns_numbers::Rtype;
 use std::alloc::Global;
-use zone_answer::Answer;
-use zone_lookup::{AnswerRef, OutOfZone, look_up};
+use zone_lookup::{Answer, AnswerRef, OutOfZone, look_up};
 use zone_reads::{ReadZone, WalkItem};
 
 /// A read handle: one version of a zone, whatever keeps it.

@@ -13,8 +13,8 @@ use Rattle.zone_versions.specs.Stops.{first_from}
 use Rattle.zone_model.specs.Answer.{Answer, first_set, sets_of}
 use Rattle.zone_model.specs.Answer.Answer.{Found, NoData}
 use Rattle.zone_model.proofs.Folded.{IsFolded}
-use Rattle.zone_parts.proofs.Existence.{turned_labels, from_name, not_so}
-use Rattle.zone_parts.proofs.NameSets.{is_owner, same_turned, le_itself, none_own}
+use Rattle.zone_reads.proofs.Existence.{turned_labels, from_name, not_so}
+use Rattle.zone_reads.proofs.NameSets.{is_owner, same_turned, le_itself, none_own}
 
 -- what the first entry from a name on says of the name's own sets
 abbrev pub own_first : Name → Option (Key × RecordSet) → Answer

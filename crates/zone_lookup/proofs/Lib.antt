@@ -1,3 +1,6 @@
+pub mod Adding
+pub mod Choosing
+pub mod Limits
 mod Highest
 mod Enclosers
 mod FirstSets

@@ -10,8 +10,8 @@ use Rattle.zone_model.specs.Answer.{Answer, answer_section, authority_section, g
 use Rattle.zone_model.specs.Answer.Answer.{Referral, Alias, Found, NoData, NameError}
 use Rattle.zone_values.specs.TypedSets.{first_record}
 use Rattle.zone_values.specs.TypedEntries.{typed}
-use Rattle.zone_answer.specs.Replies.{authority}
-use Rattle.zone_answer.specs.Sending.{answers_of, authority_of, authority_in, authority_records, content_records, required_of, discardable_of}
+use Rattle.zone_lookup.specs.Replies.{authority}
+use Rattle.zone_lookup.specs.Sending.{answers_of, authority_of, authority_in, authority_records, content_records, required_of, discardable_of}
 use Rattle.zone_lookup.specs.Answers.{answered_by}
 use Rattle.zone_lookup.specs.Owned.{HasOneCname, alias_content, first_of_option, reply_of}
 

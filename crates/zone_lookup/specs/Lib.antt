@@ -1,2 +1,4 @@
+pub mod Replies
+pub mod Sending
 pub mod Answers
 pub mod Owned

@@ -6,9 +6,9 @@ use Rattle.zone_model.specs.Answer.{Answer, rcode_of, is_authoritative, glue_sec
 use Rattle.zone_model.specs.Answer.Answer.{Referral, Alias, Found, NoData, NameError}
 use Rattle.zone_values.specs.TypedSets.{TypedRecord, first_record}
 use Rattle.zone_values.specs.TypedEntries.{typed}
-use Rattle.zone_answer.specs.Replies.{Reply, Authority, Additional, authority, additional}
-use Rattle.zone_answer.specs.declared.content.AnswerContent.{AnswerContent}
-use Rattle.zone_answer.specs.declared.content.AnswerContent.TheVariants.{Data, Cname, NoData as NoContent}
+use Rattle.zone_lookup.specs.Replies.{Reply, Authority, Additional, authority, additional}
+use Rattle.zone_lookup.specs.declared.answer_content.AnswerContent.{AnswerContent}
+use Rattle.zone_lookup.specs.declared.answer_content.AnswerContent.TheVariants.{Data, Cname, NoData as NoContent}
 use Rattle.zone_lookup.specs.Answers.{AnsweredBy}
 
 -- a CNAME record, if there is one

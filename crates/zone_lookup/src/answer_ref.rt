@@ -7,7 +7,7 @@ use crate::content::{Content, LentAnswer};
 use dns_name::{KeyName, Labelled};
 use dns_numbers::{Rcode, Rtype};
 use std::marker::Model;
-use zone_parts::{AnswerRecords, SetRecords, apex_soa};
+use zone_reads::{AnswerRecords, SetRecords, apex_soa};
 use zone_values::Rrset;
 use zone_versions::ZoneVersion;
 

@@ -3,7 +3,7 @@ ghost use Rattle.std.specs.Prelude.{◌≡◌, []};
 ghost use Rattle.dns_wire.specs.Wire.{Question};
 ghost use Rattle.zone_model.specs.Version.{Version};
 ghost use Rattle.zone_model.specs.Answer.{Answer, answer_section, authority_section, glue_section};
-ghost use Rattle.zone_answer.specs.Sending.{answers_of, authority_of, required_of, discardable_of};
+ghost use Rattle.zone_lookup.specs.Sending.{answers_of, authority_of, required_of, discardable_of};
 ghost use Rattle.zone_lookup.specs.Answers.{answered_by};
 ghost use Rattle.zone_lookup.specs.Owned.{HasOneCname, reply_of};
 

@@ -7,7 +7,7 @@ ghost use Rattle.zone_model.specs.Answer.{answer, answer_at, alias_at, at_cut, c
 use crate::content::LentAnswer;
 use dns_name::{KeyName, NameOctets, NameRef, ToName};
 use dns_numbers::Rtype;
-use zone_parts::exists;
+use zone_reads::exists;
 use zone_versions::ZoneVersion;
 
 /// The highest zone cut at a name or above it (RFC 1034, 4.2.1).
@@ -46,7 +46,7 @@ fn first_set<'v>(version: &'v ZoneVersion, name: &NameRef<'_>) -> LentAnswer<'v>
 }
 
 /// What a name below no cut has: below the apex its CNAME, else the set of the type (RFC 1034, 4.3.2, step 3a).
-#[tactic(auto, using(zone_parts::proofs::LentTypes::lent_set, zone_parts::proofs::LentTypes::lent_type))]
+#[tactic(auto, using(zone_reads::proofs::LentTypes::lent_set, zone_reads::proofs::LentTypes::lent_type))]
 fn own_sets<'v>(version: &'v ZoneVersion, name: &NameRef<'_>, rtype: Rtype) -> LentAnswer<'v>
     requires { IsValid version.now }
     ensures { result ≡ own_sets version.now name.now rtype (alias_at version.now name.now) }
@@ -64,7 +64,7 @@ fn own_sets<'v>(version: &'v ZoneVersion, name: &NameRef<'_>, rtype: Rtype) -> L
 
 /// What a zone cut at a name or above it answers: a referral, but DS at the cut itself is the parent's own (RFC 1034, 4.3.2, step 3b; RFC 4035,
 /// 3.1.4.1).
-#[tactic(auto, using(zone_parts::proofs::LentTypes::lent_set, zone_parts::proofs::LentTypes::lent_type))]
+#[tactic(auto, using(zone_reads::proofs::LentTypes::lent_set, zone_reads::proofs::LentTypes::lent_type))]
 fn at_cut<'v>(
     version: &'v ZoneVersion,
     name: &NameRef<'_>,

@@ -2,17 +2,19 @@
 ghost use Rattle.std.specs.Prelude.{◌≡◌, ◌++◌, OnOk, IfOk, Some, None, map, option_copied};
 ghost use Rattle.dns_rdata.specs.ZoneData.{rtype_of, data_fields};
 ghost use Rattle.zone_values.specs.TypedSets.{set_of, first_record};
-ghost use Rattle.zone_answer.specs.Replies.{authority};
+ghost use Rattle.zone_lookup.specs.Replies.{authority};
 ghost use Rattle.zone_lookup.specs.Answers.{answer_of, HasItsTypes};
 ghost use Rattle.zone_lookup.specs.Owned.{additional_for, alias_content, authority_for, content_of, first_apex_soa, reply_of, soa_authority};
 
+use crate::answer::Answer;
+use crate::answer_content::AnswerContent;
 use crate::answer_ref::AnswerRef;
 use crate::content::Content;
+use crate::parts::{AnswerAdditional, AnswerAuthority};
 use dns_name::{KeyName, Labelled};
 use dns_numbers::{Rcode, Rtype};
 use std::alloc::{AllocError, Global};
-use zone_answer::{Answer, AnswerAdditional, AnswerAuthority, AnswerContent};
-use zone_parts::{AnswerRecords, own_option, own_records, own_set};
+use zone_reads::{AnswerRecords, own_option, own_records, own_set};
 use zone_values::{Rrset, SharedRr, SharedRrset};
 use zone_versions::ZoneVersion;
 

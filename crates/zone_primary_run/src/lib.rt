@@ -1,6 +1,6 @@
 //! The primary's half of a transfer as a program: a script makes a zone, its history and the key that may have it (docs/SCRIPT.md), and the primary of these
-//! answers the requests of a stream (`zone_serving`): transfers (`xfr_server`), questions for names of the zone (`zone_queries`), signed where the
-//! request was (`xfr_signing`).
+//! answers the requests of a stream (`zone_serving`): transfers (`xfr_server`), and questions for names of the zone, signed where the request was
+//! (`xfr_signing`).
 #![tactic(auto)]
 
 pub mod errors;

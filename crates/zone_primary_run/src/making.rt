@@ -8,9 +8,9 @@ use tsig_port::Key;
 use xfr_providers::HistoryProvider;
 use xfr_server::{PrimaryStack, XfrMiddlewareSvc};
 use xfr_signing::TsigMiddlewareSvc;
-use zone_queries::{OneVersion, ZoneQueries};
 use zone_reads::ReadZone;
 use zone_script::commits::Commits;
+use zone_serving::{OneVersion, ZoneQueries};
 
 /// The primary of a zone: it checks and signs, transfers the zone to those who sign with its key, and answers questions for its names from the version
 /// that it offers.

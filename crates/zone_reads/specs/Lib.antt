@@ -1,1 +1,4 @@
+pub mod Glue
+pub mod NameSets
+pub mod Parts
 pub mod Stops

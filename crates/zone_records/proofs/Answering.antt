@@ -2,8 +2,8 @@
 use Rattle.std.proofs.Common.{◌≡◌, ℕ, ◌==◌, true, false, not, if◌then◌else◌, sym, ap, ◌∙◌, Option, Some, None, Ok}
 use Rattle.dns_name.specs.Records.{Record}
 use Rattle.zone_model.specs.Classify.{ZoneFile, Kind, BadRecord, RecordVerdict, ClassMismatch, Accepted, Rejected, refuse_if, classify}
-use Rattle.zone_errors.specs.declared.errors.RecordError.{RecordError}
-use Rattle.zone_errors.specs.declared.errors.RecordError.TheVariants as errors
+use Rattle.zone_values.specs.declared.record_errors.RecordError.{RecordError}
+use Rattle.zone_values.specs.declared.record_errors.RecordError.TheVariants as errors
 use Rattle.zone_records.specs.Parsed.{Parsed, kept, with_record}
 use Rattle.zone_records.specs.Taking.{kind_in, verdict_as, verdict_in, taken_in, taken_by, take}
 use Rattle.zone_records.specs.Refusals.{error_of, refusal_by, refusal}

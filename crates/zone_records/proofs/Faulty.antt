@@ -6,8 +6,8 @@ use Rattle.std.specs.Cmp.{first_so, second_so}
 use Rattle.dns_name.specs.Names.{Name, under}
 use Rattle.zone_model.specs.Version.{Key}
 use Rattle.zone_model.specs.Classify.{Kind, Normal}
-use Rattle.zone_errors.specs.declared.errors.ContextError.{ContextError}
-use Rattle.zone_errors.specs.declared.errors.ContextError.TheVariants.{OutOfZone}
+use Rattle.zone_values.specs.declared.record_errors.ContextError.{ContextError}
+use Rattle.zone_values.specs.declared.record_errors.ContextError.TheVariants.{OutOfZone}
 use Rattle.zone_records.specs.Parsed.{Parsed}
 use Rattle.zone_records.specs.Faults.{fault_at, faults_at, faults_of, with_fault}
 

@@ -4,7 +4,7 @@ use Rattle.dns_name.specs.Names.{Name}
 use Rattle.dns_name.specs.Records.{Record}
 use Rattle.dns_numbers.specs.Codes.{type_soa}
 use Rattle.zone_model.specs.Classify.{ZoneFile, Kind, BadRecord, RecordVerdict, Accepted, Rejected}
-use Rattle.zone_errors.specs.declared.errors.RecordError.{RecordError}
+use Rattle.zone_values.specs.declared.record_errors.RecordError.{RecordError}
 use Rattle.zone_records.specs.Parsed.{Parsed, kept, with_record, empty_file}
 use Rattle.zone_records.specs.Taking.{verdict_in, taken_in, taken_by, take}
 use Rattle.zone_records.specs.Refusals.{Refusals, error_of, read_by, read_one, read_all, opening_file, missing_soa, unless_refused, read_after, file_of}

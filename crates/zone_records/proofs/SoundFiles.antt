@@ -14,8 +14,8 @@ use Rattle.zone_model.specs.Version.{RecordSet, Key, Sets, key_cmp, has_key, set
 use Rattle.zone_model.specs.Classify.{Kind, Normal, Cut, Alias, Outside}
 use Rattle.zone_model.proofs.Folded.{key_total, same_key, IsFolded, fold-fold, under_alike}
 use Rattle.zone_model.proofs.Ordered.{sorted-insert_entry}
-use Rattle.zone_errors.specs.declared.errors.ContextError.{ContextError}
-use Rattle.zone_errors.specs.declared.errors.ContextError.TheVariants.{MissingNs, InvalidZonecut, InvalidCname, OutOfZone}
+use Rattle.zone_values.specs.declared.record_errors.ContextError.{ContextError}
+use Rattle.zone_values.specs.declared.record_errors.ContextError.TheVariants.{MissingNs, InvalidZonecut, InvalidCname, OutOfZone}
 use Rattle.zone_values.specs.declared.errors.ZoneCutError.TheVariants as no_cut
 use Rattle.zone_values.specs.declared.errors.CnameError.TheVariants as bad_alias
 use Rattle.zone_values.specs.SetEdits.{put_all}

@@ -11,8 +11,8 @@ use Rattle.dns_numbers.specs.Codes.{type_ns, type_cname, type_ds}
 use Rattle.zone_model.specs.Version.{RecordSet, Key, Sets, Version, key_cmp, set_in, set_at, below_apex, is_cut}
 use Rattle.zone_model.specs.Classify.{ZoneFile, Kind, Normal, Cut, Alias, Outside, RecordVerdict, Accepted, Rejected, kind_of, same_kind, classify, opened_with, opened}
 use Rattle.zone_model.proofs.Folded.{key_from_tie, fold-fold, under_alike, same_name_alike, same_name-Decides}
-use Rattle.zone_errors.specs.declared.errors.ContextError.{ContextError}
-use Rattle.zone_errors.specs.declared.errors.ContextError.TheVariants.{MissingNs, InvalidZonecut, InvalidCname, OutOfZone}
+use Rattle.zone_values.specs.declared.record_errors.ContextError.{ContextError}
+use Rattle.zone_values.specs.declared.record_errors.ContextError.TheVariants.{MissingNs, InvalidZonecut, InvalidCname, OutOfZone}
 use Rattle.zone_values.specs.declared.errors.ZoneCutError.TheVariants as no_cut
 use Rattle.zone_values.specs.declared.errors.CnameError.TheVariants as no_alias
 use Rattle.zone_records.specs.Parsed.{Parsed, sets_for, sets_of, kept, version_of}

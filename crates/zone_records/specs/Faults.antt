@@ -7,8 +7,8 @@ use Rattle.dns_name.specs.Records.{Record}
 use Rattle.dns_numbers.specs.Codes.{type_ns, type_cname, type_ds}
 use Rattle.zone_model.specs.Version.{Key, set_in, below_apex, is_cut}
 use Rattle.zone_model.specs.Classify.{ZoneFile, Kind, Normal, Cut, Alias, Outside, opened}
-use Rattle.zone_errors.specs.declared.errors.ContextError.{ContextError}
-use Rattle.zone_errors.specs.declared.errors.ContextError.TheVariants.{MissingNs, InvalidZonecut, InvalidCname, OutOfZone}
+use Rattle.zone_values.specs.declared.record_errors.ContextError.{ContextError}
+use Rattle.zone_values.specs.declared.record_errors.ContextError.TheVariants.{MissingNs, InvalidZonecut, InvalidCname, OutOfZone}
 use Rattle.zone_values.specs.declared.errors.ZoneCutError.TheVariants as no_cut
 use Rattle.zone_values.specs.declared.errors.CnameError.TheVariants as no_alias
 use Rattle.zone_records.specs.Parsed.{Parsed, sets_for}

@@ -4,8 +4,8 @@ use Rattle.dns_name.specs.Names.{Name}
 use Rattle.dns_name.specs.Records.{Record}
 use Rattle.dns_numbers.specs.Codes.{type_soa}
 use Rattle.zone_model.specs.Classify.{BadRecord, ClassMismatch, IllegalZoneCut, IllegalRecord, IllegalCname, MultipleCnames, RecordVerdict, Accepted, Rejected}
-use Rattle.zone_errors.specs.declared.errors.RecordError.{RecordError}
-use Rattle.zone_errors.specs.declared.errors.RecordError.TheVariants as errors
+use Rattle.zone_values.specs.declared.record_errors.RecordError.{RecordError}
+use Rattle.zone_values.specs.declared.record_errors.RecordError.TheVariants as errors
 use Rattle.zone_records.specs.Parsed.{Parsed, empty_file}
 use Rattle.zone_records.specs.Taking.{verdict_in, taken_in}
 

@@ -2,7 +2,7 @@
 use std::alloc::AllocError;
 use std::fmt;
 use thiserror::Error;
-use zone_errors::ZoneErrors;
+use zone_values::ZoneErrors;
 
 /// Why records make no zone file.
 #[derive(Drop, Error)]

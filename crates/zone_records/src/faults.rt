@@ -17,8 +17,7 @@ use crate::zonefile::Zonefile;
 use dns_name::{KeyName, ToName};
 use dns_numbers::Rtype;
 use std::alloc::{AllocError, Global};
-use zone_errors::{ContextError, ZoneErrors};
-use zone_values::{CnameError, ZoneCutError};
+use zone_values::{CnameError, ContextError, ZoneCutError, ZoneErrors};
 use zone_versions::TreeSet;
 
 impl Zonefile {

@@ -5,7 +5,7 @@ ghost use Rattle.zone_records.specs.Refusals.{error_of};
 
 use dns_numbers::{Class, Rtype};
 use dns_rdata::StoredRecord;
-use zone_errors::RecordError;
+use zone_values::RecordError;
 
 /// What a record is by its owner and type (RFC 1034, 4.2.1).
 #[derive(Clone, Copy, Debug, Drop)]

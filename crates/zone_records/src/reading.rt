@@ -10,7 +10,7 @@ use dns_name::{KeyName, Labelled, ToName};
 use dns_numbers::Rtype;
 use dns_rdata::StoredRecord;
 use std::alloc::{AllocError, Global};
-use zone_errors::{RecordError, ZoneErrors};
+use zone_values::{RecordError, ZoneErrors};
 
 impl Zonefile {
     /// The zone file of some records, the first of which is the SOA record of its apex: that gives the origin and the class. Where it is another, or

@@ -26,7 +26,7 @@ use dns_numbers::{Class, Rtype};
 use dns_rdata::StoredRecord;
 use std::alloc::{AllocError, Global};
 use std::marker::Model;
-use zone_errors::{ContextError, RecordError, ZoneErrors};
+use zone_values::{ContextError, RecordError, ZoneErrors};
 use zone_versions::{VersionTree, ZoneVersion, is_at_or_below};
 
 /// The records of a zone file by kind (RFC 1034, 4.2.1), under an origin and a class.

@@ -9,8 +9,7 @@ use dns_numbers::Rcode;
 use dns_rdata::ComposeRecord;
 use std::alloc::{AllocError, Global};
 use zone_lookup::{AnswerRef, OutOfZone, Query, look_up};
-use zone_parts::{AnswerRecord, AnswerRecords};
-use zone_reads::ReadZone;
+use zone_reads::{AnswerRecord, AnswerRecords, ReadZone};
 
 /// What a version answers to questions, in order: for each `answer RCODE AA`, AA 1 where the zone has authority, with a line `an HEX`,
 /// `au HEX` or `ad HEX` for each record of the three sections; or `answer out-of-zone`.

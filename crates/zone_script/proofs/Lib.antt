@@ -1,3 +1,7 @@
+mod NumberSteps
+mod CutSteps
+mod KeyFields
+mod WordForms
 mod FileLaws
 mod Refused
 mod EditCauses

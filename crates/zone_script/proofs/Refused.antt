@@ -2,7 +2,7 @@
 use Rattle.std.proofs.Common.{◌≡◌, ℕ, refl, sym, subst, Err, IfSome}
 use Rattle.dns_rdata.specs.Records.{Record}
 use Rattle.zone_model.specs.Classify.{RecordVerdict, Accepted, Rejected, ClassMismatch, IllegalZoneCut, IllegalRecord, IllegalCname, MultipleCnames}
-use Rattle.zone_errors.specs.declared.errors.RecordError.{RecordError}
+use Rattle.zone_values.specs.declared.record_errors.RecordError.{RecordError}
 use Rattle.zone_records.specs.Taking.{verdict_in, taken_by}
 use Rattle.zone_records.specs.Refusals.{refusal, refusal_by}
 use Rattle.zone_script.specs.Causes.{line_in, cause_of}

@@ -1,7 +1,7 @@
 -- The line that a refusal of a script names.
 use Rattle.std.specs.Prelude.{ℕ, Option, Some, None}
-use Rattle.zone_errors.specs.declared.errors.RecordError.{RecordError}
-use Rattle.zone_errors.specs.declared.errors.RecordError.TheVariants as refused
+use Rattle.zone_values.specs.declared.record_errors.RecordError.{RecordError}
+use Rattle.zone_values.specs.declared.record_errors.RecordError.TheVariants as refused
 use Rattle.zone_versions.specs.declared.errors.EditError.{EditError}
 use Rattle.zone_versions.specs.declared.errors.EditError.TheVariants as edits
 use Rattle.zone_script.specs.declared.script.ScriptError.{ScriptError}

@@ -17,8 +17,8 @@ use Rattle.zone_records.specs.Taking.{take}
 use Rattle.zone_records.specs.Faults.{is_whole}
 use Rattle.zone_script.specs.Script as scripts
 use Rattle.zone_script.specs.Script.{stage_of, is_once, is_skipped, read_line, committed_by}
-use Rattle.script_words.specs.ScriptReaders.{wire_readers}
-pub use Rattle.script_words.specs.Lines.{is_of_class}
+use Rattle.zone_script.specs.ScriptReaders.{wire_readers}
+pub use Rattle.zone_script.specs.Lines.{is_of_class}
 use Rattle.zone_script.specs.declared.opening.OpeningZone.{OpeningZone}
 use Rattle.zone_script.specs.declared.reading.Zones.{Zones}
 use Rattle.zone_script.specs.declared.reading.Reading.{Reading}

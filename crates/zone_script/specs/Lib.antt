@@ -1,5 +1,8 @@
-pub use Rattle.script_words.specs.ScriptReaders
-pub use Rattle.script_words.specs.Words
+pub mod ScriptLines
+pub mod ScriptReaders
+pub mod Digits
+pub mod Words
+pub mod Lines
 pub mod Script
 pub mod Causes
 pub mod Keeping

@@ -8,9 +8,9 @@ use dns_name::StoredName;
 use dns_numbers::Class;
 use dns_rdata::StoredRecord;
 use std::alloc::Global;
-use zone_errors::RecordError;
 use zone_records::{FileError, Zonefile};
 use zone_sessions::{ZoneApex, ZoneBuilder};
+use zone_values::RecordError;
 
 /// A zone as its opening records are read.
 #[derive(Drop)]

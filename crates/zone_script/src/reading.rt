@@ -2,16 +2,16 @@
 ghost use Rattle.std.specs.Prelude.{◌≡◌, ◌==◌, Some, None, Ok, Err, IfOk, IfErr, IfSome, IsSomeAnd, OnOk};
 ghost use Rattle.zone_script.specs.Script.{stage_of};
 ghost use Rattle.zone_script.specs.Keeping as keeping;
-ghost use Rattle.script_words.specs.Lines.{line_of};
+ghost use Rattle.zone_script.specs.Lines.{line_of};
 ghost use Rattle.zone_script.specs.Causes.{line_in};
 
+use crate::fields::{Line, read_line};
+use crate::lines::is_skipped;
 use crate::opening::OpeningZone;
 use crate::script::ScriptError;
 use dns_name::StoredName;
 use dns_numbers::Class;
 use dns_rdata::StoredRecord;
-use script_words::fields::{Line, read_line};
-use script_words::lines::is_skipped;
 use std::alloc::{AllocError, Global};
 use tsig_port::{Key, Time48};
 use zone_sessions::ZoneApex;

@@ -10,8 +10,8 @@ ghost use Rattle.zone_script.specs.Causes.{line_in};
 
 use crate::commits::Commits;
 use crate::editing::{Editing, read_rest};
+use crate::lines::next_line;
 use crate::reading::{Opened, Reading};
-use script_words::lines::next_line;
 use std::alloc::{AllocError, Global};
 use thiserror::Error;
 use tsig_port::{Key, Time48};

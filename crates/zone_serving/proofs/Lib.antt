@@ -1,3 +1,4 @@
+mod LongQueries
 mod Framing
 mod Replying
 mod Stepping

@@ -1,3 +1,4 @@
+pub mod ZoneReplies
 pub mod Refusals
 pub mod StreamServing
 pub mod WholeStreams

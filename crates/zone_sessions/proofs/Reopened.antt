@@ -6,7 +6,7 @@ use Rattle.dns_name.specs.Names.{Name, fold, same_name, under}
 use Rattle.dns_numbers.specs.Codes.{type_cname, type_ds, type_ns}
 use Rattle.zone_model.specs.Version.{RecordSet, Key, Sets, Version, IsValid, set_in, all_differ}
 use Rattle.zone_model.proofs.Folded.{same_name-Decides}
-use Rattle.zone_parts.proofs.NodeNames.{under_itself}
+use Rattle.zone_reads.proofs.NodeNames.{under_itself}
 
 -- what is kept at an entry, by the apex in lower case
 abbrev kept_with : Name → Sets → Key × RecordSet → Bool

@@ -5,7 +5,7 @@ ghost use Rattle.dns_numbers.specs.Codes.{type_soa};
 ghost use Rattle.zone_model.specs.Version.{set_at};
 ghost use Rattle.zone_values.specs.Relative.{labels_below};
 ghost use Rattle.zone_values.specs.TypedEntries.{typed};
-ghost use Rattle.zone_parts.specs.Parts.{part};
+ghost use Rattle.zone_reads.specs.Parts.{part};
 
 use crate::write::WriteZone;
 use dns_name::{Labelled, StoredName, ToName};
@@ -13,8 +13,7 @@ use dns_numbers::{Class, Rtype};
 use std::alloc::{AllocError, Global};
 use std::marker::Model;
 use std::sync::Arc;
-use zone_parts::{NodeChildren, NodeRrsets};
-use zone_reads::ReadZone;
+use zone_reads::{NodeChildren, NodeRrsets, ReadZone};
 use zone_values::{OutOfZone, RelNameRevIter, Rrset, rel_name_rev_iter};
 use zone_versions::ZoneVersion;
 

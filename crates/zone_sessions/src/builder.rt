@@ -15,10 +15,11 @@ use dns_rdata::StoredRecord;
 use std::alloc::{AllocError, Global};
 use std::marker::Model;
 use std::sync::Arc;
-use zone_errors::{ContextError, InsertCnameError, InsertCutError, InsertError};
 use zone_reads::ReadZone;
 use zone_records::{FileError, Zonefile};
-use zone_values::{Rrset, SharedRr, SharedRrset};
+use zone_values::{
+    ContextError, InsertCnameError, InsertCutError, InsertError, Rrset, SharedRr, SharedRrset,
+};
 use zone_versions::is_bad_alias;
 
 /// The records that a zone opens with, put one by one. It is seen as the version that they make.

@@ -12,7 +12,7 @@ pub use apex::ZoneApex;
 pub use builder::ZoneBuilder;
 pub use node::WriteNode;
 pub use write::WriteZone;
-pub use zone_errors::{
+pub use zone_values::{
     CommitError, InsertCnameError, InsertCutError, InsertError, NodeError, UpdateError,
 };
 pub use zone_versions::{EditError, NodeCount};

@@ -15,9 +15,8 @@ use dns_name::{KeyName, Label, Labelled};
 use dns_numbers::Rtype;
 use std::alloc::AllocError;
 use std::marker::Model;
-use zone_errors::{NodeError, UpdateError};
-use zone_parts::child_name;
-use zone_values::{Rrset, SharedRr, SharedRrset, ZoneCut};
+use zone_reads::child_name;
+use zone_values::{NodeError, Rrset, SharedRr, SharedRrset, UpdateError, ZoneCut};
 use zone_versions::EditError;
 
 /// A node of a zone in a session: a name at or below the apex. Its edits are the session's, and are pending until the session commits; `into_session`

@@ -24,10 +24,8 @@ use std::alloc::{AllocError, Global};
 use std::marker::Model;
 use zone_changes::{ClosedDraft, Draft};
 use zone_diffs::InMemoryZoneDiff;
-use zone_errors::CommitError;
 use zone_reads::ReadZone;
-use zone_sets::SetKey;
-use zone_values::Rrset;
+use zone_values::{CommitError, Rrset, SetKey};
 use zone_versions::{EditError, NodeCount, ZoneVersion};
 
 /// The one session of a zone: it edits what is pending, and publishes it by `commit`. What is pending when it is dropped is gone.

@@ -43,8 +43,9 @@ pub use zone_handles::{
     begin_again, make_step, make_steps, walk,
 };
 pub use zone_lookup::look_up;
-pub use zone_parts::{NodeChildren, NodeRrsets, Special, ZoneNode};
-pub use zone_reads::{ReadZone, RrsetIter, WalkItem, is_same};
+pub use zone_reads::{
+    NodeChildren, NodeRrsets, ReadZone, RrsetIter, Special, WalkItem, ZoneNode, is_same,
+};
 pub use zone_sessions::{
     CommitError, EditError, InsertError, NodeError, UpdateError, WriteNode, WriteZone, ZoneApex,
     ZoneBuilder,

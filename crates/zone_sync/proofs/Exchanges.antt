@@ -4,7 +4,7 @@ use Rattle.std.proofs.lemmas.Bool.{lt-leb}
 use Rattle.xfr_services.specs.declared.services.ServiceError.TheVariants as service
 use Rattle.dns_wire.specs.declared.builder.PushError.TheVariants.{ShortBuf, CountOverflow}
 use Rattle.dns_wire.specs.declared.builder.PushError.TheVariants as push
-use Rattle.dns_message.specs.declared.message.ShortMessage.{ShortMessage}
+use Rattle.dns_wire.specs.declared.message.ShortMessage.{ShortMessage}
 use Rattle.zone_model.specs.Commits.{Commit}
 use Rattle.zone_model.specs.Session.{Session, rolled_back}
 use Rattle.xfr_course.specs.Outcome.{NoSoa, Ended, LinkFault, Short, Primary}

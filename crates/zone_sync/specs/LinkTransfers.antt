@@ -1,7 +1,7 @@
 -- A transfer over a link: what passed over it, and what it commits and answers, whatever octets the link hands back (RFC 5936, 6; RFC 8945, 5.3).
 use Rattle.std.specs.Prelude.{◌≡◌, ◌≢◌, ◌↔◌, ℕ, ◌<◌, ◌⊎◌, true, false, List, [], ◌∷◌, ◌++◌, Option, Some, None, Result, Err, length, min}
 use Rattle.dns_wire.specs.declared.builder.PushError.TheVariants.{ShortBuf}
-use Rattle.dns_message.specs.declared.message.ShortMessage.{ShortMessage}
+use Rattle.dns_wire.specs.declared.message.ShortMessage.{ShortMessage}
 use Rattle.xfr_client.specs.Standing.{ClientState, Stands}
 use Rattle.zone_model.specs.Commits.{Commit}
 use Rattle.zone_model.specs.Session.{Session}

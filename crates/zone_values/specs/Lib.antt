@@ -1,3 +1,5 @@
+pub mod Owners
+pub mod Invalid
 pub mod TypedSets
 pub mod SameSets
 pub mod Relative

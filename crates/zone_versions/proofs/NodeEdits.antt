@@ -20,7 +20,7 @@ use Rattle.zone_values.proofs.Equality.{filter_map}
 use Rattle.zone_versions.specs.Sound.{is_sound_at, IsSound}
 use Rattle.zone_versions.specs.Nodes.{put_at, is_address_in, with_glue}
 use Rattle.zone_versions.proofs.Putting.{put_some, pushed_some, opening_some}
-use Rattle.zone_sets.proofs.Thinning.{suc_not}
+use Rattle.zone_values.proofs.Thinning.{suc_not}
 use Rattle.zone_values.proofs.KeptTypes.{all_remove}
 use Rattle.zone_values.proofs.FirstData.{distinct_same, distinct_differ}
 use Rattle.zone_values.specs.SetEdits.{put_with, opening_set}

@@ -9,7 +9,7 @@ use Rattle.zone_model.specs.Version.{RecordSet, Version, key_cmp, set_in}
 use Rattle.zone_model.specs.Classify.{lowest_ttl}
 use Rattle.zone_model.specs.Edits.{with_sets, remove_set, put_set}
 use Rattle.zone_values.specs.SetEdits.{put_with, last_set, opening_set}
-use Rattle.zone_sets.proofs.Thinning.{suc_not}
+use Rattle.zone_values.proofs.Thinning.{suc_not}
 use Rattle.zone_versions.specs.Puts.{appended, opened_by}
 
 -- a set with data is put, and does not remove

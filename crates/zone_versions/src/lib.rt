@@ -35,4 +35,4 @@ pub use tree::VersionTree;
 pub use tree_walk::{TreeSet, TreeSets};
 pub use version::ZoneVersion;
 pub use walk::{RrsetIter, VersionKeys, WalkItem};
-pub use zone_sets::SetKey;
+pub use zone_values::SetKey;

@@ -36,8 +36,7 @@ use dns_numbers::{Class, Rtype, Ttl};
 use dns_rdata::{RecordData, Soa, StoredRecord, StoredRecordData, ZoneRecordData};
 use std::alloc::{AllocError, Global};
 use std::marker::Model;
-use zone_sets::SetKey;
-use zone_values::{PutError, Rrset};
+use zone_values::{PutError, Rrset, SetKey};
 
 /// One version of a zone (RFC 1034, 4.2): the apex as it was given, the class, and the RRsets, in a tree whose parts versions share.
 #[derive(Drop)]

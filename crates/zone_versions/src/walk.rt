@@ -11,8 +11,7 @@ use dns_name::KeyName;
 use dns_numbers::{Rtype, Ttl};
 use dns_rdata::StoredRecordData;
 use std::marker::Model;
-use zone_sets::SetKey;
-use zone_values::SharedRrset;
+use zone_values::{SetKey, SharedRrset};
 
 /// One stop of a walk: an RRset with its owner and type.
 #[derive(Drop)]

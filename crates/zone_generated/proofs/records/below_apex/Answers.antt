@@ -2,7 +2,7 @@ use Rattle.std.proofs.Common.{◌≡◌, ◌∙◌, subst, arith}
 use Rattle.std.specs.Prelude.{IfOk}
 use Rattle.dns_name.specs.Names.{Name}
 use Rattle.dns_name.proofs.Elements.{octets_fit}
-use Rattle.zone_parts.proofs.ChildNames.{joined_labels, joined_named, joined_spelled}
+use Rattle.zone_reads.proofs.ChildNames.{joined_labels, joined_named, joined_spelled}
 use Rattle.zone_generated.proofs.HostNames.{below}
 use Rattle.zone_generated.proofs.records.below_apex.Goals as goal
 

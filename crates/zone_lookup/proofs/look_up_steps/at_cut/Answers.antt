@@ -4,7 +4,7 @@ use Rattle.dns_name.specs.Names.{same_name}
 use Rattle.dns_numbers.specs.Codes.{type_ns, type_ds}
 use Rattle.zone_model.specs.Answer.Answer.{Referral}
 use Rattle.zone_values.specs.TypedEntries.{untyped}
-use Rattle.zone_parts.proofs.LentTypes.{lent_set, lent_type}
+use Rattle.zone_reads.proofs.LentTypes.{lent_set, lent_type}
 use Rattle.zone_lookup.proofs.Referrals.{and_false, cut_refers, no_servers}
 use Rattle.zone_lookup.proofs.look_up_steps.at_cut.Goals.{else-eq-via-then-eq+else-name_eq, else-eq-via-else-eq}
 use Rattle.zone_lookup.proofs.look_up_steps.at_cut.Goals as goal

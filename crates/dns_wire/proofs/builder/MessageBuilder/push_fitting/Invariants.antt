@@ -1,8 +1,8 @@
 use Rattle.std.proofs.Common.{◌≡◌, ◌+◌, ◌<◌, ◌≤◌, ◌^◌, length}
 use Rattle.std.specs.Prelude.{◌==◌}
 use Rattle.std.specs.List.{filter_map}
-use Rattle.dns_message.specs.Wire.{header_number}
-use Rattle.dns_message.specs.Reply.{fitting}
+use Rattle.dns_wire.specs.Wire.{header_number}
+use Rattle.dns_wire.specs.Reply.{fitting}
 use Rattle.dns_wire.specs.Builds.{with_questions}
 use Rattle.dns_wire.proofs.builder.MessageBuilder.push_fitting.Given as goal
 

@@ -1,7 +1,7 @@
 use Rattle.std.proofs.Common.{◌≡◌, ◌+◌, ◌<◌, ◌≤◌, ◌^◌, length}
 use Rattle.std.specs.Prelude.{IsTrue}
 use Rattle.std.specs.List.{filter_map}
-use Rattle.dns_message.specs.Wire.{fits, header_number}
+use Rattle.dns_wire.specs.Wire.{fits, header_number}
 use Rattle.dns_wire.specs.Builds.{with_questions}
 use Rattle.dns_wire.proofs.builder.MessageBuilder.push_questions.Given as goal
 

@@ -1,9 +1,9 @@
 use Rattle.std.proofs.Common.{◌≡◌, ◌<◌, ◌^◌, length, ap, ◌∙◌, arith}
 use Rattle.std.specs.List.{filter_map}
 use Rattle.std.proofs.lemmas.Result.{err_from_is_err_and}
-use Rattle.dns_message.specs.Wire.{Header}
-use Rattle.dns_message.specs.Reply.{answer_header}
-use Rattle.dns_message.specs.Parse.{questions_in}
+use Rattle.dns_wire.specs.Wire.{Header}
+use Rattle.dns_wire.specs.Reply.{answer_header}
+use Rattle.dns_wire.specs.Parse.{questions_in}
 use Rattle.dns_wire.proofs.Questions.{few_questions, answer_refused, answer_built}
 use Rattle.dns_wire.proofs.builder.MessageBuilder.start_answer.Goals as goal
 

@@ -2,9 +2,9 @@ use Rattle.std.proofs.Common.{◌≡◌, ◌<◌, ◌≤◌, ◌^◌, ◌++◌, 
 use Rattle.std.specs.Prelude.{if◌then◌else◌}
 use Rattle.std.specs.List.{filter_map}
 use Rattle.std.proofs.lemmas.Result.{err_from_is_err_and}
-use Rattle.dns_message.specs.Wire.{Header, header_wire, message_wire}
-use Rattle.dns_message.specs.Reply.{answer_header, error_answer}
-use Rattle.dns_message.specs.Parse.{questions_in}
+use Rattle.dns_wire.specs.Wire.{Header, header_wire, message_wire}
+use Rattle.dns_wire.specs.Reply.{answer_header, error_answer}
+use Rattle.dns_wire.specs.Parse.{questions_in}
 use Rattle.dns_wire.proofs.Questions.{few_questions}
 use Rattle.dns_wire.specs.Builds.{building}
 use Rattle.dns_wire.proofs.ErrorAnswers.{error_built, error_refused}

@@ -1,4 +1,4 @@
-use Rattle.dns_message.proofs.ItemWriting.{written_reads_back}
+use Rattle.dns_wire.proofs.ItemWriting.{written_reads_back}
 use Rattle.dns_wire.proofs.builder.SectionBuilder.finish.Goals as goal
 
 pub returns-clause-read_back : goal.returns-clause-read_back

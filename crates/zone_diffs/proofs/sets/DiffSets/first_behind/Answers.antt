@@ -4,7 +4,7 @@ use Rattle.std.specs.List.{find}
 use Rattle.std.specs.Ordering.{is_lt}
 use Rattle.zone_model.specs.Version.{Key, RecordSet, Sets, key_cmp}
 use Rattle.zone_values.specs.TypedEntries.{item_of}
-use Rattle.zone_sets.proofs.FirstEntries.{takes_head, head_of, first_of_range}
+use Rattle.zone_values.proofs.FirstEntries.{takes_head, head_of, first_of_range}
 use Rattle.zone_values.proofs.KeptTypes.{find_seen}
 use Rattle.zone_diffs.proofs.Entries.{kept_own}
 use Rattle.zone_diffs.proofs.sets.DiffSets.first_behind.Goals as goal

@@ -2,7 +2,7 @@ use Rattle.std.proofs.Common.{◌++◌, List, map, ap, sym, ◌∙◌, append-ni
 use Rattle.dns_name.specs.Names.{Name}
 use Rattle.zone_model.specs.Version.{Key}
 use Rattle.zone_values.specs.TypedSets.{TypedSet}
-use Rattle.zone_errors.specs.declared.errors.ContextError.{ContextError}
+use Rattle.zone_values.specs.declared.record_errors.ContextError.{ContextError}
 use Rattle.zone_versions.specs.Held.{told}
 use Rattle.zone_versions.specs.Stops.{key_told}
 use Rattle.zone_versions.proofs.Stops.{keys_told}

@@ -1,6 +1,6 @@
 use Rattle.std.proofs.Common.{◌≡◌, true, true≢false, sym, ap, ◌∙◌, rules}
 use Rattle.dns_name.specs.Names.{same_name, under}
-use Rattle.zone_parts.proofs.NodeNames.{apex_is_under}
+use Rattle.zone_reads.proofs.NodeNames.{apex_is_under}
 use Rattle.zone_sessions.proofs.builder.ZoneBuilder.put_cut.Goals as goal
 
 -- The apex is in the zone.

@@ -1,6 +1,6 @@
 use Rattle.std.proofs.Common.{◌≡◌, true, sym, subst}
 use Rattle.dns_name.specs.Names.{Name, under}
-use Rattle.zone_parts.proofs.NodeNames.{under_child}
+use Rattle.zone_reads.proofs.NodeNames.{under_child}
 use Rattle.zone_sessions.proofs.node.WriteNode.update_child.Goals as goal
 
 -- A name below one in the zone is in the zone.

@@ -1,7 +1,7 @@
 use Rattle.std.proofs.Common.{◌≡◌, true, sym, subst, ap, ◌∙◌}
 use Rattle.dns_name.specs.Names.{Name, under}
 use Rattle.zone_model.specs.Version.{Version}
-use Rattle.zone_parts.proofs.NodeNames.{under_itself}
+use Rattle.zone_reads.proofs.NodeNames.{under_itself}
 use Rattle.zone_sessions.proofs.write.WriteZone.open.Goals as goal
 
 -- The apex is in the zone.

@@ -1,9 +1,0 @@
-pub mod OnLiterals
-pub mod Pushing
-pub mod ItemWriting
-pub mod DataWriting
-pub mod Headers
-pub mod Items
-pub mod Parsing
-pub mod Places
-pub mod Behind

@@ -1,5 +1,0 @@
-use Rattle.dns_message.proofs.Headers.{header_in-header_wire}
-use Rattle.dns_message.proofs.laws.headers_written_are_read.Goals as goal
-
-pub returns : goal.returns
-returns c = λ h after id opcode rcode. header_in-header_wire h opcode rcode after id

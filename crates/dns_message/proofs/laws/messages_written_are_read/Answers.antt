@@ -1,5 +1,0 @@
-use Rattle.dns_message.proofs.ItemWriting.{parsed-message_wire}
-use Rattle.dns_message.proofs.laws.messages_written_are_read.Goals as goal
-
-pub returns : goal.returns
-returns c = parsed-message_wire

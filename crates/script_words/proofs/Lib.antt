@@ -1,4 +1,0 @@
-mod NumberSteps
-mod CutSteps
-mod KeyFields
-mod WordForms

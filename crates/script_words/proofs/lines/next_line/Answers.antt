@@ -1,6 +1,0 @@
-use Rattle.std.proofs.Common.{rules}
-use Rattle.script_words.proofs.CutSteps.{line_with_end}
-use Rattle.script_words.proofs.lines.next_line.Goals as goal
-
-pub returns-in-Some-clause-found : goal.returns-in-Some-clause-found
-returns-in-Some-clause-found c = line_with_end c.args.octets.now c.cut.result.0.now c.in-Some.rest.now (search rules)

@@ -1,8 +1,0 @@
-use Rattle.std.proofs.Common.{◌≡◌, drop}
-use Rattle.std.specs.Prelude.{Some}
-use Rattle.script_words.specs.ScriptLines as scripts
-use Rattle.script_words.specs.Digits.{below}
-use Rattle.script_words.proofs.numbers.with_digits_below.Given as goal
-
-abbrev pub invariant-loop-octet : goal.invariant-loop-octet
-invariant-loop-octet l = below l.bound (scripts.more_digits (Some l.number) (drop l.octet-index l.more)) ≡ below l.bound (scripts.more_digits (Some l.so_far) l.more)

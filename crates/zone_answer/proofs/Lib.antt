@@ -1,3 +1,0 @@
-pub mod Adding
-pub mod Choosing
-pub mod Limits

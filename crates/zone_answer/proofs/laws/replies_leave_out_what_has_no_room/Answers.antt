@@ -1,8 +1,0 @@
-use Rattle.zone_answer.proofs.Limits.{whole, needed}
-use Rattle.zone_answer.proofs.laws.replies_leave_out_what_has_no_room.Goals as goal
-
-pub returns-clause-whole : goal.returns-clause-whole
-returns-clause-whole c = whole
-
-pub returns-clause-needed : goal.returns-clause-needed
-returns-clause-needed c = needed

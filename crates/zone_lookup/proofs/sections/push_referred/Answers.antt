@@ -1,0 +1,46 @@
+use Rattle.std.proofs.Common.{◌≡◌, ◌++◌, refl, ap, ◌∙◌}
+use Rattle.std.proofs.lemmas.Result.{err_from_is_err_and}
+use Rattle.dns_rdata.specs.ZoneData.{rtype_of, data_fields}
+use Rattle.dns_wire.specs.Wire.{in_authority}
+use Rattle.zone_lookup.specs.Sending.{set_at_name}
+use Rattle.zone_lookup.proofs.Adding.{authority, record_with, typed_rest, set_is, set_more, set_refused, set_done}
+use Rattle.zone_lookup.proofs.sections.push_referred.Goals as goal
+
+pub records-init : goal.records-init
+records-init c =
+    let a = c.args in
+    record {
+      types = c.data-rest.ensures.types;
+      kept = λ h qs answers before stands. record {
+        done = before;
+        stands = stands;
+        limit = refl;
+        whole = ap (λ rs. before ++ rs) (set_is data_fields a.owner.now a.class c.ttl-ttl.result c.data-rest.result.now a.set.now c.ttl-ttl.ensures c.data-rest.ensures.fields);
+      };
+    }
+
+pub records-preserved : goal.records-preserved
+records-preserved c =
+    let a = c.args in
+    let typed = typed_rest rtype_of a.set.now.rtype c.records.rest.now c.in-Some.behind.now c.in-Some.rdata.now c.in-Some.ensures.cases.0 c.records.invariant.types in
+    let is : c.new.result ≡ record_with a.owner.now a.set.now.rtype a.class c.ttl-ttl.result (data_fields c.in-Some.rdata.now) = c.new.ensures ∙ rw (c.borrowed.ensures.value, typed.0) refl in
+    record {
+      types = typed.1;
+      kept = λ h qs answers before stands. set_more data_fields a.owner.now a.set.now.rtype a.class c.ttl-ttl.result c.records.rest.now c.in-Some.behind.now c.in-Some.rdata.now c.new.result 8 _ (λ rs. in_authority h qs answers rs)
+          (before ++ set_at_name a.owner.now a.class a.set.now) c.records.section a.section.now c.push.new.self _ (authority h qs answers) c.in-Some.ensures.cases.0 is (c.records.invariant.kept h qs answers before stands) c.in_ok-push.ensures.adds;
+    }
+
+pub returns-in_err-push : goal.returns-in_err-push
+returns-in_err-push c =
+    let from = err_from_is_err_and c.from_residual.result c.from_residual.ensures.1 in
+    let a = c.args in
+    let typed = typed_rest rtype_of a.set.now.rtype c.records.rest.now c.in-Some.behind.now c.in-Some.rdata.now c.in-Some.ensures.cases.0 c.records.invariant.types in
+    let is : c.new.result ≡ record_with a.owner.now a.set.now.rtype a.class c.ttl-ttl.result (data_fields c.in-Some.rdata.now) = c.new.ensures ∙ rw (c.borrowed.ensures.value, typed.0) refl in
+    rw (from.1, from.2) (λ h qs answers before stands. set_refused data_fields a.owner.now a.set.now.rtype a.class c.ttl-ttl.result c.records.rest.now c.in-Some.behind.now c.in-Some.rdata.now c.new.result 8 _ (λ rs. in_authority h qs answers rs)
+    (before ++ set_at_name a.owner.now a.class a.set.now) c.records.section a.section.now c.push.new.self _ _ (authority h qs answers) c.in-Some.ensures.cases.0 is (c.records.invariant.kept h qs answers before stands) c.in_err-push.ensures.adds)
+
+pub returns : goal.returns
+returns c =
+    let a = c.args in
+    λ h qs answers before stands. set_done data_fields a.owner.now a.set.now.rtype a.class c.ttl-ttl.result c.records.rest.now (λ rs. in_authority h qs answers rs) (before ++ set_at_name a.owner.now a.class a.set.now) c.records.section a.section.now _
+    c.in_default.ensures.cases (c.records.invariant.kept h qs answers before stands)

@@ -1,3 +1,0 @@
-pub mod Glue
-pub mod NameSets
-pub mod Parts

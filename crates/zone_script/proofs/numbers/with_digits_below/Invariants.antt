@@ -1,0 +1,8 @@
+use Rattle.std.proofs.Common.{◌≡◌, drop}
+use Rattle.std.specs.Prelude.{Some}
+use Rattle.zone_script.specs.ScriptLines as scripts
+use Rattle.zone_script.specs.Digits.{below}
+use Rattle.zone_script.proofs.numbers.with_digits_below.Given as goal
+
+abbrev pub invariant-loop-octet : goal.invariant-loop-octet
+invariant-loop-octet l = below l.bound (scripts.more_digits (Some l.number) (drop l.octet-index l.more)) ≡ below l.bound (scripts.more_digits (Some l.so_far) l.more)

@@ -1,0 +1,38 @@
+-- Where no reply can be made.
+use Rattle.std.proofs.Common.{◌≡◌, ℕ, ◌<◌, Bool, true, false, List, [], Option, Some, None, option_map, not, sym, ap, ◌∙◌}
+use Rattle.std.specs.Prelude.{◌==◌, if◌then◌else◌}
+use Rattle.dns_numbers.specs.Codes.{formerr}
+use Rattle.dns_wire.specs.Wire.{Building, Question, header_in}
+use Rattle.dns_wire.specs.Parse.{sole_question_in}
+use Rattle.zone_model.specs.Version.{Version}
+use Rattle.xfr_services.specs.Items.{Sending, one_reply, all_given}
+use Rattle.xfr_services.specs.Replying.{notimp, refused, error_replies}
+use Rattle.xfr_signing.specs.Failing.{fails, bare_len}
+use Rattle.xfr_services.specs.declared.requests.Request.{Request}
+use Rattle.xfr_services.specs.declared.services.CallResult.{CallResult}
+use Rattle.xfr_signing.proofs.Failing.{errors_fail}
+use Rattle.zone_serving.specs.ZoneReplies.{is_in_zone, zone_reply, replies_to_question, replies_to_sole, query_replies, query_sends, room}
+
+abbrev FailsOnly : List ℕ → Option (List CallResult) → Type 0
+FailsOnly request replies = fails (option_map all_given replies) ≡ true → 65535 < bare_len request
+
+errors : (request : List ℕ) (rcode : ℕ) → FailsOnly request (error_replies request rcode)
+errors request rcode e = (errors_fail request rcode).0 e
+
+in_zone : (request : List ℕ) (reply : Building) (inside : Bool) → FailsOnly request (if inside then Some (one_reply reply) else error_replies request refused)
+in_zone request reply true e = cc
+in_zone request reply false e = errors request refused e
+
+sole : (v : Version) (limit : ℕ) (request : List ℕ) (q : Option Question) → FailsOnly request (replies_to_sole v limit request q)
+sole v limit request None e = errors request formerr e
+sole v limit request (Some q) e = in_zone request (zone_reply v limit request q) (is_in_zone v q) e
+
+by_header : (v : Version) (limit : ℕ) (request : List ℕ) (q : Option Question) (response other : Bool)
+    → FailsOnly request (if response then Some [] else if other then error_replies request notimp else replies_to_sole v limit request q)
+by_header v limit request q true other e = cc
+by_header v limit request q false true e = errors request notimp e
+by_header v limit request q false false e = sole v limit request q e
+
+pub queries_fail : {M : Type 0} (v : Version) (r : Request M) (sent : Option (List Sending)) → sent ≡ query_sends v r → fails sent ≡ true → 65535 < bare_len r.message
+queries_fail v r sent is e =
+    by_header v (room r.transport r.reserved) r.message (sole_question_in r.message) (header_in r.message).qr (not ((header_in r.message).opcode == 0)) (ap fails (sym is) ∙ e)

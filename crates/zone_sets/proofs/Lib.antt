@@ -1,4 +1,0 @@
-pub mod FirstEntries
-pub mod Thinning
-mod InLowerCase
-mod Siblings

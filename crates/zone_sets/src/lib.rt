@@ -1,6 +1,0 @@
-//! Where an RRset stands in a version.
-#![tactic(auto)]
-
-mod set_key;
-
-pub use set_key::SetKey;

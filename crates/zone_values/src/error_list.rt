@@ -1,0 +1,123 @@
+// Refusals in order.
+ghost use Rattle.std.specs.Prelude.{◌≡◌, ◌++◌, ◌∷◌, [], ◌==◌, ◌<◌, length, OnOk, OnErr, IfOk, IfErr};
+ghost use Rattle.zone_values.specs.Invalid.{invalid_records};
+
+use crate::record_errors::{ContextError, RecordError};
+use dns_name::{StoredName, ToName};
+use std::alloc::{AllocError, Global};
+use std::fmt;
+use std::marker::Model;
+
+/// Refusals in the order in which they were added, each with the name that it is about.
+#[derive(Drop)]
+pub struct ZoneErrors<T: Drop> {
+    alloc: Global,
+    errors: Vec<(StoredName, T)>,
+}
+
+impl<T: Drop> Model for ZoneErrors<T> {
+    ghost use Rattle.std.specs.Prelude.{List};
+    ghost use Rattle.dns_name.specs.Names.{Name};
+
+    ghost Value = { List (Name × T) };
+
+    ghost view = { λ e. e.errors.items };
+}
+
+impl<T: Drop> ZoneErrors<T> {
+    /// No refusal.
+    pub fn new(alloc: Global) -> ZoneErrors<T>
+        ensures { result ≡ [] }
+    {
+        ZoneErrors {
+            alloc,
+            errors: Vec::new(alloc),
+        }
+    }
+
+    /// Adds one at the end. Without memory nothing is added.
+    pub fn add_error<N: ToName>(&mut self, name: &N, error: T) -> Result<(), AllocError>
+        ensures added { OnOk result (self.new ≡ self.old ++ (N.labels name.now, error) ∷ []) }
+        ensures kept { OnErr result (self.new ≡ self.old) }
+    {
+        let name = name.to_stored(self.alloc)?;
+        self.push(name, error)
+    }
+
+    /// The same with the name itself.
+    fn push(&mut self, name: StoredName, error: T) -> Result<(), AllocError>
+        ensures added { OnOk result (self.new ≡ self.old ++ (name, error) ∷ []) }
+        ensures kept { OnErr result (self.new ≡ self.old) }
+    {
+        Ok(self.errors.push((name, error))?)
+    }
+
+    /// Ok where there is none, else the refusals.
+    pub fn unwrap(self) -> Result<(), ZoneErrors<T>>
+        ensures none { OnOk result (self ≡ []) }
+        ensures some { IfErr result (λ e. e ≡ self) }
+        ensures exact { OnErr result (0 < length self) }
+    {
+        if self.errors.is_empty() {
+            Ok(())
+        } else {
+            Err(self)
+        }
+    }
+
+    /// Whether there is none.
+    pub fn is_empty(&self) -> bool
+        ensures { result ≡ (length self.now == 0) }
+    {
+        self.errors.is_empty()
+    }
+
+    /// How many there are.
+    pub fn len(&self) -> usize
+        ensures { result ≡ length self.now }
+    {
+        self.errors.len()
+    }
+}
+
+impl ZoneErrors<ContextError> {
+    /// What is wrong with records that were taken, as refusals of records: each is an `InvalidRecord`.
+    pub fn into_record_errors(self) -> Result<ZoneErrors<RecordError>, AllocError>
+        ensures { IfOk result (λ errors. errors ≡ invalid_records self) }
+    {
+        let mut errors = ZoneErrors::new(self.alloc);
+        for (name, error) in self.errors {
+            errors.push(name, RecordError::InvalidRecord(error))?;
+        }
+        Ok(errors)
+    }
+}
+
+impl<T: Drop> IntoIterator for ZoneErrors<T> {
+    ghost use Rattle.std.specs.Prelude.{◌≡◌};
+    ghost use Rattle.std.specs.declared.alloc.Global.{Global};
+    ghost use Rattle.std.specs.Iterator.Runs.{EveryRun, ItemsAre};
+    ghost use Rattle.std.specs.Vec.Iter.{into_iter_items, into_iter_steps};
+    ghost use Rattle.dns_name.specs.Names.{Name};
+
+    type Item = (StoredName, T);
+
+    type IntoIter = std::vec::IntoIter<(StoredName, T)>;
+
+    ghost into_iter_gives = { λ e r. (into_iter_items r ≡ e) × EveryRun (into_iter_steps {X = Name × T} {Z = Global}) (λ p. ItemsAre p (into_iter_items p.from)) };
+
+    fn into_iter(self) -> std::vec::IntoIter<(StoredName, T)> {
+        self.errors.into_iter()
+    }
+}
+
+impl<T: fmt::Display + Drop> fmt::Display for ZoneErrors<T> {
+    /// Each refusal after its name in quotes, with a comma after it, in brackets.
+    fn fmt<W: fmt::Write>(&self, f: &mut fmt::Formatter<W>) -> fmt::Result {
+        write!(f, "Zone file errors: [")?;
+        for entry in &self.errors {
+            write!(f, "'{}': {},", entry.0, entry.1)?;
+        }
+        write!(f, "]")
+    }
+}
