@@ -30,7 +30,7 @@ AsksFor words mode = ⊥
 
 -- the words have no form
 abbrev pub usage_line : List ℕ
-usage_line = codes "usage: zone_secondary axfr FILE / ixfr FILE" ++ 10 ∷ []
+usage_line = codes "usage: zone_peer secondary axfr FILE / ixfr FILE" ++ 10 ∷ []
 
 -- nothing passed over the streams
 pub record Untouched (x : Crossing) : Type 0 where

@@ -32,7 +32,7 @@ use zone_script::script::{Script, ScriptError, parse};
 use zone_script::words::transfer_of;
 
 /// The usage line.
-const USAGE: &[u8] = b"usage: zone_secondary axfr FILE / ixfr FILE\n";
+const USAGE: &[u8] = b"usage: zone_peer secondary axfr FILE / ixfr FILE\n";
 
 /// The kind of transfer that two words ask for: `axfr` or `ixfr`, and a file after it, whatever its name.
 pub fn mode_asked(words: &[String]) -> Option<XfrMode>
