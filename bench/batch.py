@@ -9,19 +9,17 @@ ready, on 100,000 and on 1,000,000 records, and prints:
 - the instructions of the whole run, by valgrind, and how many that is for one record;
 - how many times those of the fewer records the more took, which ends the run with status 1 where it passes 10.5.
 
-The program is no crate of the gate. Without `--program` a copy of the crates gains it, in a folder of its own, where `rt run` proves and
-builds it: a minute or two where `rt check` kept what stands below, else as long as that takes.
+The program is no crate of the gate. Without `--program` a copy of the crates and their out/ folders gains it (bench/programs.py), where `rt run`
+proves and builds it: a minute or two where the libraries below are built, else as long as that takes.
 """
 
 import argparse
-import os
 import re
-import shutil
 import subprocess
 import sys
 import tempfile
 
-from transfer import TOP
+from programs import build, needs
 
 SIZES = [100_000, 1_000_000]
 
@@ -31,26 +29,7 @@ MOST = 10.5
 # The octets of a message beside its records: the header and the question.
 BEGINNING = 12 + len(b"\x07example\0") + 4
 
-NAME = "bench_batch"
-
-
-def build(folder):
-    """The program, proved and built in a copy of the repository."""
-    shutil.copytree(f"{TOP}/crates", f"{folder}/crates", ignore=shutil.ignore_patterns("out", "must-fail"))
-    for name in ["HANDLES", "crates.txt"]:
-        shutil.copy(f"{TOP}/{name}", folder)
-    with open(f"{folder}/crates.txt", "a") as it:
-        it.write(f"{NAME}: xfr_batch dns_wire\n")
-    crate = f"{folder}/crates/{NAME}"
-    os.makedirs(f"{crate}/src")
-    # Under another name there, since the gate takes no .rt file outside a crate.
-    shutil.copy(f"{TOP}/bench/batch/main.rt.txt", f"{crate}/src/main.rt")
-    with open(f"{crate}/stdout", "w") as it:
-        it.write(said(3))
-    done = subprocess.run(["rt", "run"], cwd=crate, capture_output=True, text=True)
-    if done.returncode != 0:
-        sys.exit(f"rt run: status {done.returncode}\n{done.stdout}{done.stderr}")
-    return f"{crate}/out/{NAME}"
+LIBRARIES = "xfr_batch dns_wire"
 
 
 def said(records):
@@ -72,10 +51,9 @@ def main():
     parser = argparse.ArgumentParser(description=__doc__, formatter_class=argparse.RawDescriptionHelpFormatter)
     parser.add_argument("--program", help="the program, built before")
     asked = parser.parse_args()
-    if shutil.which("valgrind") is None:
-        sys.exit("no valgrind")
+    needs.programs("valgrind")
     with tempfile.TemporaryDirectory(prefix="bench-") as folder:
-        program = asked.program or build(folder)
+        program = asked.program or build("batch", LIBRARIES, folder)
         counted = [instructions(program, it) for it in SIZES]
     print(f"{'records':>8} {'instructions':>13} {'per record':>11} {'ratio':>6}")
     for records, count in zip(SIZES, counted):

@@ -3,8 +3,8 @@
 
 usage: python3 bench/edit.py [--program FILE] [--runs N] [--edits N]
 
-It runs the program that `rt run` built in crates/bench_edits, on zones of 1,000, 10,000 and 100,000 sets beside the SOA, without edits and with
-so many. An edit adds one address, at an old name and at a new one in turn; its commit counts the SOA's serial on and tells the difference.
+It runs the program of bench/edits on zones of 1,000, 10,000 and 100,000 sets beside the SOA, without edits and with so
+many. An edit adds one address, at an old name and at a new one in turn; its commit counts the SOA's serial on and tells the difference.
 
 It prints, for each size of zone:
 
@@ -15,15 +15,20 @@ beside each how many times that of the smallest zone it is. What grows with the 
 version's pages, a counted pointer for each 256 names or fewer, and a commit that counts the serial on copies it once more; pages, nodes and
 records are shared. The difference, and DS sets to leave out, are looked for at the keys that edits touched. Time is the processor's, the least of
 the runs; so short a time wants many edits (`--edits 8000`). Only ratios say something on another machine.
+
+The program is no crate of the gate. Without `--program` a copy of the crates and their out/ folders gains it (bench/programs.py), where `rt run`
+proves and builds it: a few minutes where the libraries below are built, else as long as that takes.
 """
 
 import argparse
 import os
 import subprocess
 import sys
+import tempfile
 
-from transfer import TOP
+from programs import build, needs
 
+LIBRARIES = "zone_sessions zone_diffs zone_versions zone_values zone_model dns_rdata dns_name dns_numbers thiserror"
 SIZES = [1_000, 10_000, 100_000]
 
 
@@ -51,25 +56,27 @@ def measured(program, sets, edits, runs):
     return min(processor_time(how) for _ in range(runs)), peak
 
 
+def row(program, sets, asked):
+    """What a zone of so many sets takes to open, one edit of it, and the memory of both."""
+    opened, before = measured(program, sets, 0, asked.runs)
+    edited, after = measured(program, sets, asked.edits, asked.runs)
+    return opened * 1e3, (edited - opened) / asked.edits * 1e3, before, after, after - before
+
+
 def main():
     parser = argparse.ArgumentParser(description=__doc__, formatter_class=argparse.RawDescriptionHelpFormatter)
-    parser.add_argument("--program", default=f"{TOP}/crates/bench_edits/out/bench_edits")
+    parser.add_argument("--program", help="the program, built before")
     parser.add_argument("--runs", type=int, default=5, help="runs for each number, of which the least time counts")
     parser.add_argument("--edits", type=int, default=20)
     asked = parser.parse_args()
-    if not os.path.exists(asked.program):
-        sys.exit(f"no {asked.program}: run rt run in crates/bench_edits first")
-    if not os.path.exists("/usr/bin/time"):
-        sys.exit("no /usr/bin/time")
-    rows = []
-    for sets in SIZES:
-        opened, before = measured(asked.program, sets, 0, asked.runs)
-        edited, after = measured(asked.program, sets, asked.edits, asked.runs)
-        rows.append((opened * 1e3, (edited - opened) / asked.edits * 1e3, before, after, after - before))
+    needs.programs("/usr/bin/time")
+    with tempfile.TemporaryDirectory(prefix="bench-") as folder:
+        program = asked.program or build("edits", LIBRARIES, folder)
+        rows = [row(program, sets, asked) for sets in SIZES]
     titles = ["open, ms", "one edit, ms", "KB, no edits", f"KB, {asked.edits} edits", "KB more"]
     print(f"{'sets':>8}" + "".join(f"{it:>14} {'ratio':>7}" for it in titles))
-    for sets, row in zip(SIZES, rows):
-        print(f"{sets:>8}" + "".join(f"{value:>14.3f} {ratio(value, base)}" for value, base in zip(row, rows[0])))
+    for sets, found in zip(SIZES, rows):
+        print(f"{sets:>8}" + "".join(f"{value:>14.3f} {ratio(value, base)}" for value, base in zip(found, rows[0])))
 
 
 def ratio(value, base):

@@ -24,6 +24,7 @@ import subprocess
 import sys
 import tempfile
 
+from programs import needs
 from transfer import HAS_VALGRIND, TOP, self_counts
 
 SIZES = [1_000, 10_000, 100_000]
@@ -148,10 +149,8 @@ def main():
     parser.add_argument("--seed", type=int, default=7)
     parser.add_argument("--shares", type=int, default=10_000, help="the number of hosts whose instructions are told by step")
     asked = parser.parse_args()
-    if not os.path.exists(asked.program):
-        sys.exit(f"no {asked.program}: run rt run in crates/zonesync first")
-    if not os.path.exists("/usr/bin/time"):
-        sys.exit("no /usr/bin/time")
+    needs.file(asked.program, "run rt run in crates/zonesync first")
+    needs.programs("/usr/bin/time")
     with tempfile.TemporaryDirectory(prefix="bench-") as folder:
         bench = Bench(os.path.abspath(asked.program), folder, asked.seed, asked.runs)
         table(bench)

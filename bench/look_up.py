@@ -22,6 +22,7 @@ import random
 import sys
 import tempfile
 
+from programs import needs
 from transfer import A, APEX, KEY_NAME, NS, SOA, SOA_DATA, TOP, processor_time, record, run
 
 SIZES = [1_000, 10_000, 100_000]
@@ -108,8 +109,8 @@ def main():
     parser.add_argument("--runs", type=int, default=5, help="runs for each time, of which the least counts")
     parser.add_argument("--questions", type=int, default=50_000)
     asked = parser.parse_args()
-    if not os.path.exists(asked.program):
-        sys.exit(f"no {asked.program}: run rt run in crates/zonesync first")
+    needs.file(asked.program, "run rt run in crates/zonesync first")
+    needs.programs("/usr/bin/time")
     with tempfile.TemporaryDirectory(prefix="bench-") as folder:
         found = [times(asked.program, folder, names, asked.runs, asked.questions) for names in SIZES]
     print(f"{'question':<12}" + "".join(f"{it:>10} names" for it in SIZES) + f"{'ratio':>8}")

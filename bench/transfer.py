@@ -31,7 +31,7 @@ import subprocess
 import sys
 import tempfile
 
-TOP = os.path.dirname(os.path.dirname(os.path.abspath(__file__)))
+from programs import TOP, needs
 
 APEX = b"\x07example\0"
 SOA_DATA = b"\0\0" + (1).to_bytes(4, "big") + bytes(16)
@@ -348,10 +348,8 @@ def main():
     parser.add_argument("--shape", choices=sorted(SHAPES), action="append", help="only zones of this shape")
     parser.add_argument("--changes", action="store_true", help="only changes of a zone")
     asked = parser.parse_args()
-    if not os.path.exists(asked.program):
-        sys.exit(f"no {asked.program}: run rt run in crates/zonesync first")
-    if not os.path.exists("/usr/bin/time"):
-        sys.exit("no /usr/bin/time")
+    needs.file(asked.program, "run rt run in crates/zonesync first")
+    needs.programs("/usr/bin/time")
     with tempfile.TemporaryDirectory(prefix="bench-") as folder:
         bench = Bench(asked.program, folder, asked.runs)
         for name in asked.shape or ([] if asked.changes else SHAPES):

@@ -19,6 +19,10 @@ version, `equal`, `less` and `greater` one SOA. Those behind are wrong in one wa
 
 from unittest import mock
 
+import needs
+
+needs.dnspython()
+
 import dns.flags
 import dns.message
 import dns.name

@@ -18,6 +18,10 @@ records are, their order in the output (RFC 4034, 6.1) and how long header, ques
 
 import os
 
+import needs
+
+needs.dnspython()
+
 import dns.message
 import dns.name
 import dns.rdata

@@ -12,6 +12,10 @@ whose tests compare the fields with the values that stand here.
 
 import io
 
+import needs
+
+needs.dnspython()
+
 import dns.name
 import dns.rdata
 import dns.rdataclass

@@ -20,6 +20,10 @@ digests the next message (RFC 8945, 5.2.2.1 and 5.3). Where MACs are whole, dnsp
 import struct
 from unittest import mock
 
+import needs
+
+needs.dnspython()
+
 import dns.flags
 import dns.message
 import dns.name

@@ -36,6 +36,10 @@ import hashlib
 import hmac
 from unittest import mock
 
+import needs
+
+needs.dnspython()
+
 import dns.edns
 import dns.flags
 import dns.message

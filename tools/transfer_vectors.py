@@ -15,6 +15,10 @@ The zone `jain.ad.jp.` is the example of RFC 1995, 7, its letters in lower case,
 zone, `lone` by one SOA, `equal` by two; `events` answers AXFR for `example.com.`. In the zone `example.` are five cuts and two aliases.
 """
 
+import needs
+
+needs.dnspython()
+
 import dns.flags
 import dns.message
 import dns.name

@@ -17,6 +17,10 @@ and report are, docs/example.zone is a master file.
 import argparse
 import sys
 
+import needs
+
+needs.dnspython()
+
 import dns.exception
 import dns.name
 import dns.rdata
