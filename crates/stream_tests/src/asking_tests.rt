@@ -51,7 +51,7 @@ fn reply<R: Abort>(rt: &R, alloc: Global, most: usize, failing: Vec<u64>) -> Mem
 }
 
 /// The key `key.` for HMAC-SHA256 whose secret is 0, 1, 2.
-fn shared_key<R: Abort>(rt: &R) -> Key {
+pub(crate) fn shared_key<R: Abort>(rt: &R) -> Key {
     let name = NameRef::from_octets(b"\x03key\0").expect(rt, "a name");
     let made = Key::new(
         Algorithm::Sha256,
@@ -64,7 +64,7 @@ fn shared_key<R: Abort>(rt: &R) -> Key {
 }
 
 /// The zone `example.` in class IN without records.
-fn empty_zone<R: Abort>(rt: &R, alloc: Global) -> ZoneApex {
+pub(crate) fn empty_zone<R: Abort>(rt: &R, alloc: Global) -> ZoneApex {
     let apex = NameRef::from_octets(b"\x07example\0").expect(rt, "a name");
     let apex = apex.store(alloc).expect(rt, "memory");
     ZoneApex::new(alloc, apex, Class::IN).expect(rt, "memory")

@@ -1,4 +1,5 @@
-//! Tests of messages in streams: frames, whole and cut off, requests that are served, and a transfer that is asked for.
+//! Tests of messages in streams: frames, whole and cut off, requests that are served, a transfer that is asked for,
+//! and transfers of which both halves run.
 #![tactic(auto)]
 
 #[cfg(test)]
@@ -7,5 +8,7 @@ mod asking_tests;
 mod common;
 #[cfg(test)]
 mod frame_tests;
+#[cfg(test)]
+mod halves_tests;
 #[cfg(test)]
 mod serving_tests;
