@@ -113,3 +113,7 @@ rolled_exchanges limits over a x before handles s t answer e k = record {
 
 pub under_way : (a : Asking) (c : ClientState) (s : Session) (before handles : List Commit) → Stands c s a [] before handles → IsSome c.exchange
 under_way a c s before handles st = subst IsSome (sym st.under_way) refl
+
+-- the same exchange of a session that is told otherwise
+pub exchanges_at : (limits : Limits) (over : Option ℕ) (a : Asking) (x : Crossing) (before handles : List Commit) (s t : Session) (answer : Result SyncOk AskError) → Exchanges limits over a x before handles s answer → s ≡ t → Exchanges limits over a x before handles t answer
+exchanges_at limits over a x before handles s t answer k e = subst (λ (u : Session). Exchanges limits over a x before handles u answer) e k

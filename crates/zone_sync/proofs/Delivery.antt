@@ -24,7 +24,7 @@ use Rattle.zone_sync.specs.Serving.{SendsAll, FailsAfter, HasBegun, RepliedTo, N
 use Rattle.xfr_client.specs.Transfers.{given_up, course_answered, AnswersCourse, HasShort}
 use Rattle.zone_sync.specs.LinkTransfers.{IsEnded, NotAsked, ComesAfter, Asks, SyncSays}
 use Rattle.zone_sync.specs.Fitting.{sent_pages, BaseMatches}
-use Rattle.zone_sync.specs.Delivery.{IsGranted, WasHonest, Delivers}
+use Rattle.zone_sync.specs.Delivery.{IsGranted, WasHonest, Delivers, Synchronizes}
 use Rattle.xfr_outcomes.specs.declared.outcome.SyncOk.{SyncOk}
 use Rattle.xfr_outcomes.specs.declared.outcome.SyncError.{SyncError}
 use Rattle.xfr_outcomes.specs.declared.outcome.SyncError.TheVariants as why
@@ -347,3 +347,8 @@ delivered Sends a at longest v None new f g before handles s answer grant h k fa
 delivered Sends a at longest v (Some o) None f g before handles s answer grant h k fault = absurd h
 delivered Sends a at longest v (Some o) (Some n) f g before handles s answer grant h k fault =
     delivers Sends a at longest v grant (request_has_header a) o n before handles s f g h.0 h.1 answer k fault
+
+-- the same promise of a session that is told otherwise
+pub synchronizes_at : (Sends : List ℕ → Option (List Sending) → Type 0) (a : Asking) (at longest : ℕ) (old new : Option LinkLists) (f g : ℕ) (before handles : List Commit) (s t : Session) (answer : Result SyncOk SyncError)
+    → Synchronizes Sends a at longest old new f g before handles s answer → s ≡ t → Synchronizes Sends a at longest old new f g before handles t answer
+synchronizes_at Sends a at longest old new f g before handles s t answer k e = subst (λ (x : Session). Synchronizes Sends a at longest old new f g before handles x answer) e k
