@@ -57,7 +57,8 @@ pub record Transferred (limits : Limits) (a : Asking) (x : Crossing) : Type 0 wh
   pub says : ExchangesByRule limits a x [] handles session answer
 
 -- a transfer that was answered so ends with that status, and octets are its report
-pub record AskReports (answer : Result SyncOk AskError) (handles : List Commit) (s : Session) (queries : List (Name × ℕ)) (octets : List ℕ) (status : Status) : Type 0 where
+pub record AskReports (answer : Result SyncOk AskError) (handles : List Commit) (s : Session) (queries : List (Name × ℕ)) (octets : List ℕ)
+    (status : Status) : Type 0 where
   pub ended : status ≡ ask_status answer
   pub is : octets ≡ ask_report answer (length handles) s.current.version queries
 

@@ -83,7 +83,8 @@ pub fn run_secondary<R, F: Source, S: Source, K: Sink, E: Sink>(
     // isn't known, that is written alone.
     ensures { Runs (wishes.wish_of (map string_bytes words.now)) opened at
         (met (F.remaining file.old) (F.remaining file.new) (F.faults file.old) (F.faults file.new)
-        (crossing (S.remaining src.old) (S.remaining src.new) (K.taken sink.old) (K.taken sink.new)) (S.faults src.old) (S.faults src.new) (K.faults sink.old) (K.faults sink.new)
+        (crossing (S.remaining src.old) (S.remaining src.new) (K.taken sink.old) (K.taken sink.new))
+        (S.faults src.old) (S.faults src.new) (K.faults sink.old) (K.faults sink.new)
         (E.taken report.old) (E.taken report.new) (E.faults report.old) (E.faults report.new)) result }
 {
     match wish_of(words) {
@@ -109,7 +110,8 @@ fn run_wish<R, F: Source, S: Source, K: Sink, E: Sink>(
 ) -> RunEnd
     ensures { RunsWish (wished (mode, limits)) opened at
         (met (F.remaining file.old) (F.remaining file.new) (F.faults file.old) (F.faults file.new)
-        (crossing (S.remaining src.old) (S.remaining src.new) (K.taken sink.old) (K.taken sink.new)) (S.faults src.old) (S.faults src.new) (K.faults sink.old) (K.faults sink.new)
+        (crossing (S.remaining src.old) (S.remaining src.new) (K.taken sink.old) (K.taken sink.new))
+        (S.faults src.old) (S.faults src.new) (K.faults sink.old) (K.faults sink.new)
         (E.taken report.old) (E.taken report.new) (E.faults report.old) (E.faults report.new)) result }
 {
     if opened {
@@ -133,7 +135,8 @@ fn run_at<R, F: Source, S: Source, K: Sink, E: Sink>(
 ) -> RunEnd
     ensures { RunsAt (wished (mode, limits)) at
         (met (F.remaining file.old) (F.remaining file.new) (F.faults file.old) (F.faults file.new)
-        (crossing (S.remaining src.old) (S.remaining src.new) (K.taken sink.old) (K.taken sink.new)) (S.faults src.old) (S.faults src.new) (K.faults sink.old) (K.faults sink.new)
+        (crossing (S.remaining src.old) (S.remaining src.new) (K.taken sink.old) (K.taken sink.new))
+        (S.faults src.old) (S.faults src.new) (K.faults sink.old) (K.faults sink.new)
         (E.taken report.old) (E.taken report.new) (E.faults report.old) (E.faults report.new)) result }
 {
     match at {
