@@ -1,9 +1,11 @@
 //! The README's example: a zone transfer over a link of one's own.
 
 use crate::common::{empty_zone, shared_key};
+use crate::edited_reply_tests::large_primary;
 use crate::exchanges::{Primary, at, primary_of};
 use dns_wire::MessageBuf;
 use std::alloc::Global;
+use std::process::Abort;
 use tsig_port::{Key, Time48};
 use xfr_server::{CallResult, ReplyStream, Request, Service, TransportSpecificContext};
 use zone_store::{ReadZone, WriteZone};
@@ -17,8 +19,19 @@ fn fetch_zone<R>(
     key: &Key,
     now: Time48,
 ) -> Result<SyncOk, SyncError> {
-    let mut client = XfrClient::new(connection.alloc, key, XfrMode::Axfr, now);
-    let request = client.request(session, 65_535)?;
+    let mut client = XfrClient::new(connection.alloc, session, key, XfrMode::Axfr, now);
+    let outcome = exchange(rt, connection, &mut client);
+    client.into_session();
+    outcome
+}
+
+/// Sends the request of a client, and gives it the replies.
+fn exchange<R>(
+    rt: &R,
+    connection: &mut Connection,
+    client: &mut XfrClient<'_, '_>,
+) -> Result<SyncOk, SyncError> {
+    let request = client.request(65_535)?;
     connection.send(rt, request.as_slice())?;
     let mut versions = Vec::new(connection.alloc);
     let mut outcome = None;
@@ -27,7 +40,7 @@ fn fetch_zone<R>(
             break;
         }
         let reply = connection.receive().ok_or(SyncError::Ended)?;
-        outcome = client.take(rt, session, reply, &mut versions)?;
+        outcome = client.take(rt, reply, &mut versions)?;
     }
     outcome.ok_or(SyncError::TooManyMessages)
 }
@@ -38,6 +51,8 @@ struct Connection {
     alloc: Global,
     primary: Primary,
     replies: Vec<Vec<u8>>,
+    // How many more it gives before it is cut.
+    left: usize,
 }
 
 impl Connection {
@@ -52,9 +67,10 @@ impl Connection {
 
     /// Takes the next reply, where there is one.
     fn receive(&mut self) -> Option<Vec<u8>> {
-        if self.replies.is_empty() {
+        if self.replies.is_empty() || self.left == 0 {
             return None;
         }
+        self.left -= 1;
         Some(self.replies.remove(0))
     }
 }
@@ -98,25 +114,51 @@ fn set_count(version: &ReadZone) -> usize {
     count
 }
 
-#[test]
-fn a_zone_comes_over_a_link_of_ones_own(rt: HostRuntime) {
-    let alloc = rt.alloc();
-    let key = shared_key(&rt);
+/// Fetches a zone of a primary over a link that gives so many replies, and then publishes what is pending: the answer, the version's number
+/// then, and how many RRsets it has.
+fn fetched<R: Abort>(
+    rt: &R,
+    alloc: Global,
+    key: &Key,
+    primary: Primary,
+    left: usize,
+) -> (Result<SyncOk, SyncError>, u64, usize) {
     let mut connection = Connection {
         alloc,
-        primary: primary_of(&rt, alloc, "soa-1 cut-1 t-1 t-2", "", &key),
+        primary,
         replies: Vec::new(alloc),
+        left,
     };
-    let mut zone = empty_zone(&rt, alloc);
+    let mut zone = empty_zone(rt, alloc);
     let mut session = zone.write(alloc);
-    let outcome = fetch_zone(&rt, &mut connection, &mut session, &key, at());
-    assert_eq!(rt; outcome, Ok(SyncOk::Updated));
-    let version = session.handle().expect(&rt, "memory");
-    assert_eq!(rt; version.version(), 1);
-    assert_eq!(rt; set_count(&version), 3);
+    let outcome = fetch_zone(rt, &mut connection, &mut session, key, at());
+    drop(session.commit(rt, false).expect(rt, "a version"));
+    let version = session.handle().expect(rt, "memory");
+    let found = (outcome, version.version_number(), set_count(&version));
     drop(version);
     drop(session);
     drop(zone);
     drop(connection);
+    found
+}
+
+#[test]
+fn a_zone_comes_over_a_link_of_ones_own(rt: HostRuntime) {
+    let alloc = rt.alloc();
+    let key = shared_key(&rt);
+    let primary = primary_of(&rt, alloc, "soa-1 cut-1 t-1 t-2", "", &key);
+    let found = fetched(&rt, alloc, &key, primary, 9);
     drop(key);
+    assert_eq!(rt; found, (Ok(SyncOk::Updated), 2, 3));
+}
+
+// Two of three messages came, and none of the records in them is published.
+#[test]
+fn a_link_of_ones_own_is_cut(rt: HostRuntime) {
+    let alloc = rt.alloc();
+    let key = shared_key(&rt);
+    let primary = large_primary(&rt, alloc, &key);
+    let found = fetched(&rt, alloc, &key, primary, 2);
+    drop(key);
+    assert_eq!(rt; found, (Err(SyncError::Ended), 1, 0));
 }

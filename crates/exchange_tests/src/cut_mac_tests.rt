@@ -79,15 +79,14 @@ fn large_replies<R: Abort>(rt: &R, alloc: Global, request: MessageBuf) -> Vec<Ve
 /// What a client says of a reply, and how many versions there are then.
 fn takes<R: Abort>(
     rt: &R,
-    client: &mut XfrClient,
-    session: &mut WriteZone<'_>,
+    client: &mut XfrClient<'_, '_>,
     made: &mut Vec<ReadZone>,
     octets: Vec<u8>,
     wanted: (Result<Option<SyncOk>, SyncError>, usize),
 ) {
     let open = client.is_open();
     assert!(rt; open);
-    let taken = client.take(rt, session, octets, made);
+    let taken = client.take(rt, octets, made);
     is(rt, (taken, made.len()), wanted);
 }
 
@@ -103,57 +102,29 @@ fn transfers<R: Abort>(rt: &R, alloc: Global, is_damaged: bool) {
     let key = short_key(rt);
     let mut zone = empty_zone(rt, alloc);
     let mut session = zone.write(alloc);
-    let mut client = XfrClient::new(alloc, &key, XfrMode::Axfr, at());
+    let mut client = XfrClient::new(alloc, &mut session, &key, XfrMode::Axfr, at());
     drop(key);
-    let asked = client.request(&mut session, 65_535);
+    let asked = client.request(65_535);
     let mut replies = large_replies(rt, alloc, asked.expect(rt, "a request"));
     let mut made = Vec::new(alloc);
     let first = next_reply(rt, &mut replies, 126);
-    takes(
-        rt,
-        &mut client,
-        &mut session,
-        &mut made,
-        first,
-        (Ok(None), 0),
-    );
+    takes(rt, &mut client, &mut made, first, (Ok(None), 0));
     let mut second = next_reply(rt, &mut replies, 65_504);
     if is_damaged {
         let octet = second.get_mut(65_497).expect(rt, "an octet");
         *octet = *octet ^ 1;
         let refused = Err(SyncError::Tsig(ValidationError::BadSig));
-        takes(
-            rt,
-            &mut client,
-            &mut session,
-            &mut made,
-            second,
-            (refused, 0),
-        );
+        takes(rt, &mut client, &mut made, second, (refused, 0));
     } else {
-        takes(
-            rt,
-            &mut client,
-            &mut session,
-            &mut made,
-            second,
-            (Ok(None), 0),
-        );
+        takes(rt, &mut client, &mut made, second, (Ok(None), 0));
         let third = next_reply(rt, &mut replies, 126);
         let updated = Ok(Some(SyncOk::Updated));
-        takes(
-            rt,
-            &mut client,
-            &mut session,
-            &mut made,
-            third,
-            (updated, 1),
-        );
+        takes(rt, &mut client, &mut made, third, (updated, 1));
         is(rt, replies.len(), 0);
     }
     drop(replies);
     drop(made);
-    drop(client);
+    client.into_session();
     let number = session.handle().expect(rt, "memory").version_number();
     drop(session);
     drop(zone);

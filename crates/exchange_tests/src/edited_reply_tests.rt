@@ -112,7 +112,7 @@ fn edits_of<R: Abort>(rt: &R, alloc: Global, text: &str) -> Vec<ReplyEdit> {
 }
 
 /// A primary whose zone opened with an SOA record of serial 1, and has one of serial 2 and a TXT record of 65,400 octets of data since.
-fn large_primary<R: Abort>(rt: &R, alloc: Global, key: &Key) -> Primary {
+pub(crate) fn large_primary<R: Abort>(rt: &R, alloc: Global, key: &Key) -> Primary {
     let mut zone = zone_of(rt, alloc, "soa-1", 0);
     let mut session = zone.write(alloc);
     let mut provider = provider_of(rt, alloc, &mut session, key);
@@ -211,9 +211,9 @@ fn replies_with<R: Abort>(
     count: u8,
     is_signed: bool,
 ) -> Vec<Vec<u8>> {
-    let mut client = XfrClient::new(alloc, key, XfrMode::Axfr, at());
-    let mut request = client.request(session, 65_535).expect(rt, "a request");
-    drop(client);
+    let mut client = XfrClient::new(alloc, session, key, XfrMode::Axfr, at());
+    let mut request = client.request(65_535).expect(rt, "a request");
+    client.into_session();
     let checked = ServerSequence::request(key, &mut request, at());
     drop(request);
     let found = checked.ok().expect(rt, "accepted");

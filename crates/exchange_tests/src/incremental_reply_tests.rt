@@ -53,9 +53,9 @@ fn answers<R: Abort>(
 ) -> String {
     let (asked, replies) = stream_of(word).expect(rt, "a stream");
     let key = shared_key(rt);
-    let mut client = XfrClient::new(alloc, &key, mode, at());
+    let mut client = XfrClient::new(alloc, session, &key, mode, at());
     drop(key);
-    let request = client.request(session, 65_535).expect(rt, "a request");
+    let request = client.request(65_535).expect(rt, "a request");
     let wanted = octets_of(rt, alloc, asked);
     is(rt, request.as_slice(), wanted.as_slice());
     drop(wanted);
@@ -64,14 +64,14 @@ fn answers<R: Abort>(
     for digits in replies.split_ascii_whitespace() {
         let open = client.is_open();
         assert!(rt; open);
-        let taken = client.take(rt, session, octets_of(rt, alloc, digits), made);
+        let taken = client.take(rt, octets_of(rt, alloc, digits), made);
         let told = format!(in alloc; " {taken:?} {}", made.len()).expect(rt, "memory");
         let pushed = text.push_str(told.as_str());
         drop(told);
         pushed.expect(rt, "memory");
     }
     is(rt, client.is_open(), false);
-    drop(client);
+    client.into_session();
     text
 }
 

@@ -446,15 +446,14 @@ pub(crate) fn signed_soa<R: Abort>(
 fn makes_nothing<R: Abort>(
     rt: &R,
     alloc: Global,
-    client: &mut XfrClient,
-    session: &mut WriteZone<'_>,
+    client: &mut XfrClient<'_, '_>,
     octets: Vec<u8>,
     wanted: Result<Option<SyncOk>, SyncError>,
 ) {
     let open = client.is_open();
     assert!(rt; open);
     let mut made = Vec::new(alloc);
-    let taken = client.take(rt, session, octets, &mut made);
+    let taken = client.take(rt, octets, &mut made);
     is(rt, taken, wanted);
     is(rt, made.len(), 0);
     drop(made);
@@ -468,8 +467,8 @@ fn an_unsigned_reply_after_a_signed_one(rt: HostRuntime) {
     let key = shared_key(&rt);
     let mut zone = empty_zone(&rt, alloc);
     let mut session = zone.write(alloc);
-    let mut client = XfrClient::new(alloc, &key, XfrMode::Axfr, now);
-    let asked = client.request(&mut session, 65_535);
+    let mut client = XfrClient::new(alloc, &mut session, &key, XfrMode::Axfr, now);
+    let asked = client.request(65_535);
     let mut request = asked.expect(&rt, "a request");
     let id = request.header().id;
     let checked = ServerSequence::request(&key, &mut request, now);
@@ -478,12 +477,12 @@ fn an_unsigned_reply_after_a_signed_one(rt: HostRuntime) {
     let mut server = found.expect(&rt, "a TSIG");
     let signed = signed_soa(&rt, alloc, &mut server, id, now);
     drop(server);
-    makes_nothing(&rt, alloc, &mut client, &mut session, signed, Ok(None));
+    makes_nothing(&rt, alloc, &mut client, signed, Ok(None));
     let bare = reply(alloc, id, "asked soa").expect(&rt, "a reply");
     let octets = bare.finish().into_octets();
     let wanted = Err(SyncError::Tsig(ValidationError::TooManyUnsigned));
-    makes_nothing(&rt, alloc, &mut client, &mut session, octets, wanted);
-    drop(client);
+    makes_nothing(&rt, alloc, &mut client, octets, wanted);
+    client.into_session();
     drop(session);
     drop(zone);
     drop(key);

@@ -119,27 +119,25 @@ fn read_of<'m, R: Abort>(rt: &R, octets: &'m [u8]) -> ReadRecord<'m> {
 /// Applies an update, its record by octets.
 fn apply_octets<R: Abort>(
     rt: &R,
-    updater: &mut ZoneUpdater,
-    session: &mut WriteZone<'_>,
+    updater: &mut ZoneUpdater<'_, '_>,
     kind: Kind,
     octets: &[u8],
 ) -> Result<Option<InMemoryZoneDiff>, update::Error> {
     let update = update_of(kind, read_of(rt, octets));
-    updater.apply(rt, session, update)
+    updater.apply(rt, update)
 }
 
 /// Applies an update, its record by a word.
 fn apply<R: Abort>(
     rt: &R,
     alloc: Global,
-    updater: &mut ZoneUpdater,
-    session: &mut WriteZone<'_>,
+    updater: &mut ZoneUpdater<'_, '_>,
     kind: &str,
     word: &str,
 ) -> Result<Told, update::Error> {
     let kind = kind_of(kind).expect(rt, "a kind of update");
     let octets = octets_at(rt, alloc, RECORDS, word);
-    let told = apply_octets(rt, updater, session, kind, octets.as_slice());
+    let told = apply_octets(rt, updater, kind, octets.as_slice());
     drop(octets);
     match told {
         Ok(told) => Ok(counted(told)),
@@ -151,30 +149,29 @@ fn apply<R: Abort>(
 fn applies<R: Abort>(
     rt: &R,
     alloc: Global,
-    updater: &mut ZoneUpdater,
-    session: &mut WriteZone<'_>,
+    updater: &mut ZoneUpdater<'_, '_>,
     lines: &str,
 ) {
     for line in lines.split('\n') {
         let (kind, row) = line.split_once(' ').expect(rt, "an update");
         let (word, wanted) = row.split_once(' ').expect(rt, "a record");
-        let told = apply(rt, alloc, updater, session, kind, word);
+        let told = apply(rt, alloc, updater, kind, word);
         let told = format!(in alloc; "{told:?}").expect(rt, "memory");
         is(rt, told.as_str(), wanted);
         drop(told);
     }
 }
 
-/// Applies the updates of lines by an updater of its own.
+/// Applies the updates of lines by an updater of its own, behind which nothing is pending.
 pub(crate) fn applies_anew<R: Abort>(
     rt: &R,
     alloc: Global,
     session: &mut WriteZone<'_>,
     lines: &str,
 ) {
-    let mut updater = ZoneUpdater::new(alloc);
-    applies(rt, alloc, &mut updater, session, lines);
-    drop(updater);
+    let mut updater = ZoneUpdater::new(alloc, session);
+    applies(rt, alloc, &mut updater, lines);
+    updater.into_session();
 }
 
 /// Asserts that the walk of a version is the records of words.
@@ -195,11 +192,36 @@ pub(crate) fn walks<R: Abort>(rt: &R, alloc: Global, zone: &ReadZone, words: &st
     drop(found);
 }
 
-/// The same of the version that a session committed last.
-fn session_walks<R: Abort>(rt: &R, alloc: Global, session: &mut WriteZone<'_>, words: &str) {
-    let version = session.handle().expect(rt, "memory");
+/// The same of the version that an updater committed last.
+fn updater_walks<R: Abort>(
+    rt: &R,
+    alloc: Global,
+    updater: &mut ZoneUpdater<'_, '_>,
+    words: &str,
+) {
+    let version = updater.handle().expect(rt, "memory");
     walks(rt, alloc, &version, words);
     drop(version);
+}
+
+// Two updates are equal where kind and record are.
+#[test]
+fn updates_compare(rt: HostRuntime) {
+    let alloc = rt.alloc();
+    let first = octets_at(&rt, alloc, RECORDS, "soa-1");
+    let second = octets_at(&rt, alloc, RECORDS, "soa-2");
+    let added = update_of(Kind::AddRecord, read_of(&rt, first.as_slice()));
+    let again = update_of(Kind::AddRecord, read_of(&rt, first.as_slice()));
+    let other = update_of(Kind::AddRecord, read_of(&rt, second.as_slice()));
+    let deleted = update_of(Kind::DeleteRecord, read_of(&rt, first.as_slice()));
+    let found = (added == again, added == other, added == deleted);
+    drop(deleted);
+    drop(other);
+    drop(again);
+    drop(added);
+    drop(second);
+    drop(first);
+    is(&rt, found, (true, false, false));
 }
 
 // Each batch begins with a commit, the first of the version so far, of which no difference is told; the walk has four sets.
@@ -208,23 +230,23 @@ fn rfc_1995_by_the_updater(rt: HostRuntime) {
     let alloc = rt.alloc();
     let mut zone = zone_at(&rt, alloc, JAIN);
     let mut session = zone.write(alloc);
-    let mut updater = ZoneUpdater::new(alloc);
-    applies(&rt, alloc, &mut updater, &mut session, FIRST);
+    let mut updater = ZoneUpdater::new(alloc, &mut session);
+    applies(&rt, alloc, &mut updater, FIRST);
     let begins = "BeginBatchDelete soa-1 Ok(None)";
-    applies(&rt, alloc, &mut updater, &mut session, begins);
-    session_walks(&rt, alloc, &mut session, "ns soa-1 nezu-5 ns-a");
-    applies(&rt, alloc, &mut updater, &mut session, SECOND);
+    applies(&rt, alloc, &mut updater, begins);
+    updater_walks(&rt, alloc, &mut updater, "ns soa-1 nezu-5 ns-a");
+    applies(&rt, alloc, &mut updater, SECOND);
     let begins = "BeginBatchDelete soa-2 Ok(Some((1, 2, 2, 2)))";
-    applies(&rt, alloc, &mut updater, &mut session, begins);
-    session_walks(&rt, alloc, &mut session, "ns soa-2 bb-4 bb-2 ns-a");
-    applies(&rt, alloc, &mut updater, &mut session, THIRD);
+    applies(&rt, alloc, &mut updater, begins);
+    updater_walks(&rt, alloc, &mut updater, "ns soa-2 bb-4 bb-2 ns-a");
+    applies(&rt, alloc, &mut updater, THIRD);
     let ends = "\
 Finished soa-3 Ok(Some((2, 3, 2, 2)))
 AddRecord nezu-5 Err(Finished)";
-    applies(&rt, alloc, &mut updater, &mut session, ends);
-    session_walks(&rt, alloc, &mut session, "ns soa-3 bb-2 bb-3 ns-a");
+    applies(&rt, alloc, &mut updater, ends);
+    updater_walks(&rt, alloc, &mut updater, "ns soa-3 bb-2 bb-3 ns-a");
     is(&rt, updater.is_finished(), true);
-    drop(updater);
+    updater.into_session();
     drop(session);
     is(&rt, zone.versions(), 3);
     drop(zone);
@@ -299,13 +321,13 @@ fn diff_check(rt: HostRuntime) {
     let alloc = rt.alloc();
     let mut zone = zone_at(&rt, alloc, COM);
     let mut session = zone.write(alloc);
-    let mut updater = ZoneUpdater::new(alloc);
+    let mut updater = ZoneUpdater::new(alloc, &mut session);
     let updates = "AddRecord com-soa-22 Ok(None)\nFinished com-soa-22 Ok(None)";
-    applies(&rt, alloc, &mut updater, &mut session, updates);
+    applies(&rt, alloc, &mut updater, updates);
     is(&rt, updater.is_finished(), true);
     let updates = "AddRecord com-soa-22 Err(Finished)";
-    applies(&rt, alloc, &mut updater, &mut session, updates);
-    drop(updater);
+    applies(&rt, alloc, &mut updater, updates);
+    updater.into_session();
     session.want_difference(true);
     let updates = "\
 AddRecord com-soa-23 Ok(None)

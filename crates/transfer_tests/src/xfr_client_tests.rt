@@ -8,7 +8,7 @@ use std::alloc::Global;
 use std::process::Abort;
 use xfr_client::protocol::{Error, IterationError};
 use xfr_client::{XfrResponseInterpreter, XfrZoneUpdateIterator, ZoneUpdate, ZoneUpdater, update};
-use zone_store::{ReadZone, WriteZone};
+use zone_store::ReadZone;
 
 /// `example.` in class IN, asked for as a whole.
 const QUESTION: &str = "076578616d706c650000fc0001";
@@ -30,15 +30,14 @@ fn reply<R: Abort>(rt: &R, alloc: Global, flags: &str, count: &str, records: &st
 
 /// Why a message isn't taken.
 fn refusal(message: &MessageBuf) -> Option<Error> {
-    let mut interpreter = XfrResponseInterpreter::new();
+    let mut interpreter = XfrResponseInterpreter::default();
     interpreter.interpret_response(message).err()
 }
 
 /// Applies a message's updates, and tells whether the last of them committed.
 fn apply_all<R: Abort>(
     rt: &R,
-    session: &mut WriteZone<'_>,
-    updater: &mut ZoneUpdater,
+    updater: &mut ZoneUpdater<'_, '_>,
     updates: &mut XfrZoneUpdateIterator<'_>,
 ) -> bool {
     let mut committed = false;
@@ -48,7 +47,7 @@ fn apply_all<R: Abort>(
         };
         let update = update.expect(rt, "an update");
         committed = update.commits();
-        let told = updater.apply(rt, session, update).expect(rt, "a fit");
+        let told = updater.apply(rt, update).expect(rt, "a fit");
         drop(told);
     }
     false
@@ -58,19 +57,19 @@ fn apply_all<R: Abort>(
 fn transferred<R: Abort>(rt: &R, alloc: Global, message: &MessageBuf) -> ReadZone {
     let mut zone = empty_zone(rt, alloc);
     let mut session = zone.write(alloc);
-    let mut updater = ZoneUpdater::new(alloc);
+    let mut updater = ZoneUpdater::new(alloc, &mut session);
     let mut interpreter = XfrResponseInterpreter::new();
     let mut updates = interpreter
         .interpret_response(message)
         .expect(rt, "a reply");
-    let committed = apply_all(rt, &mut session, &mut updater, &mut updates);
+    let committed = apply_all(rt, &mut updater, &mut updates);
     drop(updates);
     assert!(rt; committed);
     let finished = interpreter.is_finished();
     assert!(rt; finished);
     drop(interpreter);
-    let version = updater.handle(&mut session).expect(rt, "memory");
-    drop(updater);
+    let version = updater.handle().expect(rt, "memory");
+    updater.into_session();
     drop(session);
     drop(zone);
     version

@@ -7,7 +7,7 @@ use Rattle.xfr_client.specs.SoFar.{Asking, client_so_far}
 use Rattle.xfr_client.specs.Steps.{HasMade}
 use Rattle.xfr_client.specs.Standing.{ClientState, ExchangeStands, Stands, Settled, RefusesReply, TakesReply}
 use Rattle.xfr_client.specs.Replies.{RefusesMessage, TakesMessage}
-use Rattle.xfr_client.specs.declared.client.Exchange.{Exchange}
+use Rattle.xfr_client.specs.declared.exchange.Exchange.{Exchange}
 use Rattle.xfr_outcomes.specs.declared.outcome.SyncOk.{SyncOk}
 use Rattle.xfr_outcomes.specs.declared.outcome.SyncError.{SyncError}
 use Rattle.xfr_outcomes.specs.declared.outcome.SyncError.TheVariants as why

@@ -1,6 +1,7 @@
 pub mod RestSteps
 pub mod Adding
 mod Deleting
+pub mod Hiding
 pub mod MessageParts
 pub mod Places
 pub mod Sections

@@ -27,7 +27,7 @@ use Rattle.xfr_model.specs.Machine.{AtStart}
 use Rattle.tsig_port.specs.States.{ClientStands}
 use Rattle.xfr_client.specs.SoFar.{client_so_far, fault_so_far, Asking, asking, authority_of, asked_id, asked_question, asked_authority, asked_serial, request_message, asked_octets, asked_mac, lacks_soa, CantAsk, AsksWith, PushesFirst, IsTooLong}
 use Rattle.xfr_client.specs.Standing.{ExchangeStands}
-use Rattle.xfr_client.specs.declared.client.Exchange.{Exchange}
+use Rattle.xfr_client.specs.declared.exchange.Exchange.{Exchange}
 use Rattle.xfr_client.proofs.Standings.{none_passed}
 use Rattle.xfr_outcomes.specs.Refusals.{of_push}
 use Rattle.xfr_outcomes.specs.declared.outcome.SyncError.{SyncError}

@@ -24,7 +24,7 @@ use Rattle.xfr_client.specs.Replies.{AnswersReply, TestsReply}
 use Rattle.xfr_client.specs.Steps.{numbers_left, HasMade, Ahead, DoesOne, TakesOne, Led, LedOn}
 use Rattle.xfr_client.specs.Standing.{ExchangeStands}
 use Rattle.xfr_client.specs.Room.{adds_to_full, AllHaveRoom, KeepsRoom, StopsAt, KeepsAllRoom, reply_updates, ReplyKeepsRoom, ReplyStopsAt}
-use Rattle.xfr_client.specs.declared.client.Exchange.{Exchange}
+use Rattle.xfr_client.specs.declared.exchange.Exchange.{Exchange}
 use Rattle.xfr_outcomes.specs.declared.outcome.SyncOk.{SyncOk}
 use Rattle.xfr_outcomes.specs.declared.outcome.SyncOk.TheVariants as done
 use Rattle.xfr_outcomes.specs.declared.outcome.SyncError.{SyncError}

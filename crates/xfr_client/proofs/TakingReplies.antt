@@ -30,7 +30,7 @@ use Rattle.xfr_client.specs.Steps.{HasMade, Ahead, RanOut, IsCause, TakesAll}
 use Rattle.xfr_client.specs.Standing.{ExchangeStands}
 use Rattle.xfr_client.specs.Replies.{AnswersReply, ChecksReply, TestsReply, RefusesMessage, TakesMessage}
 use Rattle.xfr_client.specs.Ending.{answer_of, edit_error, fault_error, same_serial, settled}
-use Rattle.xfr_client.specs.declared.client.Exchange.{Exchange}
+use Rattle.xfr_client.specs.declared.exchange.Exchange.{Exchange}
 use Rattle.xfr_outcomes.specs.declared.outcome.SyncOk.{SyncOk}
 use Rattle.xfr_outcomes.specs.declared.outcome.SyncOk.TheVariants as done
 use Rattle.xfr_outcomes.specs.declared.outcome.SyncError.{SyncError}

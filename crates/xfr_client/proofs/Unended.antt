@@ -17,7 +17,7 @@ use Rattle.xfr_course.specs.Client.{Client, IsBetween}
 use Rattle.xfr_client.specs.SoFar.{Asking, asked_id, asked_question, checked_so_far, client_so_far}
 use Rattle.xfr_client.specs.Standing.{IsInWhole, ReadsWhole, ExchangeStands}
 use Rattle.xfr_client.specs.Steps.{commit_after, StaysStill, KeepsWish}
-use Rattle.xfr_client.specs.declared.client.Exchange.{Exchange}
+use Rattle.xfr_client.specs.declared.exchange.Exchange.{Exchange}
 use Rattle.xfr_client.proofs.Standings.{course, between, run_next, message_moves}
 
 -- updates of a whole text before its end

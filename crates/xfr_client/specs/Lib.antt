@@ -14,3 +14,4 @@ pub mod Standing
 pub mod Replies
 pub mod Transfers
 pub mod Handles
+pub mod Borrowing

@@ -16,7 +16,7 @@ use Rattle.xfr_client.specs.SoFar.{Asking, asked_mac, asked_id, asked_question, 
 use Rattle.xfr_client.specs.Steps.{HasMade}
 use Rattle.xfr_client.specs.Standing.{ExchangeStands, Meets, RunsOut}
 use Rattle.xfr_client.specs.Ending.{fault_error}
-use Rattle.xfr_client.specs.declared.client.Exchange.{Exchange}
+use Rattle.xfr_client.specs.declared.exchange.Exchange.{Exchange}
 use Rattle.xfr_outcomes.specs.declared.outcome.SyncOk.{SyncOk}
 use Rattle.xfr_outcomes.specs.declared.outcome.SyncError.{SyncError}
 use Rattle.xfr_outcomes.specs.declared.outcome.SyncError.TheVariants as why

@@ -15,7 +15,7 @@ use Rattle.xfr_course.specs.Courses.{has_header}
 use Rattle.xfr_client.specs.SoFar.{Asking, asked_mac, asked_id, asked_question, asked_serial, asked_course, checked_so_far, fault_so_far, client_so_far}
 use Rattle.xfr_client.specs.Steps.{HasMade, Ahead, RanOut}
 use Rattle.xfr_client.specs.Ending.{answer_of}
-use Rattle.xfr_client.specs.declared.client.Exchange.{Exchange}
+use Rattle.xfr_client.specs.declared.exchange.Exchange.{Exchange}
 use Rattle.xfr_outcomes.specs.declared.outcome.SyncOk.{SyncOk}
 use Rattle.xfr_outcomes.specs.declared.outcome.SyncError.{SyncError}
 use Rattle.xfr_outcomes.specs.declared.outcome.SyncError.TheVariants as why

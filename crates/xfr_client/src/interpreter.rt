@@ -42,6 +42,18 @@ impl Model for XfrResponseInterpreter {
     ghost view = { λ i. interpreting_of i.place i.has_signalled };
 }
 
+impl Default for XfrResponseInterpreter {
+    ghost use Rattle.std.specs.Prelude.{◌≡◌, false};
+    ghost use Rattle.xfr_model.specs.Machine.{AtStart};
+
+    ghost is_default = { λ i. i ≡ record { begun = false; place = AtStart; signalled = false } };
+
+    /// One that has read nothing.
+    fn default() -> XfrResponseInterpreter {
+        XfrResponseInterpreter::new()
+    }
+}
+
 impl XfrResponseInterpreter {
     /// An interpreter that has read nothing.
     pub fn new() -> XfrResponseInterpreter

@@ -3,19 +3,22 @@
 //! makes the signed request, and takes the replies one by one.
 //!
 //! A message is first tested as a whole; then its answer records are told one by one as updates. The updater keeps
-//! no copy of the zone: each update is one edit of the session that it is handed.
+//! no copy of the zone: each update is one edit of the session that it borrows.
 #![tactic(auto)]
 
 pub mod client;
+mod exchange;
 mod first_soa;
 mod interpreter;
 mod interpreter_state;
 mod iterator;
-mod laws;
+pub mod laws;
 mod section;
 mod updater;
+mod updater_state;
 
-pub use client::{MOST_REPLIES, XfrClient};
+pub use client::XfrClient;
+pub use exchange::MOST_REPLIES;
 pub use interpreter::XfrResponseInterpreter;
 pub use iterator::XfrZoneUpdateIterator;
 pub use updater::ZoneUpdater;

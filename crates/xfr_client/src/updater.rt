@@ -1,77 +1,78 @@
 // The updater of a zone.
-ghost use Rattle.std.specs.Prelude.{◌≡◌, ◌↔◌, ◌++◌, ◌^◌, ◌-◌, [], true, false, List, IfOk, IfErr, IfSome, OnOk, OnErr, IsOk, Some, None, Ok, Err};
-ghost use Rattle.zone_model.specs.TransferText.{is_soa};
+ghost use Rattle.std.specs.Prelude.{◌≡◌, ◌++◌, true, false, List, IfOk, IfErr, IfSome, OnOk, OnErr, IsOk, None, Ok, Err};
 ghost use Rattle.zone_model.specs.Version.{Version};
-ghost use Rattle.zone_model.specs.Edits.{with_sets, set_soa};
-ghost use Rattle.zone_model.specs.Session.{with_pending, committed, told_difference};
-ghost use Rattle.zone_model.specs.Updates as updates;
-ghost use Rattle.zone_model.specs.Updates.{UpdateFault, apply_update, after_refusal};
+ghost use Rattle.zone_model.specs.Session.{with_pending, rolled_back};
+ghost use Rattle.zone_model.specs.Updates.{apply_update, after_refusal};
 ghost use Rattle.xfr_model.specs.Applying.{commits};
 ghost use Rattle.xfr_outcomes.specs.declared.update.Error.TheVariants.{VersionsExhausted, Memory};
-ghost use Rattle.dns_rdata.specs.DataFields.{soa_fields};
-ghost use Rattle.zone_versions.specs.Puts.{with_soa};
 ghost use Rattle.xfr_outcomes.specs.ZoneUpdates.{update_of};
-ghost use Rattle.xfr_client.specs.Causes.{update_fault_of};
+ghost use Rattle.xfr_client.specs.Causes.{update_fault_of, HidesEdit};
 ghost use Rattle.xfr_client.specs.Updating.{Leaves, progress_of, new_version, next_commit, lacks_number, told_by, wants_after};
 
-use dns_name::StoredName;
-use dns_numbers::Ttl;
-use dns_rdata::{ReadRecord, RecordData, Soa, ZoneRecordData};
+use crate::updater_state::UpdaterState;
+use dns_rdata::ReadRecord;
 use std::alloc::{AllocError, Global};
 use std::marker::Model;
 use xfr_outcomes::ZoneUpdate;
 use xfr_outcomes::update::Error;
 use zone_diffs::InMemoryZoneDiff;
 use zone_reads::ReadZone;
-use zone_sessions::{CommitError, EditError, WriteZone};
+use zone_sessions::WriteZone;
 
-/// Applies the updates of one transfer to a writing session (RFC 5936, 3; RFC 1995, 4).
+/// Applies the updates of one transfer to the writing session that it borrows (RFC 5936, 3; RFC 1995, 4).
 ///
-/// It keeps two flags alone, and is handed the session with each update: one updater goes with one session, which
-/// nothing else edits meanwhile. What is pending when it is dropped stays pending until the session rolls it back.
-#[derive(Drop)]
-pub struct ZoneUpdater {
-    alloc: Global,
-    // Equal data are passed over, from DeleteAllRecords to the next commit.
-    is_replacing: bool,
-    // The end came, or an update that didn't fit.
-    is_finished: bool,
+/// It can't be let go: `into_session` ends it, and gives the session back without what was pending.
+pub struct ZoneUpdater<'s, 'z> {
+    session: &'s mut WriteZone<'z>,
+    updater: UpdaterState,
 }
 
-impl Model for ZoneUpdater {
-    ghost use Rattle.xfr_client.specs.Updating.{Updating};
+impl<'s, 'z> Model for ZoneUpdater<'s, 'z> {
+    ghost use Rattle.xfr_client.specs.Borrowing.{OpenUpdater};
 
-    ghost Value = { Updating };
+    ghost Value = { OpenUpdater };
 
-    ghost view = { λ u. record { replacing = u.is_replacing; finished = u.is_finished } };
+    ghost view = { λ u. record { updater = u.updater; session = u.session.now; lender = u.session.ghost_name } };
 }
 
-impl ZoneUpdater {
-    /// An updater of a session in which nothing is pending.
-    pub fn new(alloc: Global) -> ZoneUpdater
-        ensures { result ≡ record { replacing = false; finished = false } }
+impl<'s, 'z> ZoneUpdater<'s, 'z> {
+    /// An updater of a session. It goes on with what is pending there.
+    pub fn new(alloc: Global, session: &'s mut WriteZone<'z>) -> ZoneUpdater<'s, 'z>
+        ensures updater { result.updater ≡ record { replacing = false; finished = false } }
+        ensures session { result.session ≡ session.old }
+        ensures lender { result.lender ≡ session.entry.ghost_name }
     {
         ZoneUpdater {
-            alloc,
-            is_replacing: false,
-            is_finished: false,
+            session,
+            updater: UpdaterState::new(alloc),
         }
+    }
+
+    /// Ends the updates, and gives the session back. What is pending is dropped; what was committed stays.
+    pub fn into_session(self) -> &'s mut WriteZone<'z>
+        ensures session { result.now ≡ rolled_back self.entry.session }
+        ensures same_borrow { result.ghost_name ≡ self.entry.lender }
+    {
+        let ZoneUpdater { session, updater } = self;
+        drop(updater);
+        session.rollback();
+        session
     }
 
     /// Whether each further update is refused as `Finished`.
     pub fn is_finished(&self) -> bool
-        ensures { result ≡ self.now.finished }
+        ensures { result ≡ self.now.updater.finished }
     {
-        self.is_finished
+        self.updater.is_finished()
     }
 
     /// A read handle of the session's current version; after an update that committed it takes no memory.
-    pub fn handle(&self, session: &mut WriteZone<'_>) -> Result<ReadZone, AllocError>
-        ensures current { IfOk result (λ z. z ≡ session.old.current) }
-        ensures ready { session.old.has_handle ≡ true → IsOk result }
-        ensures same { session.new ≡ record session.old { has_handle = session.new.has_handle } }
+    pub fn handle(&mut self) -> Result<ReadZone, AllocError>
+        ensures current { IfOk result (λ z. z ≡ self.old.session.current) }
+        ensures ready { self.old.session.has_handle ≡ true → IsOk result }
+        ensures same { self.new ≡ record self.old { session = record self.old.session { has_handle = self.new.session.has_handle } } }
     {
-        session.handle()
+        self.session.handle()
     }
 
     /// Applies one update. What it commits is published without a new serial, and the difference that the commit tells is told
@@ -80,191 +81,35 @@ impl ZoneUpdater {
     ///
     /// `Finished` comes after the end and after `IncompatibleUpdate`; after the other refusals the updater goes on.
     /// After `Memory` or `VersionsExhausted` the same update may be applied again; where it was `Finished` the new SOA
-    /// may be pending already. An update that lacks both memory and a number is answered by either.
+    /// may be pending already. An update that lacks both memory and a number is answered by either. Want of memory hides neither `Finished` nor
+    /// `NotSoaRecord`; the data of a record are put in memory of their own first, so it may hide the other three.
     pub fn apply<R>(
         &mut self,
         rt: &R,
-        session: &mut WriteZone<'_>,
         update: ZoneUpdate<ReadRecord<'_>>,
     ) -> Result<Option<InMemoryZoneDiff>, Error>
-        ensures ok { (before : List Version) → OnOk result (apply_update (progress_of self.old session.old before) (update_of update.entry) ≡ Ok (progress_of self.new session.new (before ++ new_version (commits (update_of update.entry)) session.new))) }
-        ensures refused { (before : List Version) → IfErr result (λ e. IfSome (update_fault_of e) (λ why. (apply_update (progress_of self.old session.old before) (update_of update.entry) ≡ Err why) × (progress_of self.new session.new before ≡ after_refusal (progress_of self.old session.old before) why))) }
-        ensures difference { IfOk result (λ told. told ≡ told_by session.old (update_of update.entry)) }
+        ensures ok { (before : List Version) → OnOk result (apply_update (progress_of self.old.updater self.old.session before) (update_of update.entry)
+            ≡ Ok (progress_of self.new.updater self.new.session (before ++ new_version (commits (update_of update.entry)) self.new.session))) }
+        ensures refused { (before : List Version) → IfErr result (λ e. IfSome (update_fault_of e) (λ why. (apply_update (progress_of self.old.updater self.old.session before) (update_of update.entry) ≡ Err why)
+            × (progress_of self.new.updater self.new.session before ≡ after_refusal (progress_of self.old.updater self.old.session before) why))) }
+        ensures difference { IfOk result (λ told. told ≡ told_by self.old.session (update_of update.entry)) }
         // A batch's begin leaves the wish for a difference, and the end leaves none.
-        ensures wish { OnOk result (session.new.compares ≡ wants_after session.old.compares (update_of update.entry)) }
-        ensures current { OnOk result (session.new.current ≡ next_commit (commits (update_of update.entry)) session.old.current session.new.current.version) }
-        ensures ready { OnOk result (commits (update_of update.entry) ≡ true → session.new.has_handle ≡ true) }
-        ensures kept { OnOk result (commits (update_of update.entry) ≡ false → session.new ≡ with_pending session.old session.new.pending) }
-        ensures err { OnErr result (session.new ≡ with_pending session.old session.new.pending) }
-        ensures left { OnErr result (Leaves (update_of update.entry) session.old session.new) }
+        ensures wish { OnOk result (self.new.session.compares ≡ wants_after self.old.session.compares (update_of update.entry)) }
+        ensures current { OnOk result (self.new.session.current ≡ next_commit (commits (update_of update.entry)) self.old.session.current self.new.session.current.version) }
+        ensures ready { OnOk result (commits (update_of update.entry) ≡ true → self.new.session.has_handle ≡ true) }
+        ensures kept { OnOk result (commits (update_of update.entry) ≡ false → self.new.session ≡ with_pending self.old.session self.new.session.pending) }
+        ensures err { OnErr result (self.new.session ≡ with_pending self.old.session self.new.session.pending) }
+        ensures left { OnErr result (Leaves (update_of update.entry) self.old.session self.new.session) }
         // No commit goes past the greatest number.
-        ensures numbered { OnOk result (lacks_number session.old.current.number (update_of update.entry) ≡ false) }
-        ensures exhausted { (before : List Version) → result ≡ Err VersionsExhausted → (lacks_number session.old.current.number (update_of update.entry) ≡ true) × IsOk (apply_update (progress_of self.old session.old before) (update_of update.entry)) }
+        ensures numbered { OnOk result (lacks_number self.old.session.current.number (update_of update.entry) ≡ false) }
+        ensures exhausted { (before : List Version) → result ≡ Err VersionsExhausted → (lacks_number self.old.session.current.number (update_of update.entry) ≡ true)
+            × IsOk (apply_update (progress_of self.old.updater self.old.session before) (update_of update.entry)) }
+        // Want of memory hides neither the end nor another type of record.
+        ensures memory { (before : List Version) → result ≡ Err Memory → HidesEdit (apply_update (progress_of self.old.updater self.old.session before) (update_of update.entry)) }
         // Want of memory or of a number changes nothing of the updater.
-        ensures unchanged { IfErr result (λ e. update_fault_of e ≡ None → self.new ≡ self.old) }
+        ensures unchanged { IfErr result (λ e. update_fault_of e ≡ None → self.new.updater ≡ self.old.updater) }
+        ensures lender { self.new.lender ≡ self.old.lender }
     {
-        if self.is_finished {
-            drop(update);
-            return Err(Error::Finished);
-        }
-        match update {
-            ZoneUpdate::DeleteAllRecords => {
-                clear(session)?;
-                self.is_replacing = true;
-                Ok(None)
-            }
-            ZoneUpdate::DeleteRecord(deleted) => {
-                let done = self.delete(session, &deleted);
-                drop(deleted);
-                done?;
-                Ok(None)
-            }
-            ZoneUpdate::AddRecord(added) => {
-                let done = self.add(session, &added);
-                drop(added);
-                done?;
-                Ok(None)
-            }
-            ZoneUpdate::BeginBatchDelete(soa) => {
-                drop(soa);
-                let told = self.publish(rt, session)?;
-                session.want_difference(true);
-                Ok(told)
-            }
-            ZoneUpdate::BeginBatchAdd(soa) => {
-                let put = put_soa(self.alloc, session, &soa);
-                drop(soa);
-                put?;
-                Ok(None)
-            }
-            ZoneUpdate::Finished(soa) => {
-                let put = put_soa(self.alloc, session, &soa);
-                drop(soa);
-                put?;
-                let told = self.publish(rt, session)?;
-                self.is_finished = true;
-                Ok(told)
-            }
-        }
-    }
-
-    // What is pending is published, and told is what the commit tells.
-    fn publish<R>(
-        &mut self,
-        rt: &R,
-        session: &mut WriteZone<'_>,
-    ) -> Result<Option<InMemoryZoneDiff>, Error>
-        ensures ok { OnOk result ((self.new ≡ record { replacing = false; finished = self.old.finished }) × (session.new ≡ committed session.old false)) }
-        ensures difference { IfOk result (λ told. told ≡ told_difference session.old false) }
-        ensures err { IfErr result (λ e. (self.new ≡ self.old) × (session.new ≡ session.old) × (update_fault_of e ≡ None)) }
-        ensures exhausted { (result ≡ Err VersionsExhausted) ↔ (session.old.current.number ≡ 2 ^ 64 - 1) }
-    {
-        let told = commit(rt, session)?;
-        self.is_replacing = false;
-        Ok(told)
-    }
-
-    // One record less.
-    #[tactic(auto, using(crate::proofs::Deleting::update_deleted, crate::proofs::Deleting::update_not_deleted))]
-    fn delete(&mut self, session: &mut WriteZone<'_>, deleted: &ReadRecord<'_>) -> Result<(), Error>
-        ensures ok { (before : List Version) → self.old.finished ≡ false → OnOk result (apply_update (progress_of self.old session.old before) (updates.DeleteRecord deleted.now) ≡ Ok (progress_of self.new session.new before)) }
-        ensures refused { (before : List Version) → self.old.finished ≡ false → IfErr result (λ e. IfSome (update_fault_of e) (λ why. (apply_update (progress_of self.old session.old before) (updates.DeleteRecord deleted.now) ≡ Err why) × (progress_of self.new session.new before ≡ after_refusal (progress_of self.old session.old before) why))) }
-        ensures numbered { result ≡ Err VersionsExhausted → ⊥ }
-        ensures else_same { session.new ≡ with_pending session.old session.new.pending }
-        ensures err { OnErr result (session.new ≡ session.old) }
-        ensures unchanged { IfErr result (λ e. update_fault_of e ≡ None → self.new ≡ self.old) }
-    {
-        match session.delete_read(deleted) {
-            Ok(()) => Ok(()),
-            Err(EditError::Incompatible) => {
-                self.is_finished = true;
-                Err(Error::IncompatibleUpdate)
-            }
-            Err(EditError::OutOfZone) => Err(Error::OutOfZone),
-            Err(EditError::InvalidData) => Err(Error::InvalidData),
-            Err(EditError::Memory) => Err(Error::Memory),
-        }
-    }
-
-    // One record more; data that the set has are passed over while the zone is replaced (RFC 5936, 2.2).
-    #[tactic(auto, using(crate::proofs::Adding::update_added, crate::proofs::Adding::update_passed, crate::proofs::Adding::update_not_passed, crate::proofs::Adding::update_outside, crate::proofs::Adding::update_bad_data))]
-    fn add(&mut self, session: &mut WriteZone<'_>, added: &ReadRecord<'_>) -> Result<(), Error>
-        ensures ok { (before : List Version) → self.old.finished ≡ false → OnOk result (apply_update (progress_of self.old session.old before) (updates.AddRecord added.now) ≡ Ok (progress_of self.new session.new before)) }
-        ensures refused { (before : List Version) → self.old.finished ≡ false → IfErr result (λ e. IfSome (update_fault_of e) (λ why. (apply_update (progress_of self.old session.old before) (updates.AddRecord added.now) ≡ Err why) × (progress_of self.new session.new before ≡ after_refusal (progress_of self.old session.old before) why))) }
-        ensures numbered { result ≡ Err VersionsExhausted → ⊥ }
-        ensures else_same { session.new ≡ with_pending session.old session.new.pending }
-        ensures err { OnErr result (session.new ≡ session.old) }
-        ensures unchanged { IfErr result (λ e. update_fault_of e ≡ None → self.new ≡ self.old) }
-    {
-        match session.add_read(added) {
-            Ok(()) => Ok(()),
-            Err(EditError::Incompatible) => {
-                if self.is_replacing {
-                    return Ok(());
-                }
-                self.is_finished = true;
-                Err(Error::IncompatibleUpdate)
-            }
-            Err(EditError::OutOfZone) => Err(Error::OutOfZone),
-            Err(EditError::InvalidData) => Err(Error::InvalidData),
-            Err(EditError::Memory) => Err(Error::Memory),
-        }
-    }
-}
-
-// No record is pending.
-fn clear(session: &mut WriteZone<'_>) -> Result<(), Error>
-    ensures ok { OnOk result (session.new ≡ with_pending session.old (with_sets session.old.pending [])) }
-    ensures err { IfErr result (λ e. (session.new ≡ session.old) × (e ≡ Memory)) }
-{
-    match session.clear_all() {
-        Ok(()) => Ok(()),
-        Err(_) => Err(Error::Memory),
-    }
-}
-
-// The apex SOA set is this one record, whatever its owner and class.
-fn put_soa(alloc: Global, session: &mut WriteZone<'_>, soa: &ReadRecord<'_>) -> Result<(), Error>
-    ensures ok { OnOk result ((is_soa soa.now ≡ true) × (session.new ≡ with_pending session.old (set_soa session.old.pending soa.now))) }
-    ensures err { OnErr result (session.new ≡ session.old) }
-    ensures refused { IfErr result (λ e. IfSome (update_fault_of e) (λ why. (is_soa soa.now ≡ false) × (why ≡ updates.NotSoaRecord))) }
-    ensures numbered { result ≡ Err VersionsExhausted → ⊥ }
-{
-    match soa.data() {
-        ZoneRecordData::Soa(data) => match data.flatten(alloc) {
-            Ok(data) => put_data(session, soa.ttl(), data),
-            Err(_) => Err(Error::Memory),
-        },
-        ZoneRecordData::Unknown(octets) => {
-            // For the proof: octets of an unknown type aren't SOA data.
-            let _ = octets.rdlen();
-            Err(Error::NotSoaRecord)
-        }
-        _ => Err(Error::NotSoaRecord),
-    }
-}
-
-// The apex SOA set is one record of these data.
-fn put_data(session: &mut WriteZone<'_>, ttl: Ttl, data: Soa<StoredName>) -> Result<(), Error>
-    ensures ok { OnOk result (session.new ≡ with_pending session.old (with_soa session.old.pending ttl (soa_fields (λ n. n) «data»))) }
-    ensures err { IfErr result (λ e. (session.new ≡ session.old) × (e ≡ Memory)) }
-{
-    match session.set_soa(ttl, data) {
-        Ok(()) => Ok(()),
-        Err(_) => Err(Error::Memory),
-    }
-}
-
-// What is pending is published, and told is what the commit tells.
-fn commit<R>(rt: &R, session: &mut WriteZone<'_>) -> Result<Option<InMemoryZoneDiff>, Error>
-    ensures ok { OnOk result (session.new ≡ committed session.old false) }
-    ensures difference { IfOk result (λ told. told ≡ told_difference session.old false) }
-    ensures err { IfErr result (λ e. (session.new ≡ session.old) × (update_fault_of e ≡ None)) }
-    ensures exhausted { (result ≡ Err VersionsExhausted) ↔ (session.old.current.number ≡ 2 ^ 64 - 1) }
-{
-    match session.commit(rt, false) {
-        Ok(told) => Ok(told),
-        Err(CommitError::VersionsExhausted) => Err(Error::VersionsExhausted),
-        Err(CommitError::Memory) => Err(Error::Memory),
+        self.updater.apply(rt, self.session, update)
     }
 }

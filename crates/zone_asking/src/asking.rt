@@ -101,63 +101,87 @@ pub(crate) fn ask_passing_over<R, S: Source, K: Sink>(
     ensures sink_failed { result ≡ Err AskError.SinkFault → Rose (K.faults sink.old) (K.faults sink.new) }
     ensures sink_steady { result ≢ Err AskError.SinkFault → K.faults sink.new ≡ K.faults sink.old }
 {
-    let mut client = client_within(alloc, key, mode, at, limits);
-    let answer = exchange(
-        rt,
-        alloc,
-        &mut client,
-        session,
-        limits,
-        over,
-        src,
-        sink,
-        made,
+    let mut told = Err(AskError::Cut);
+    exchange_and_lend(
+        rt, alloc, session, key, mode, at, limits, over, src, sink, made, &mut told,
     );
-    drop_pending(session);
-    answer
+    told
+}
+
+/// The same: puts the answer into `told`, and lends the session back.
+fn exchange_and_lend<'s, 'z, R, S: Source, K: Sink>(
+    rt: &R,
+    alloc: Global,
+    session: &'s mut WriteZone<'z>,
+    key: &Key,
+    mode: XfrMode,
+    at: Time48,
+    limits: &Limits,
+    over: Option<u16>,
+    src: &mut S,
+    sink: &mut K,
+    made: &mut Vec<ReadZone>,
+    told: &mut Result<SyncOk, AskError>,
+) -> &'s mut WriteZone<'z>
+    ensures same_borrow { result.ghost_name ≡ session.entry.ghost_name }
+    ensures exchanges { Exchanges limits.now over (asks_with key.now (mode_of mode) at session.old.current)
+        (crossing (S.remaining src.old) (S.remaining src.new) (K.taken sink.old) (K.taken sink.new)) made.old.items made.new.items result.now told.new }
+    ensures settled { result.now.pending ≡ result.now.current.version }
+    ensures wish { result.now.compares ≡ false }
+    ensures handles { KeepsHandles session.old.current made.old.items made.new.items }
+    ensures source_failed { told.new ≡ Err AskError.SourceFault → Rose (S.faults src.old) (S.faults src.new) }
+    ensures source_steady { told.new ≢ Err AskError.SourceFault → S.faults src.new ≡ S.faults src.old }
+    ensures sink_failed { told.new ≡ Err AskError.SinkFault → Rose (K.faults sink.old) (K.faults sink.new) }
+    ensures sink_steady { told.new ≢ Err AskError.SinkFault → K.faults sink.new ≡ K.faults sink.old }
+{
+    let mut client = client_within(alloc, session, key, mode, at, limits);
+    *told = exchange(rt, alloc, &mut client, limits, over, src, sink, made);
+    client.into_session()
 }
 
 /// A client that made no request yet, and bounds sets as the limits do.
-fn client_within(alloc: Global, key: &Key, mode: XfrMode, at: Time48, limits: &Limits) -> XfrClient
-    ensures { result ≡ record { key = key.now; mode = mode_of mode; at = at; exchange = None; most = limits.now.set_records; full = false } }
+fn client_within<'s, 'z>(
+    alloc: Global,
+    session: &'s mut WriteZone<'z>,
+    key: &Key,
+    mode: XfrMode,
+    at: Time48,
+    limits: &Limits,
+) -> XfrClient<'s, 'z>
+    ensures client { result.client ≡ record { key = key.now; mode = mode_of mode; at = at; exchange = None; most = limits.now.set_records; full = false } }
+    ensures session { result.session ≡ session.old }
+    ensures lender { result.lender ≡ session.entry.ghost_name }
 {
-    let mut client = XfrClient::new(alloc, key, mode, at);
+    let mut client = XfrClient::new(alloc, session, key, mode, at);
     if let Some(most) = limits.set_records {
         client.limit_sets(most);
     }
     client
 }
 
-/// Drops what an exchange left pending.
-fn drop_pending(session: &mut WriteZone<'_>)
-    ensures { session.new ≡ rolled_back session.old }
-{
-    session.rollback();
-}
-
 /// The request, and what the secondary makes of the replies.
 fn exchange<R, S: Source, K: Sink>(
     rt: &R,
     alloc: Global,
-    client: &mut XfrClient,
-    session: &mut WriteZone<'_>,
+    client: &mut XfrClient<'_, '_>,
     limits: &Limits,
     over: Option<u16>,
     src: &mut S,
     sink: &mut K,
     made: &mut Vec<ReadZone>,
 ) -> Result<SyncOk, AskError>
-    requires { client.old.most ≡ limits.now.set_records }
-    ensures exchanges { Exchanges limits.now over (asking_of client.old session.old.current)
-        (crossing (S.remaining src.old) (S.remaining src.new) (K.taken sink.old) (K.taken sink.new)) made.old.items made.new.items session.new result }
+    requires { client.old.client.most ≡ limits.now.set_records }
+    ensures exchanges { Exchanges limits.now over (asking_of client.old.client client.old.session.current)
+        (crossing (S.remaining src.old) (S.remaining src.new) (K.taken sink.old) (K.taken sink.new)) made.old.items made.new.items client.new.session result }
+    ensures lender { client.new.lender ≡ client.old.lender }
     ensures source_failed { result ≡ Err AskError.SourceFault → Rose (S.faults src.old) (S.faults src.new) }
     ensures source_steady { result ≢ Err AskError.SourceFault → S.faults src.new ≡ S.faults src.old }
     ensures sink_failed { result ≡ Err AskError.SinkFault → Rose (K.faults sink.old) (K.faults sink.new) }
     ensures sink_steady { result ≢ Err AskError.SinkFault → K.faults sink.new ≡ K.faults sink.old }
 {
-    let request = client.request(session, MOST_OCTETS)?;
+    let request = client.request(MOST_OCTETS)?;
     send_request(sink, request.as_slice())?;
-    take_replies(rt, alloc, client, session, limits, over, src, made)
+    take_replies(rt, alloc, client, limits, over, src, made)
 }
 
 /// Writes a request's frame.
@@ -180,16 +204,17 @@ fn send_request<K: Sink>(sink: &mut K, octets: &[u8]) -> Result<(), AskError>
 fn take_replies<R, S: Source>(
     rt: &R,
     alloc: Global,
-    client: &mut XfrClient,
-    session: &mut WriteZone<'_>,
+    client: &mut XfrClient<'_, '_>,
     limits: &Limits,
     over: Option<u16>,
     src: &mut S,
     made: &mut Vec<ReadZone>,
 ) -> Result<SyncOk, AskError>
-    requires under_way { IsSome client.old.exchange }
-    requires most { client.old.most ≡ limits.now.set_records }
-    ensures ends { (a : Asking) (before : List Commit) → Stands client.old session.old a [] before made.old.items → EndsSo limits.now over a (S.remaining src.old) (S.remaining src.new) before made.new.items session.new result }
+    requires under_way { IsSome client.old.client.exchange }
+    requires most { client.old.client.most ≡ limits.now.set_records }
+    ensures ends { (a : Asking) (before : List Commit) → Stands client.old.client client.old.session a [] before made.old.items
+        → EndsSo limits.now over a (S.remaining src.old) (S.remaining src.new) before made.new.items client.new.session result }
+    ensures lender { client.new.lender ≡ client.old.lender }
     ensures failed { result ≡ Err AskError.SourceFault → Rose (S.faults src.old) (S.faults src.new) }
     ensures steady { result ≢ Err AskError.SourceFault → S.faults src.new ≡ S.faults src.old }
     ensures others { result ≢ Err AskError.SinkFault }
@@ -202,7 +227,7 @@ fn take_replies<R, S: Source>(
             return Err(AskError::Transfer(SyncError::Ended));
         };
         let code = rcode_of(reply.as_slice());
-        match client.take(rt, session, reply, made) {
+        match client.take(rt, reply, made) {
             Ok(None) => {}
             Ok(Some(outcome)) => return Ok(outcome),
             Err(error) => return Err(refused(client, error, code)),
@@ -212,8 +237,8 @@ fn take_replies<R, S: Source>(
 }
 
 /// The error of a reply that a client refused.
-fn refused(client: &XfrClient, error: SyncError, code: Rcode) -> AskError
-    ensures { result ≡ told_of client.now.full error code }
+fn refused(client: &XfrClient<'_, '_>, error: SyncError, code: Rcode) -> AskError
+    ensures { result ≡ told_of client.now.client.full error code }
 {
     if client.has_full_set() {
         return AskError::FullSet;

@@ -62,20 +62,45 @@ pub fn sync_zone<R, P: Service<()>, L: Link>(
     ensures failed { result ≡ Err SyncError.LinkFault → Rose (L.faults link.old) (L.faults link.new) }
     ensures steady { result ≢ Err SyncError.LinkFault → L.faults link.new ≡ L.faults link.old }
 {
-    let mut client = XfrClient::new(alloc, key, mode, moments.at_secondary);
-    let outcome = exchange(
+    let mut told = Err(SyncError::Ended);
+    exchange_and_lend(
+        rt, alloc, primary, session, key, mode, link, moments, made, &mut told,
+    );
+    told
+}
+
+/// The same: puts the answer into `told`, and lends the session back.
+fn exchange_and_lend<'s, 'z, R, P: Service<()>, L: Link>(
+    rt: &R,
+    alloc: Global,
+    primary: &P,
+    session: &'s mut WriteZone<'z>,
+    key: &Key,
+    mode: XfrMode,
+    link: &mut L,
+    moments: Moments,
+    made: &mut Vec<ReadZone>,
+    told: &mut Result<SyncOk, SyncError>,
+) -> &'s mut WriteZone<'z>
+    ensures same_borrow { result.ghost_name ≡ session.entry.ghost_name }
+    ensures headline { Synchronizes (λ m. P.Sends primary.now (request_at m moments.at_primary)) (asks_with key.now (mode_of mode) moments.at_secondary session.old.current)
+        moments.at_primary (L.longest link.old) (L.lists link.old) (L.lists link.new) (L.faults link.old) (L.faults link.new) made.old.items made.new.items result.now told.new }
+    ensures handles { KeepsHandles session.old.current made.old.items made.new.items }
+    ensures wish { result.now.compares ≡ false }
+    ensures failed { told.new ≡ Err SyncError.LinkFault → Rose (L.faults link.old) (L.faults link.new) }
+    ensures steady { told.new ≢ Err SyncError.LinkFault → L.faults link.new ≡ L.faults link.old }
+{
+    let mut client = XfrClient::new(alloc, session, key, mode, moments.at_secondary);
+    *told = exchange(
         rt,
         alloc,
         primary,
         &mut client,
-        session,
         link,
         moments.at_primary,
         made,
     );
-    drop(client);
-    session.rollback();
-    outcome
+    client.into_session()
 }
 
 /// The request, the primary's replies, and what the secondary makes of them.
@@ -83,17 +108,18 @@ fn exchange<R, P: Service<()>, L: Link>(
     rt: &R,
     alloc: Global,
     primary: &P,
-    client: &mut XfrClient,
-    session: &mut WriteZone<'_>,
+    client: &mut XfrClient<'_, '_>,
     link: &mut L,
     at_primary: Time48,
     made: &mut Vec<ReadZone>,
 ) -> Result<SyncOk, SyncError>
-    ensures says { SyncSays (λ m. P.Sends primary.now (request_at m at_primary)) (asking_of client.old session.old.current) (L.longest link.old) (L.lists link.old) (L.lists link.new) made.old.items made.new.items session.new result }
+    ensures says { SyncSays (λ m. P.Sends primary.now (request_at m at_primary)) (asking_of client.old.client client.old.session.current)
+        (L.longest link.old) (L.lists link.old) (L.lists link.new) made.old.items made.new.items client.new.session result }
+    ensures lender { client.new.lender ≡ client.old.lender }
     ensures failed { result ≡ Err SyncError.LinkFault → Rose (L.faults link.old) (L.faults link.new) }
     ensures steady { result ≢ Err SyncError.LinkFault → L.faults link.new ≡ L.faults link.old }
 {
-    let request = client.request(session, link.max_len())?;
+    let request = client.request(link.max_len())?;
     let sent = link.send_request(request.as_slice());
     drop(request);
     sent?;
@@ -108,7 +134,7 @@ fn exchange<R, P: Service<()>, L: Link>(
         link,
         at_primary,
     )?;
-    take_replies(rt, client, session, link, made)
+    take_replies(rt, client, link, made)
 }
 
 /// Has a primary reply to a request, and gives its replies to the link.
@@ -147,14 +173,16 @@ fn send_replies<S: ReplyStream, L: Link>(replies: S, link: &mut L) -> Result<(),
 /// Takes replies until the outcome is met.
 fn take_replies<R, L: Link>(
     rt: &R,
-    client: &mut XfrClient,
-    session: &mut WriteZone<'_>,
+    client: &mut XfrClient<'_, '_>,
     link: &mut L,
     made: &mut Vec<ReadZone>,
 ) -> Result<SyncOk, SyncError>
-    requires { IsSome client.old.exchange }
-    ensures ends { (a : Asking) (before : List Commit) → Stands client.old session.old a [] before made.old.items → EndsSo a (L.lists link.old) (L.lists link.new) before made.new.items session.new result }
-    ensures failed { (a : Asking) (before : List Commit) → Stands client.old session.old a [] before made.old.items → result ≡ Err SyncError.LinkFault → Rose (L.faults link.old) (L.faults link.new) }
+    requires { IsSome client.old.client.exchange }
+    ensures ends { (a : Asking) (before : List Commit) → Stands client.old.client client.old.session a [] before made.old.items
+        → EndsSo a (L.lists link.old) (L.lists link.new) before made.new.items client.new.session result }
+    ensures lender { client.new.lender ≡ client.old.lender }
+    ensures failed { (a : Asking) (before : List Commit) → Stands client.old.client client.old.session a [] before made.old.items
+        → result ≡ Err SyncError.LinkFault → Rose (L.faults link.old) (L.faults link.new) }
     ensures steady { result ≢ Err SyncError.LinkFault → L.faults link.new ≡ L.faults link.old }
 {
     let mut count = 0u32;
@@ -163,7 +191,7 @@ fn take_replies<R, L: Link>(
         let Some(reply) = link.take_reply()? else {
             return Err(SyncError::Ended);
         };
-        if let Some(outcome) = client.take(rt, session, reply, made)? {
+        if let Some(outcome) = client.take(rt, reply, made)? {
             return Ok(outcome);
         }
     }

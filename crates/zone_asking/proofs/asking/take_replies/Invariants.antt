@@ -9,10 +9,11 @@ abbrev pub invariant-taking : goal.invariant-taking
 invariant-taking g l = record {
   faults : g.S.Source.faults l.src ≡ g.S.Source.faults l.initial.src;
   few : l.count ≤ 65536;
-  under_way : IsSome l.client.exchange;
-  most : l.client.most ≡ l.limits.set_records;
-  taken : (a : Asking) (before : List Commit) → Stands l.initial.client l.initial.session a [] before l.initial.made.items
-      → TakenSoFar l.limits l.over a (g.S.Source.remaining l.initial.src) (g.S.Source.remaining l.src) l.left l.client l.session before l.made.items l.count;
+  under_way : IsSome l.client.client.exchange;
+  most : l.client.client.most ≡ l.limits.set_records;
+  lender : l.client.lender ≡ l.initial.client.lender;
+  taken : (a : Asking) (before : List Commit) → Stands l.initial.client.client l.initial.client.session a [] before l.initial.made.items
+      → TakenSoFar l.limits l.over a (g.S.Source.remaining l.initial.src) (g.S.Source.remaining l.src) l.left l.client.client l.client.session before l.made.items l.count;
 }
 
 abbrev pub decreases-taking : goal.decreases-taking

@@ -11,10 +11,10 @@ use Rattle.zone_sync.proofs.sync.exchange.Goals as goal
 
 pub returns-in_err-request-clause-says : goal.returns-in_err-request-clause-says
 returns-in_err-request-clause-says g c =
-    let a = asking_of c.args.client.now c.args.session.now.current in
+    let a = asking_of c.args.client.now.client c.args.client.now.session.current in
     let first = g.L.Link.lists c.args.link.now in
     let before = c.args.made.now.items in
-    let s = c.request.new.session in
+    let s = c.request.new.self.session in
     let longest = g.L.Link.longest c.args.link.now in
     let p = err_from_is_err_and c.from_residual.result c.from_residual.ensures.1 in
     let current = ap (λ x. x.current) c.request.ensures.session in
@@ -22,10 +22,10 @@ returns-in_err-request-clause-says g c =
 
 pub returns-in_err-sent-clause-says : goal.returns-in_err-sent-clause-says
 returns-in_err-sent-clause-says g c =
-    let a = asking_of c.args.client.now c.args.session.now.current in
+    let a = asking_of c.args.client.now.client c.args.client.now.session.current in
     let first = g.L.Link.lists c.args.link.now in
     let before = c.args.made.now.items in
-    let s = c.request.new.session in
+    let s = c.request.new.self.session in
     let longest = g.L.Link.longest c.args.link.now in
     let p = err_from_is_err_and c.from_residual-in_err-sent.result c.from_residual-in_err-sent.ensures.1 in
     let current = ap (λ x. x.current) c.request.ensures.session in
@@ -34,10 +34,10 @@ returns-in_err-sent-clause-says g c =
 
 pub returns-in_err-asked-clause-says : goal.returns-in_err-asked-clause-says
 returns-in_err-asked-clause-says g c =
-    let a = asking_of c.args.client.now c.args.session.now.current in
+    let a = asking_of c.args.client.now.client c.args.client.now.session.current in
     let first = g.L.Link.lists c.args.link.now in
     let before = c.args.made.now.items in
-    let s = c.request.new.session in
+    let s = c.request.new.self.session in
     let longest = g.L.Link.longest c.args.link.now in
     let p = err_from_is_err_and c.from_residual-in_err-asked.result c.from_residual-in_err-asked.ensures.1 in
     let current = ap (λ x. x.current) c.request.ensures.session in
@@ -51,10 +51,10 @@ returns-in_err-asked-clause-says g c =
 
 pub returns-in_default-clause-says : goal.returns-in_default-clause-says
 returns-in_default-clause-says g c =
-    let a = asking_of c.args.client.now c.args.session.now.current in
+    let a = asking_of c.args.client.now.client c.args.client.now.session.current in
     let first = g.L.Link.lists c.args.link.now in
     let before = c.args.made.now.items in
-    let s = c.request.new.session in
+    let s = c.request.new.self.session in
     let longest = g.L.Link.longest c.args.link.now in
     let current = ap (λ x. x.current) c.request.ensures.session in
     let can = subst (CanAsk a) c.max_len.ensures c.in_ok-request.ensures.ok.1 in
@@ -67,10 +67,10 @@ returns-in_default-clause-says g c =
 
 pub returns-in_err-from_octets-clause-says : goal.returns-in_err-from_octets-clause-says
 returns-in_err-from_octets-clause-says g c =
-    let a = asking_of c.args.client.now c.args.session.now.current in
+    let a = asking_of c.args.client.now.client c.args.client.now.session.current in
     let first = g.L.Link.lists c.args.link.now in
     let before = c.args.made.now.items in
-    let s = c.request.new.session in
+    let s = c.request.new.self.session in
     let longest = g.L.Link.longest c.args.link.now in
     let p = err_from_is_err_and c.from_residual-in_err-from_octets.result c.from_residual-in_err-from_octets.ensures.1 in
     let current = ap (λ x. x.current) c.request.ensures.session in
@@ -87,10 +87,10 @@ returns-in_err-from_octets-clause-says g c =
 
 pub returns-in_err-serve-clause-says : goal.returns-in_err-serve-clause-says
 returns-in_err-serve-clause-says g c =
-    let a = asking_of c.args.client.now c.args.session.now.current in
+    let a = asking_of c.args.client.now.client c.args.client.now.session.current in
     let first = g.L.Link.lists c.args.link.now in
     let before = c.args.made.now.items in
-    let s = c.request.new.session in
+    let s = c.request.new.self.session in
     let longest = g.L.Link.longest c.args.link.now in
     let p = err_from_is_err_and c.from_residual-in_err-serve.result c.from_residual-in_err-serve.ensures.1 in
     let current = ap (λ x. x.current) c.request.ensures.session in
@@ -108,20 +108,20 @@ returns-in_err-serve-clause-says g c =
 
 pub take_replies-requires : goal.take_replies-requires
 take_replies-requires g c =
-    let a = asking_of c.args.client.now c.args.session.now.current in
+    let a = asking_of c.args.client.now.client c.args.client.now.session.current in
     let first = g.L.Link.lists c.args.link.now in
     let before = c.args.made.now.items in
-    let s = c.request.new.session in
+    let s = c.request.new.self.session in
     let longest = g.L.Link.longest c.args.link.now in
     let st = c.in_ok-request.ensures.begun before in
-    under_way a c.request.new.self s before before st
+    under_way a c.request.new.self.client s before before st
 
 pub returns-clause-says : goal.returns-clause-says
 returns-clause-says g c =
-    let a = asking_of c.args.client.now c.args.session.now.current in
+    let a = asking_of c.args.client.now.client c.args.client.now.session.current in
     let first = g.L.Link.lists c.args.link.now in
     let before = c.args.made.now.items in
-    let s = c.request.new.session in
+    let s = c.request.new.self.session in
     let longest = g.L.Link.longest c.args.link.now in
     let current = ap (λ x. x.current) c.request.ensures.session in
     let can = subst (CanAsk a) c.max_len.ensures c.in_ok-request.ensures.ok.1 in
@@ -135,14 +135,14 @@ returns-clause-says g c =
     let heard_it = link_on first mid told (m ∷ []) [] [] [] [] (heard ∷ []) [] [] took (request_handed mid told (Some heard) (rw c.in-Some.is at c.in_ok-asked.ensures.ok)) in
     let then = g.L.Link.lists c.serve.new.link in
     let st = c.in_ok-request.ensures.begun before in
-    replied (λ m. g.P.Service.Sends c.args.primary.now (request_at m c.args.at_primary)) a longest first told then (g.L.Link.lists c.take_replies.new.link) before c.take_replies.new.made.items c.take_replies.new.session c.take_replies.result (m ∷ []) heard can heard_it asked (headed heard c.in_ok-from_octets.ensures.whole) (rw c.in_ok-from_octets.ensures.found at c.in_ok-serve.ensures.served) (c.take_replies.ensures.ends a before st)
+    replied (λ m. g.P.Service.Sends c.args.primary.now (request_at m c.args.at_primary)) a longest first told then (g.L.Link.lists c.take_replies.new.link) before c.take_replies.new.made.items c.take_replies.new.client.session c.take_replies.result (m ∷ []) heard can heard_it asked (headed heard c.in_ok-from_octets.ensures.whole) (rw c.in_ok-from_octets.ensures.found at c.in_ok-serve.ensures.served) (c.take_replies.ensures.ends a before st)
 
 pub returns-clause-failed : goal.returns-clause-failed
 returns-clause-failed g c h =
-    let a = asking_of c.args.client.now c.args.session.now.current in
+    let a = asking_of c.args.client.now.client c.args.client.now.session.current in
     let first = g.L.Link.lists c.args.link.now in
     let before = c.args.made.now.items in
-    let s = c.request.new.session in
+    let s = c.request.new.self.session in
     let longest = g.L.Link.longest c.args.link.now in
     let st = c.in_ok-request.ensures.begun before in
     let steady = c.in_ok-serve.ensures.steady (λ k. absurd (cc k)) ∙ c.in_ok-asked.ensures.steady (λ k. absurd (cc k)) ∙ (rw c.in_ok-sent.was at c.send_request-sent.ensures.steady) (λ k. absurd (cc k)) in

@@ -9,8 +9,9 @@ abbrev pub invariant-taking : goal.invariant-taking
 invariant-taking g l =
     (g.L.Link.faults l.link ≡ g.L.Link.faults l.initial.link)
     × (l.count ≤ 65536)
-    × IsSome l.client.exchange
-    × ((a : Asking) (before : List Commit) → Stands l.initial.client l.initial.session a [] before l.initial.made.items → TakenSoFar a (g.L.Link.lists l.initial.link) (g.L.Link.lists l.link) l.client l.session before l.made.items l.count)
+    × IsSome l.client.client.exchange
+    × ((a : Asking) (before : List Commit) → Stands l.initial.client.client l.initial.client.session a [] before l.initial.made.items → TakenSoFar a (g.L.Link.lists l.initial.link) (g.L.Link.lists l.link) l.client.client l.client.session before l.made.items l.count)
+    × (l.client.lender ≡ l.initial.client.lender)
 
 abbrev pub decreases-taking : goal.decreases-taking
 decreases-taking g l = 65536 - l.count
