@@ -11,4 +11,6 @@ mod frame_tests;
 #[cfg(test)]
 mod halves_tests;
 #[cfg(test)]
+mod primary_tests;
+#[cfg(test)]
 mod serving_tests;
