@@ -38,6 +38,16 @@ pub(crate) fn sink(alloc: Global) -> MemorySink {
     MemorySink::new(alloc, 7, Vec::new(alloc))
 }
 
+/// The words of a text, with one space between each two.
+pub(crate) fn words_of<R: Abort>(rt: &R, alloc: Global, text: &str) -> Vec<String> {
+    let mut words = Vec::new(alloc);
+    for part in text.split(' ') {
+        let word = String::from_str(alloc, part).expect(rt, "memory");
+        words.push(word).expect(rt, "memory");
+    }
+    words
+}
+
 /// The moment of all requests and replies.
 pub(crate) fn at() -> Time48 {
     Time48::from_u64(1000)

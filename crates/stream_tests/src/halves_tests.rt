@@ -2,19 +2,19 @@
 //! SOA records alone but where a test says more; scripts and reports are worked by hand (docs/SCRIPT.md).
 
 use crate::asking_tests::{empty_zone, shared_key};
-use crate::common::{at, is, sink, source};
+use crate::common::{at, is, sink, source, words_of};
 use std::alloc::Global;
 use std::process::Abort;
 use xfr_services::RefuseSvc;
 use xfr_signing::TsigMiddlewareSvc;
-use zone_asking::{AskError, Limit, Limits, run_secondary, transfer_zone};
+use zone_asking::{AskError, Limit, Limits, RunEnd, run_secondary, transfer_zone};
 use zone_devices::sinks::MemorySink;
 use zone_primary_run::run_primary;
 use zone_serving::serve_stream;
 use zone_sync::{Status, SyncOk, XfrMode};
 
 /// The zone with serial 1 and the addresses 192.0.2.1 and 192.0.2.2 of its apex.
-const ADDRESSES: &str = "zone 076578616d706c6500 1
+pub(crate) const ADDRESSES: &str = "zone 076578616d706c6500 1
 key 036b657900 hmac-sha256 000102 - -
 p 076578616d706c65000006000100000e10001600000000000100000000000000000000000000000000
 p 076578616d706c65000001000100000e100004c0000201
@@ -65,38 +65,57 @@ fn served<R: Abort>(rt: &R, alloc: Global, script: &str, requests: &[u8]) -> Vec
     replies
 }
 
-/// How a script's secondary ends over these replies; its requests go to one sink, its report to another.
-fn fetched<R: Abort>(
+/// The program's words for a transfer without limits of its own.
+fn words_for(mode: XfrMode) -> &'static str {
+    match mode {
+        XfrMode::Axfr => "axfr script",
+        XfrMode::Ixfr => "ixfr script",
+    }
+}
+
+/// How the program ends with these words over a script and these replies; its requests go to one sink, its report to another.
+pub(crate) fn run_with<R: Abort>(
     rt: &R,
     alloc: Global,
-    mode: XfrMode,
+    text: &str,
     script: &str,
     replies: &[u8],
     out: &mut MemorySink,
     report: &mut MemorySink,
-) -> Status {
+) -> RunEnd {
+    let words = words_of(rt, alloc, text);
     let mut file = source(rt, alloc, script.as_bytes(), script.len(), Vec::new(alloc));
     let mut src = source(rt, alloc, replies, replies.len(), Vec::new(alloc));
-    let status = run_secondary(
+    let ended = run_secondary(
         rt,
         alloc,
-        Some(mode),
+        words.as_slice(),
+        true,
         &mut file,
-        at(),
+        Some(at()),
         &mut src,
         out,
         report,
     );
     drop(src);
     drop(file);
-    status
+    drop(words);
+    ended
 }
 
 /// What a script's secondary asks over these replies.
 fn asked<R: Abort>(rt: &R, alloc: Global, mode: XfrMode, script: &str, replies: &[u8]) -> Vec<u8> {
     let mut out = sink(alloc);
     let mut report = sink(alloc);
-    let _status = fetched(rt, alloc, mode, script, replies, &mut out, &mut report);
+    let _ended = run_with(
+        rt,
+        alloc,
+        words_for(mode),
+        script,
+        replies,
+        &mut out,
+        &mut report,
+    );
     let requests = out.as_slice().to_vec(alloc).expect(rt, "memory");
     drop(report);
     drop(out);
@@ -104,7 +123,7 @@ fn asked<R: Abort>(rt: &R, alloc: Global, mode: XfrMode, script: &str, replies: 
 }
 
 /// The replies of a primary to a secondary that makes so many requests, one after another.
-fn replies_to<R: Abort>(
+pub(crate) fn replies_to<R: Abort>(
     rt: &R,
     alloc: Global,
     mode: XfrMode,
@@ -136,10 +155,10 @@ fn ends<R: Abort>(
     let replies = replies_to(rt, alloc, mode, secondary, primary, requests);
     let mut out = sink(alloc);
     let mut report = sink(alloc);
-    let ended = fetched(
+    let ended = run_with(
         rt,
         alloc,
-        mode,
+        words_for(mode),
         secondary,
         replies.as_slice(),
         &mut out,
@@ -147,7 +166,7 @@ fn ends<R: Abort>(
     );
     drop(replies);
     is(rt, report.as_slice(), wanted.as_bytes());
-    is(rt, ended, status);
+    is(rt, ended, RunEnd::By(status));
     drop(report);
     drop(out);
 }

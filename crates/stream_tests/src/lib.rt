@@ -1,5 +1,5 @@
 //! Tests of messages in streams: frames, whole and cut off, requests that are served, a transfer that is asked for,
-//! and transfers of which both halves run.
+//! transfers of which both halves run, and the words of both programs.
 #![tactic(auto)]
 
 #[cfg(test)]
@@ -14,3 +14,5 @@ mod halves_tests;
 mod primary_tests;
 #[cfg(test)]
 mod serving_tests;
+#[cfg(test)]
+mod words_tests;

@@ -10,16 +10,14 @@ use Rattle.zone_script.specs.Script.{script_of}
 use Rattle.zone_script.specs.ScriptReaders.{wire_readers}
 use Rattle.xfr_client.specs.SoFar.{Asking}
 use Rattle.zone_report.specs.Notices.{is_fault}
-use Rattle.zone_report.specs.ReportsWritten.{status_by}
 use Rattle.xfr_outcomes.specs.declared.outcome.SyncOk.{SyncOk}
-use Rattle.xfr_outcomes.specs.declared.outcome.SyncError.{SyncError}
 use Rattle.xfr_outcomes.specs.declared.outcome.SyncError.TheVariants as why
 use Rattle.zone_report.specs.declared.status.Status.{Status}
 use Rattle.zone_report.specs.declared.status.Status.TheVariants as ends
 use Rattle.zone_asking.specs.declared.limits.Limits.{Limits}
 use Rattle.zone_asking.specs.declared.errors.AskError.{AskError}
 use Rattle.zone_asking.specs.declared.errors.AskError.TheVariants.{Transfer, Response, Cut, Limit, FullSet, SourceFault, SinkFault}
-use Rattle.zone_asking.specs.Answers.{sync_answer}
+use Rattle.zone_asking.specs.Reporting.{ask_status}
 use Rattle.zone_asking.specs.Exchanges.{Crossing, ComesLater, IsUnmade, Asks, Exchanges}
 use Rattle.zone_asking.specs.Retries.{ExchangesByRule}
 use Rattle.zone_asking.specs.Running.{TellsScript, TellsStreams}
@@ -40,7 +38,7 @@ no_link limits a x before handles s answer (inr k) = asks_no_link _ k.two.replie
 -- ---- the faults of the streams
 
 -- the cause of a status that tells one
-cause : (answer : Result SyncOk AskError) (source sink : Type 0) → answer ≢ by_link → (answer ≡ Err SourceFault → source) → (answer ≡ Err SinkFault → sink) → status_by (sync_answer answer) ≡ ends.LinkFault → source ⊎ sink
+cause : (answer : Result SyncOk AskError) (source sink : Type 0) → answer ≢ by_link → (answer ≡ Err SourceFault → source) → (answer ≡ Err SinkFault → sink) → ask_status answer ≡ ends.LinkFault → source ⊎ sink
 cause (Ok done) source sink unlinked f g h = cc
 cause (Err SourceFault) source sink unlinked f g h = inl (f refl)
 cause (Err SinkFault) source sink unlinked f g h = inr (g refl)
@@ -66,7 +64,7 @@ cause (Err (Transfer why.VersionsExhausted)) source sink unlinked f g h = cc
 not_steady : (old new : ℕ) → old < new → new ≡ old → ⊥
 not_steady old new rose same = omega (arith, rose, same)
 
-source_rose : (answer : Result SyncOk AskError) (old new : ℕ) → (answer ≢ Err SourceFault → new ≡ old) → old < new → status_by (sync_answer answer) ≡ ends.LinkFault
+source_rose : (answer : Result SyncOk AskError) (old new : ℕ) → (answer ≢ Err SourceFault → new ≡ old) → old < new → ask_status answer ≡ ends.LinkFault
 source_rose (Err SourceFault) old new steady rose = refl
 source_rose (Ok done) old new steady rose = absurd (not_steady old new rose (steady (λ e. cc)))
 source_rose (Err SinkFault) old new steady rose = refl
@@ -76,7 +74,7 @@ source_rose (Err Cut) old new steady rose = absurd (not_steady old new rose (ste
 source_rose (Err (Response code)) old new steady rose = absurd (not_steady old new rose (steady (λ e. cc)))
 source_rose (Err (Transfer e)) old new steady rose = absurd (not_steady old new rose (steady (λ h. cc)))
 
-sink_rose : (answer : Result SyncOk AskError) (old new : ℕ) → (answer ≢ Err SinkFault → new ≡ old) → old < new → status_by (sync_answer answer) ≡ ends.LinkFault
+sink_rose : (answer : Result SyncOk AskError) (old new : ℕ) → (answer ≢ Err SinkFault → new ≡ old) → old < new → ask_status answer ≡ ends.LinkFault
 sink_rose (Err SourceFault) old new steady rose = refl
 sink_rose (Ok done) old new steady rose = absurd (not_steady old new rose (steady (λ e. cc)))
 sink_rose (Err SinkFault) old new steady rose = refl
@@ -86,16 +84,14 @@ sink_rose (Err Cut) old new steady rose = absurd (not_steady old new rose (stead
 sink_rose (Err (Response code)) old new steady rose = absurd (not_steady old new rose (steady (λ e. cc)))
 sink_rose (Err (Transfer e)) old new steady rose = absurd (not_steady old new rose (steady (λ h. cc)))
 
-pub tells_answer : (answer : Result SyncOk AskError) (outcome : Result SyncOk SyncError) (status : Status) (source_old source_new sink_old sink_new : ℕ) → status ≡ status_by outcome → outcome ≡ sync_answer answer → answer ≢ by_link
+pub tells_answer : (answer : Result SyncOk AskError) (status : Status) (source_old source_new sink_old sink_new : ℕ) → status ≡ ask_status answer → answer ≢ by_link
     → (answer ≡ Err SourceFault → Rose source_old source_new) → (answer ≢ Err SourceFault → source_new ≡ source_old) → (answer ≡ Err SinkFault → Rose sink_old sink_new) → (answer ≢ Err SinkFault → sink_new ≡ sink_old)
     → TellsStreams source_old source_new sink_old sink_new status
-tells_answer answer outcome status source_old source_new sink_old sink_new e o unlinked source_failed source_steady sink_failed sink_steady =
-    let is : status ≡ status_by (sync_answer answer) = e ∙ ap status_by o in
-    record {
-      fault = λ h. cause answer (Rose source_old source_new) (Rose sink_old sink_new) unlinked source_failed sink_failed (sym is ∙ h);
-      source_told = λ rose. inl (is ∙ source_rose answer source_old source_new source_steady rose);
-      sink_told = λ rose. inl (is ∙ sink_rose answer sink_old sink_new sink_steady rose);
-    }
+tells_answer answer status source_old source_new sink_old sink_new is unlinked source_failed source_steady sink_failed sink_steady = record {
+  fault = λ h. cause answer (Rose source_old source_new) (Rose sink_old sink_new) unlinked source_failed sink_failed (sym is ∙ h);
+  source_told = λ rose. inl (is ∙ source_rose answer source_old source_new source_steady rose);
+  sink_told = λ rose. inl (is ∙ sink_rose answer sink_old sink_new sink_steady rose);
+}
 
 -- .. where the report's sink may fail after it
 pub tells_last : (source_old source_new sink_old sink_new : ℕ) (r s : Status) → (r ≢ ends.SinkFault → r ≡ s) → TellsStreams source_old source_new sink_old sink_new s → TellsStreams source_old source_new sink_old sink_new r

@@ -5,5 +5,6 @@ mod Rooms
 mod Replies
 mod Requests
 mod TwoExchanges
+mod WordPairs
 mod Dues
 mod Ends

@@ -4,4 +4,6 @@ pub mod Limiting
 pub mod Streams
 pub mod Exchanges
 pub mod Retries
+pub mod Wishes
+pub mod Reporting
 pub mod Running

@@ -8,9 +8,11 @@ pub mod laws;
 pub mod limits;
 pub mod program;
 pub mod retrying;
+pub mod words;
 
 pub use asking::ask_zone;
 pub use errors::AskError;
 pub use limits::{Limit, Limits};
-pub use program::{mode_asked, run_secondary};
+pub use program::{RunEnd, run_secondary};
 pub use retrying::transfer_zone;
+pub use words::file_of;

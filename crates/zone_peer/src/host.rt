@@ -1,6 +1,7 @@
-//! What both halves take of the host: the words, the clock's moment, and a line on standard error.
+//! What both halves take of the host: the words, a file, the clock's moment, and a line on standard error.
 
 use std::alloc::AllocError;
+use std::fs::File;
 use std::time::{SystemTime, UNIX_EPOCH};
 use std::{env, io};
 use tsig_port::Time48;
@@ -18,6 +19,14 @@ pub fn words_of(rt: &HostRuntime) -> Result<Vec<String>, AllocError> {
         Err(_) => {}
     }
     Ok(words)
+}
+
+/// The file of a name, if there is one and it can be opened.
+pub fn opened(rt: &HostRuntime, name: Option<&String>) -> Option<File> {
+    match name {
+        Some(name) => File::open(rt, name.as_str()).ok(),
+        None => None,
+    }
 }
 
 /// The clock's moment; None where the clock can't be read, or stands outside of what 48 bits tell.

@@ -13,7 +13,7 @@ use std::process::ExitCode;
 use zone_report::Status;
 
 /// The usage line, where the first word names no half.
-const USAGE: &str = "usage: zone_peer primary SCRIPT / secondary axfr FILE / secondary ixfr FILE";
+const USAGE: &str = "usage: zone_peer primary SCRIPT / secondary axfr FILE [LIMIT N].. / secondary ixfr FILE [LIMIT N]..";
 
 /// Runs the half that the first word names over the words after it.
 fn run_half(rt: &HostRuntime, half: &str, words: &[String]) -> u8 {

@@ -1,50 +1,30 @@
 //! The secondary: reads a script in a file, brings the zone of its secondary up to date with a primary whose stream is on standard input and
 //! output, and prints what the secondary holds on standard error.
 
-use crate::host::moment;
-use std::alloc::AllocError;
-use std::fs::File;
+use crate::host::{moment, opened};
 use std::io;
-use tsig_port::Time48;
-use zone_asking::{mode_asked, run_secondary};
+use zone_asking::{RunEnd, file_of, run_secondary};
 use zone_devices::sinks::StdSink;
-use zone_devices::sources::{MemorySource, Source, StdSource};
-use zone_report::Status;
+use zone_devices::sources::{Source, StdSource};
 
-/// Runs the secondary over the words after its name.
+/// Runs the secondary over the words after its name; in the place of a file that isn't opened stands nothing.
 pub fn fetch_words(rt: &HostRuntime, words: &[String]) -> u8 {
-    let status = match fetch(rt, words) {
-        Ok(status) => status,
-        Err(_) => Status::Memory,
+    let ended = match opened(rt, file_of(words)) {
+        Some(file) => run_on(rt, words, true, &mut StdSource::new(file)),
+        None => run_on(rt, words, false, &mut StdSource::new(io::empty())),
     };
-    status.code()
-}
-
-/// Runs the secondary; a file that can't be opened, and a clock that can't be read, are told as a file that can't be read.
-fn fetch(rt: &HostRuntime, words: &[String]) -> Result<Status, AllocError> {
-    let name = match words {
-        [_, name] => name.as_str(),
-        _ => "",
-    };
-    match (File::open(rt, name), moment(rt)) {
-        (Ok(file), Some(at)) => Ok(run_on(rt, words, &mut StdSource::new(file), at)),
-        _ => {
-            let mut first = Vec::new(rt.alloc());
-            first.push(1u64)?;
-            let mut none = MemorySource::new(Vec::new(rt.alloc()), first);
-            Ok(run_on(rt, words, &mut none, Time48::from_u64(0)))
-        }
-    }
+    ended.code()
 }
 
 /// Runs the secondary on a file, at the clock's moment, over standard input and output.
-fn run_on<F: Source>(rt: &HostRuntime, words: &[String], file: &mut F, at: Time48) -> Status {
+fn run_on<F: Source>(rt: &HostRuntime, words: &[String], opened: bool, file: &mut F) -> RunEnd {
     run_secondary(
         rt,
         rt.alloc(),
-        mode_asked(words),
+        words,
+        opened,
         file,
-        at,
+        moment(rt),
         &mut StdSource::new(rt.reader()),
         &mut StdSink::new(io::writer(rt)),
         &mut StdSink::new(rt.stderr()),
