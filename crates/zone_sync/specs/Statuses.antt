@@ -1,17 +1,21 @@
 -- Which status of a run comes when, and what it tells (docs/SCRIPT.md).
-use Rattle.std.specs.Prelude.{◌≡◌, ◌≢◌, ◌⊎◌, ◌<◌, ◌≤◌, ℕ, List, length, Option, Some, Ok, Err, IsTrue}
+use Rattle.std.specs.Prelude.{◌≡◌, ◌≢◌, ◌⊎◌, ◌<◌, ◌≤◌, ℕ, List, length, Option, Some, option_and_then, Ok, Err, IsTrue}
 use Rattle.tsig_port.specs.Tsig.{TsigKey}
 use Rattle.zone_model.specs.TransferText.{Mode}
 use Rattle.zone_devices.specs.Calls.{Rose}
 use Rattle.zone_script.specs.Script as scripts
 use Rattle.zone_script.specs.Script.{script_of}
 use Rattle.zone_script.specs.ScriptReaders.{wire_readers}
-use Rattle.zone_script.specs.Words.{Form, Transfer, Generate}
+use Rattle.zone_script.specs.Words.{Form, form_of, Transfer, Generate}
 use Rattle.zone_sync.specs.Delivery.{WasHonest}
 use Rattle.zone_report.specs.Notices.{is_fault}
 use Rattle.zone_sync.specs.Reported.{Crossed, FitsLink}
 use Rattle.zone_report.specs.declared.status.Status.{Status}
 use Rattle.zone_report.specs.declared.status.Status.TheVariants as ends
+
+-- the form of words that were read; others have none
+abbrev pub form_read : Option (List (List ℕ)) → Option Form
+form_read words = option_and_then form_of words
 
 -- words that don't ask for a script's transfer without reader threads
 abbrev pub AsksNoScript : Option Form → Type 0

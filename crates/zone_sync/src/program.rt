@@ -1,5 +1,5 @@
 //! The program over its streams and its link.
-ghost use Rattle.std.specs.Prelude.{◌≡◌, ◌≢◌, ◌⊎◌, ◌<◌, ◌≤◌, ℕ, List, [], ◌∷◌, ◌++◌, Some, Ok, Err, map, length, take, string_bytes, IfOk, OnOk, IfSome, IsTrue};
+ghost use Rattle.std.specs.Prelude.{◌≡◌, ◌≢◌, ◌⊎◌, ◌<◌, ◌≤◌, ℕ, List, [], ◌∷◌, ◌++◌, Some, Ok, Err, map, length, take, option_copied, option_map, string_bytes, IfOk, OnOk, IfSome, IsTrue};
 ghost use Rattle.zone_model.specs.TransferText.{Mode};
 ghost use Rattle.zone_devices.specs.Calls.{Rose};
 ghost use Rattle.zone_devices.specs.Streams.{with_more, emptied};
@@ -19,6 +19,7 @@ ghost use Rattle.zone_script.specs.Script.{script_of};
 ghost use Rattle.tsig_port.specs.Tsig.{TsigKey};
 ghost use Rattle.zone_script.specs.ScriptReaders.{wire_readers};
 ghost use Rattle.zone_script.specs.Words.{form_of, Transfer, Generate};
+ghost use Rattle.zone_sync.specs.Statuses.{form_read};
 ghost use Rattle.xfr_client.specs.SoFar.{asks_with};
 ghost use Rattle.xfr_outcomes.specs.Modes.{mode_of};
 
@@ -108,6 +109,52 @@ pub fn run<R, S: Source, K: Sink, L: Link>(
             Some((size, seed)) => run_generated(rt, alloc, size, seed, out, link),
             None => write_last(out, USAGE, Status::Usage),
         },
+    }
+}
+
+/// Runs the program as `run`, over words that could be read or couldn't; those have no form.
+pub fn run_words<R, S: Source, K: Sink, L: Link>(
+    rt: &R,
+    alloc: Global,
+    words: Option<&[String]>,
+    src: &mut S,
+    out: &mut K,
+    link: &mut L,
+) -> Status
+    // What is written with each status, with status 5 a first part of it; and what went over the link: one transfer, that of the
+    // script, of the kind that the words ask for, or that of the zone that the words' numbers make, with a report; nothing with any
+    // other line; and where memory ran out nothing or that transfer.
+    ensures wrote { Wrote
+        (IsDueOf (λ p key at m. ⟦<Primary as Service<()>>⟧.Sends ((refuser, p), key) (request_at m at))
+        (form_read (option_map (map string_bytes) (option_copied words.entry))) (S.remaining src.old) (crossed (L.longest link.old) (L.lists link.old) (L.lists link.new)
+        (L.faults link.old) (L.faults link.new)))
+        (K.taken out.old) (K.taken out.new) result }
+    // Other words are answered by status 2 alone, or by 5, and only for a script is anything read.
+    ensures by_words { TellsWords (form_read (option_map (map string_bytes) (option_copied words.entry))) result }
+    ensures unread { AsksNoScript (form_read (option_map (map string_bytes) (option_copied words.entry))) → src.new ≡ src.old }
+    // The statuses of faults come where a count of faults rose; only want of memory and a later fault hide one.
+    ensures source_faults { TellsSource (S.faults src.old) (S.faults src.new) result }
+    ensures sink_faults { TellsSink (K.faults out.old) (K.faults out.new) result }
+    ensures link_faults { TellsLink (L.faults link.old) (L.faults link.new) result }
+    // A script is too long only where it has more octets, and what one says decides the status.
+    ensures long { result ≡ Status.TooLong → IfSome (S.remaining src.old) (λ xs. MOST_OCTETS < length xs) }
+    ensures by_script { (mode : Mode) (text : List ℕ) → form_read (option_map (map string_bytes) (option_copied words.entry)) ≡ Some (Transfer mode 0)
+        → S.remaining src.old ≡ Some text
+        → TellsScript mode text (S.faults src.old) (S.faults src.new) (K.faults out.old) (K.faults out.new)
+        (crossed (L.longest link.old) (L.lists link.old) (L.lists link.new)
+        (L.faults link.old) (L.faults link.new)) result }
+    // A zone that numbers make is transferred well over any honest link that takes its request.
+    ensures by_numbers { (size seed : ℕ) → form_read (option_map (map string_bytes) (option_copied words.entry)) ≡ Some (Generate size seed)
+        → TellsNumbers (K.faults out.old) (K.faults out.new)
+        (crossed (L.longest link.old) (L.lists link.old) (L.lists link.new)
+        (L.faults link.old) (L.faults link.new)) result }
+    // With a script's report or the number of a line, the source was read to its end.
+    ensures none_left { (mode : Mode) → form_read (option_map (map string_bytes) (option_copied words.entry)) ≡ Some (Transfer mode 0)
+        → IsTrue (is_read result) → S.remaining src.new ≡ emptied (S.remaining src.old) }
+{
+    match words {
+        Some(words) => run(rt, alloc, words, src, out, link),
+        None => write_last(out, USAGE, Status::Usage),
     }
 }
 

@@ -4,33 +4,39 @@
 use std::alloc::AllocError;
 use std::process::ExitCode;
 use std::{env, io};
-use zone_sync::{LoopLink, Status, StdSink, StdSource, run};
+use zone_sync::{LoopLink, Status, StdSink, StdSource, run_words};
 
-/// The program's words, without its name; none where one isn't UTF-8, since no form of words has it.
-fn words_of(rt: &HostRuntime) -> Result<Vec<String>, AllocError> {
+/// The program's words, without its name; None where one isn't UTF-8.
+fn words_of(rt: &HostRuntime) -> Result<Option<Vec<String>>, AllocError> {
     let mut words = Vec::new(rt.alloc());
     match env::args(rt) {
         Ok(all) => {
             for word in all.skip(1) {
                 words.push(word)?;
             }
+            Ok(Some(words))
         }
-        Err(error) if error.kind() == io::ErrorKind::OutOfMemory => return Err(AllocError),
-        Err(_) => {}
+        Err(error) if error.kind() == io::ErrorKind::OutOfMemory => Err(AllocError),
+        Err(_) => Ok(None),
     }
-    Ok(words)
+}
+
+/// Runs the program over the words that were read.
+fn run_on(rt: &HostRuntime, words: Option<&[String]>) -> Status {
+    run_words(
+        rt,
+        rt.alloc(),
+        words,
+        &mut StdSource::new(rt.reader()),
+        &mut StdSink::new(io::writer(rt)),
+        &mut LoopLink::new(rt.alloc()),
+    )
 }
 
 fn main(rt: HostRuntime) -> ExitCode {
     let status = match words_of(&rt) {
-        Ok(words) => run(
-            &rt,
-            rt.alloc(),
-            words.as_slice(),
-            &mut StdSource::new(rt.reader()),
-            &mut StdSink::new(io::writer(&rt)),
-            &mut LoopLink::new(rt.alloc()),
-        ),
+        Ok(Some(words)) => run_on(&rt, Some(words.as_slice())),
+        Ok(None) => run_on(&rt, None),
         Err(_) => Status::Memory,
     };
     ExitCode::from(status.code())
