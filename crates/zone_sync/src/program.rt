@@ -152,10 +152,10 @@ pub fn run_words<R, S: Source, K: Sink, L: Link>(
     ensures none_left { (mode : Mode) → form_read (option_map (map string_bytes) (option_copied words.entry)) ≡ Some (Transfer mode 0)
         → IsTrue (is_read result) → S.remaining src.new ≡ emptied (S.remaining src.old) }
 {
-    match words {
-        Some(words) => run(rt, alloc, words, src, out, link),
-        None => write_last(out, USAGE, Status::Usage),
-    }
+    let Some(words) = words else {
+        return write_last(out, USAGE, Status::Usage);
+    };
+    run(rt, alloc, words, src, out, link)
 }
 
 /// Reads the script, makes the transfer of this kind, and writes the report.
