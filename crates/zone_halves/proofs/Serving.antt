@@ -2,6 +2,7 @@
 use Rattle.std.proofs.Common.{◌≡◌, ℕ, ◌≤◌, false, List, [], ◌∷◌, ◌++◌, length, map, append-nil, refl, sym, ap, ◌∙◌, subst, Option, Some, None}
 use Rattle.std.specs.Prelude.{flat_map}
 use Rattle.std.specs.List.{AllByRecursion}
+use Rattle.std.proofs.lemmas.List.Concat.{flat_map-cons}
 use Rattle.zone_devices.specs.Streams.{with_more}
 use Rattle.message_frames.specs.Frames.{Cut, frame_of, frames_of, cut_frames}
 use Rattle.xfr_services.specs.Items.{Sending}
@@ -11,7 +12,7 @@ use Rattle.zone_halves.specs.Meeting.{WritesAll}
 
 -- the frames of one message are its frame
 one_frame : (message : List ℕ) → frames_of (message ∷ []) ≡ frame_of message
-one_frame message = append-nil (frame_of message)
+one_frame message = flat_map-cons frame_of message [] ∙ append-nil (frame_of message)
 
 first_of : List ℕ → List (List ℕ) → List ℕ
 first_of d [] = d
@@ -34,6 +35,6 @@ module _ (written : (messages : List (List ℕ)) → AllByRecursion (λ m. lengt
       by [] h all took = absurd (cc (ap has_more h))
       by (x ∷ []) h all took =
           let same : x.request ≡ request = ap (first_of x.request) h in
-          let replies : replies_of (x ∷ []) ≡ x.replies = append-nil x.replies in
+          let replies : replies_of (x ∷ []) ≡ x.replies = flat_map-cons (λ (y : Answered). y.replies) x [] ∙ append-nil x.replies in
           record { messages = x.replies; sends = subst (λ m. SendsJust (Sends m) false x.replies) same all.0.1; frames = took ∙ ap (λ l. with_more (frames_of l) (Some [])) replies }
       by (x ∷ y ∷ more) h all took = absurd (cc (ap has_more h))
