@@ -146,12 +146,7 @@ fn apply<R: Abort>(
 }
 
 /// Applies the updates of lines, and asserts what each answers.
-fn applies<R: Abort>(
-    rt: &R,
-    alloc: Global,
-    updater: &mut ZoneUpdater<'_, '_>,
-    lines: &str,
-) {
+fn applies<R: Abort>(rt: &R, alloc: Global, updater: &mut ZoneUpdater<'_, '_>, lines: &str) {
     for line in lines.split('\n') {
         let (kind, row) = line.split_once(' ').expect(rt, "an update");
         let (word, wanted) = row.split_once(' ').expect(rt, "a record");
@@ -193,12 +188,7 @@ pub(crate) fn walks<R: Abort>(rt: &R, alloc: Global, zone: &ReadZone, words: &st
 }
 
 /// The same of the version that an updater committed last.
-fn updater_walks<R: Abort>(
-    rt: &R,
-    alloc: Global,
-    updater: &mut ZoneUpdater<'_, '_>,
-    words: &str,
-) {
+fn updater_walks<R: Abort>(rt: &R, alloc: Global, updater: &mut ZoneUpdater<'_, '_>, words: &str) {
     let version = updater.handle().expect(rt, "memory");
     walks(rt, alloc, &version, words);
     drop(version);

@@ -14,11 +14,11 @@ use Rattle.zone_halves.specs.Meeting.{WritesAll}
 one_frame : (message : List ℕ) → frames_of (message ∷ []) ≡ frame_of message
 one_frame message = flat_map-cons frame_of message [] ∙ append-nil (frame_of message)
 
-first_of : List ℕ → List (List ℕ) → List ℕ
+abbrev first_of : List ℕ → List (List ℕ) → List ℕ
 first_of d [] = d
 first_of d (m ∷ more) = m
 
-has_more : List (List ℕ) → ℕ
+abbrev has_more : List (List ℕ) → ℕ
 has_more [] = 0
 has_more (m ∷ []) = 1
 has_more (m ∷ n ∷ more) = 2
