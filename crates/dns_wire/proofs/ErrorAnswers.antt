@@ -34,15 +34,15 @@ fitting_fits limit message (q ∷ questions) room =
     room_here (fits limit (with_question message q)) limit message (fitting limit (with_question message q) questions) q refl room
     (fitting_fits limit (with_question message q) questions)
 
--- a request's questions can be counted, so only want of memory refuses the answer
+-- a request's questions can be counted, so only want of memory refuses an answer that fits
 pub error_refused : (octets : List ℕ) (limit : ℕ) (header : Header) (old new : Building) (questions : List Question) (e : PushError)
-    → old ≡ building (header_wire header ++ replicate 8 0) limit → length questions < 2 ^ 16
+    → fits limit octets ≡ true → old ≡ building (header_wire header ++ replicate 8 0) limit → length questions < 2 ^ 16
     → AddsFitting questions old (Err e) new → Builds octets limit (Err e)
-error_refused octets limit header old new questions ShortBuf begun small refused = absurd refused
-error_refused octets limit header old new questions CountOverflow begun small refused =
+error_refused octets limit header old new questions ShortBuf room begun small refused = absurd refused
+error_refused octets limit header old new questions CountOverflow room begun small refused =
     let out = rw begun at refused in
     absurd (omega (arith, out))
-error_refused octets limit header old new questions Memory begun small refused = tt
+error_refused octets limit header old new questions Memory room begun small refused = room
 
 -- an error answer has room where its header has
 pub error_fits : (limit rcode : ℕ) (request : List ℕ) → 12 ≤ limit → length (questions_in request) < 2 ^ 16

@@ -1,12 +1,13 @@
 -- Questions added one after another.
 use Rattle.std.proofs.Common.{◌≡◌, ℕ, ◌+◌, ◌-◌, ◌<◌, ◌≤◌, ◌^◌, true, false, List, [], ◌∷◌, ◌++◌, length, take, drop, sym, ap, ◌∙◌, arith, subst}
-use Rattle.std.specs.Prelude.{slice_range, Option, None, Some, Ok, Err, filter_map, replicate}
+use Rattle.std.specs.Prelude.{slice_range, nat_le, min, flat_map, Option, None, Some, Ok, Err, filter_map, replicate}
 use Rattle.std.specs.Int.{w16, from_be_bytes}
 use Rattle.std.proofs.lemmas.Bool.Decides.{nat_tests}
 use Rattle.std.proofs.lemmas.List.{append_assoc, append-nil, drop_at, take_at, length-take-le, length-append, length-take, length-drop}
 use Rattle.std.proofs.lemmas.Nat.{from_be_bytes-to_be_bytes_2}
 use Rattle.dns_name.specs.Octets.{u16_octets}
-use Rattle.dns_wire.specs.Wire.{Building, Question, question_wire, header_in, header_wire, message_wire, header_number, with_item, with_question, fits}
+use Rattle.dns_rdata.specs.Records.{record_wire}
+use Rattle.dns_wire.specs.Wire.{Building, Header, Message, Question, question_wire, header_in, header_wire, counts_wire, counts_of, message_wire, header_number, with_item, with_question, fits}
 use Rattle.dns_wire.specs.Builds.{with_questions, Adds, AddsQuestions, Builds, building}
 use Rattle.dns_wire.specs.Parse.{questions_in}
 use Rattle.dns_wire.specs.Reply.{answer_header, answer_with, empty_answer}
@@ -23,6 +24,19 @@ item_longer k message item =
       length-append (take k message ++ u16_octets (header_number k message + 1)) (drop (k + 2) message),
       length-append (take k message) (u16_octets (header_number k message + 1)),
       length-take k message,
+      length-drop (k + 2) message,
+    )
+
+-- its octets are so many more
+pub item_length : (k : ℕ) (message item : List ℕ) → k + 2 ≤ length message → length (with_item k message item) ≡ length message + length item
+item_length k message item header =
+    let n = u16_octets (header_number k message + 1) in
+    omega (
+      arith,
+      length-append (take k message ++ n ++ drop (k + 2) message) item,
+      length-append (take k message ++ n) (drop (k + 2) message),
+      length-append (take k message) n,
+      length-take-le k message (omega arith),
       length-drop (k + 2) message,
     )
 
@@ -53,13 +67,14 @@ number_counted k message item header small =
 pub questions_refused : (A B : Type 0) (old now new after : Building) (q : Question) (rest all : List Question) (e : PushError)
     → now.limit ≡ old.limit → with_questions now.octets (q ∷ rest) ≡ with_questions old.octets all
     → header_number 4 now.octets + length (q ∷ rest) ≡ header_number 4 old.octets + length all
+    → fits old.limit (with_questions old.octets all) ≡ true → header_number 4 old.octets + length all < 2 ^ 16
     → Adds {A = A} 4 (question_wire q) now (Err e) new → AddsQuestions {A = B} all old (Err e) after
-questions_refused A B old now new after q rest all ShortBuf limit same count refused =
+questions_refused A B old now new after q rest all ShortBuf limit same count room few refused =
     let longer = questions_longer (with_question now.octets q) rest in
     let out : fits now.limit (with_questions now.octets (q ∷ rest)) ≡ false = not_fitting now.limit (with_question now.octets q) _ longer refused.0 in
     rw (limit, same) at out
-questions_refused A B old now new after q rest all CountOverflow limit same count refused = omega (arith, refused.1)
-questions_refused A B old now new after q rest all Memory limit same count refused = tt
+questions_refused A B old now new after q rest all CountOverflow limit same count room few refused = omega (arith, refused.1)
+questions_refused A B old now new after q rest all Memory limit same count room few refused = (room, omega (arith, few))
 
 -- ---- an answer of questions alone
 
@@ -90,7 +105,45 @@ pub answered : (request : List ℕ) (rcode : ℕ) → length (questions_in reque
     → with_questions (header_wire (answer_header (header_in request) rcode) ++ replicate 8 0) (questions_in request) ≡ message_wire (empty_answer request rcode)
 answered request rcode small = all_questions (questions_in request) request rcode [] (omega arith)
 
--- so a refused question refuses the answer
+-- the octets of a message are its header's and its items'
+pub wire_length : (m : Message) → length (message_wire m)
+    ≡ 12 + length (flat_map question_wire m.questions) + length (flat_map record_wire m.answers) + length (flat_map record_wire m.authority) + length (flat_map record_wire m.additional)
+wire_length m =
+    let front = header_wire m.header ++ counts_wire (counts_of m) in
+    let asked = front ++ flat_map question_wire m.questions in
+    let answered = asked ++ flat_map record_wire m.answers in
+    let referred = answered ++ flat_map record_wire m.authority in
+    omega (
+      arith,
+      length-append front (flat_map question_wire m.questions),
+      length-append asked (flat_map record_wire m.answers),
+      length-append answered (flat_map record_wire m.authority),
+      length-append referred (flat_map record_wire m.additional),
+    )
+
+-- so the length of the questions tells whether the answer has room
+pub answer_room : (request : List ℕ) (rcode limit len : ℕ) (old : Building) → old ≡ building (header_wire (answer_header (header_in request) rcode) ++ replicate 8 0) limit
+    → len ≡ length (flat_map question_wire (questions_in request))
+    → nat_le (length old.octets + len) (min old.limit 65535) ≡ fits limit (message_wire (empty_answer request rcode))
+answer_room request rcode limit len old begun is =
+    let long : length old.octets + len ≡ length (message_wire (empty_answer request rcode)) = rw (begun, is) (omega (arith, wire_length (empty_answer request rcode))) in
+    ap (λ (b : Building). nat_le (length old.octets + len) (min b.limit 65535)) begun ∙ ap (λ n. nat_le n (min limit 65535)) long
+
+-- and where it has, its questions have
+pub asked_fit : (request : List ℕ) (rcode limit : ℕ) (old : Building) (questions : List Question)
+    → old ≡ building (header_wire (answer_header (header_in request) rcode) ++ replicate 8 0) limit
+    → questions ≡ questions_in request → length questions < 2 ^ 16
+    → fits limit (message_wire (empty_answer request rcode)) ≡ true → fits old.limit (with_questions old.octets questions) ≡ true
+asked_fit request rcode limit old questions begun asked small room =
+    let few : length (questions_in request) < 2 ^ 16 = rw asked at small in
+    let P : List ℕ → Type 0 = λ m. fits limit m ≡ true in
+    rw (begun, asked) (subst P (sym (answered request rcode few)) room)
+
+-- no question is counted before the first is added
+pub none_asked : (header : Header) (limit : ℕ) (old : Building) → old ≡ building (header_wire header ++ replicate 8 0) limit → header_number 4 old.octets ≡ 0
+none_asked header limit old begun = rw begun refl
+
+-- a refused question refuses the answer
 pub answer_refused : (A : Type 0) (request : List ℕ) (rcode limit : ℕ) (old new : Building) (questions : List Question) (e : PushError)
     → old ≡ record { octets = header_wire (answer_header (header_in request) rcode) ++ replicate 8 0; limit = limit }
     → questions ≡ questions_in request → length questions < 2 ^ 16
@@ -103,7 +156,11 @@ answer_refused A request rcode limit old new questions ShortBuf begun asked smal
 answer_refused A request rcode limit old new questions CountOverflow begun asked small refused =
     let out = rw begun at refused in
     absurd (omega (arith, out))
-answer_refused A request rcode limit old new questions Memory begun asked small refused = tt
+answer_refused A request rcode limit old new questions Memory begun asked small refused =
+    let few : length (questions_in request) < 2 ^ 16 = rw asked at small in
+    let whole = rw (begun, asked) at refused in
+    let P : List ℕ → Type 0 = λ m. fits limit m ≡ true in
+    subst P (answered request rcode few) whole.0
 
 -- and all questions make it
 pub answer_built : (A : Type 0) (a : A) (request : List ℕ) (rcode limit : ℕ) (old new : Building) (questions : List Question)

@@ -1,5 +1,5 @@
 -- What adding to a message under construction, or taking back from it, leaves, and what is refused.
-use Rattle.std.specs.Prelude.{◌≡◌, ◌≢◌, ℕ, ◌+◌, ◌<◌, ◌==◌, nat_le, min, Bool, true, false, List, [], ◌∷◌, length, take, Option, Some, None, Result, Ok, Err}
+use Rattle.std.specs.Prelude.{◌≡◌, ◌≢◌, ℕ, ◌+◌, ◌<◌, ◌≤◌, ◌==◌, nat_le, min, Bool, true, false, List, [], ◌∷◌, length, take, Option, Some, None, Result, Ok, Err}
 use Rattle.dns_rdata.specs.Records.{Record, record_wire}
 use Rattle.dns_wire.specs.Wire.{Building, Question, with_item, with_question, header_number, fits}
 use Rattle.dns_wire.specs.Numbers.{with_number}
@@ -35,33 +35,35 @@ HasRoom k len old (Err Memory) = ⊥
 abbrev pub Pushes : ℕ → Record → Building → Result (Unit {0}) PushError → Building → Type 0
 Pushes k r old result new = Adds k (record_wire r) old result new
 
--- One case for each answer of a call that builds a whole message: these octets, where they fit; else a PushError.
+-- One case for each answer of a call that builds a whole message: these octets, where they fit; ShortBuf where they don't; Memory only
+-- where they would.
 abbrev pub Builds : List ℕ → ℕ → Result Building PushError → Type 0
 Builds octets limit (Ok new) = (fits limit octets ≡ true) × (new ≡ record { octets = octets; limit = limit })
 Builds octets limit (Err ShortBuf) = fits limit octets ≡ false
 Builds octets limit (Err CountOverflow) = ⊥
-Builds octets limit (Err Memory) = Unit {0}
+Builds octets limit (Err Memory) = fits limit octets ≡ true
 
 -- the message with these questions at its end, one after another
 abbrev pub with_questions : List ℕ → List Question → List ℕ
 with_questions message [] = message
 with_questions message (q ∷ questions) = with_questions (with_question message q) questions
 
--- One case for each answer of a call that adds several questions: all added where all fit and can be counted; else a PushError.
+-- One case for each answer of a call that adds several questions: all added where all fit and can be counted; else a PushError, Memory
+-- only where all could have been added.
 abbrev pub AddsQuestions : {A : Type 0} → List Question → Building → Result A PushError → Building → Type 0
 AddsQuestions questions old (Ok a) new = (fits old.limit (with_questions old.octets questions) ≡ true) × (new ≡ record old { octets = with_questions old.octets questions })
 AddsQuestions questions old (Err ShortBuf) new = fits old.limit (with_questions old.octets questions) ≡ false
 AddsQuestions questions old (Err CountOverflow) new = 65535 < header_number 4 old.octets + length questions
-AddsQuestions questions old (Err Memory) new = Unit {0}
+AddsQuestions questions old (Err Memory) new = (fits old.limit (with_questions old.octets questions) ≡ true) × (header_number 4 old.octets + length questions ≤ 65535)
 
 -- One case for each answer of a call that adds questions up to the first without room: those that fit, and whether that is all of them;
--- CountOverflow only where all can't be counted. Want of room is no error.
+-- CountOverflow only where all can't be counted, Memory only where they can. Want of room is no error.
 abbrev pub AddsFitting : List Question → Building → Result Bool PushError → Building → Type 0
 AddsFitting questions old (Ok all) new = (new ≡ record old { octets = with_questions old.octets (fitting old.limit old.octets questions) })
     × (all ≡ (length (fitting old.limit old.octets questions) == length questions))
 AddsFitting questions old (Err ShortBuf) new = ⊥
 AddsFitting questions old (Err CountOverflow) new = 65535 < header_number 4 old.octets + length questions
-AddsFitting questions old (Err Memory) new = Unit {0}
+AddsFitting questions old (Err Memory) new = header_number 4 old.octets + length questions ≤ 65535
 
 -- the message without what stands from a place on, the count at place k of its header 0
 abbrev pub cut_at : ℕ → ℕ → Building → Building

@@ -1,11 +1,11 @@
 // A message that is being built, and what its sections have in common.
 
-ghost use Rattle.std.specs.Prelude.{◌≡◌, ◌+◌, ◌^◌, ◌<◌, ◌≤◌, ◌++◌, length, take, drop, replicate, vec_len, if◌then◌else◌, IfOk, IsTrue, Some};
+ghost use Rattle.std.specs.Prelude.{◌≡◌, ◌+◌, ◌^◌, ◌<◌, ◌≤◌, ◌++◌, nat_le, min, true, length, take, drop, replicate, vec_len, flat_map, if◌then◌else◌, IfOk, Some};
 ghost use Rattle.std.specs.List.{filter_map};
 ghost use Rattle.dns_rdata.specs.Records.{record_wire};
 ghost use Rattle.dns_wire.specs.Wire.{header_in, header_wire, header_number, question_wire, message_wire, fits, Message as MessageOf};
 ghost use Rattle.dns_wire.specs.Numbers.{counts_in};
-ghost use Rattle.dns_wire.specs.Builds.{Adds, AddsFitting, AddsQuestions, Builds, HasRoom, cut_at, rewound};
+ghost use Rattle.dns_wire.specs.Builds.{Adds, AddsFitting, AddsQuestions, Builds, HasRoom, cut_at, rewound, with_questions};
 ghost use Rattle.dns_wire.specs.Reply.{answer_header, empty_answer, error_answer};
 ghost use Rattle.dns_wire.specs.Parse.{parsed, answers_start, authority_start, additional_start};
 ghost use Rattle.dns_wire.specs.Written.{IsMessage, parsed_of};
@@ -111,13 +111,28 @@ impl<S> SectionBuilder<S> {
         self.limit = MAX_LEN;
     }
 
+    /// The push limit, 65,535 where none was set.
+    pub fn push_limit(&self) -> usize
+        ensures { result ≡ self.now.limit }
+    {
+        self.limit
+    }
+
+    /// Whether so many octets more are within the push limit.
+    fn has_room(&self, len: usize) -> bool
+        requires { length self.now.octets + len < 2 ^ 63 }
+        ensures { result ≡ nat_le (length self.now.octets + len) (min self.now.limit 65535) }
+    {
+        self.octets.len() + len <= self.limit.min(MAX_LEN)
+    }
+
     /// The count in the two octets at `place` of the header, where an item of `len` octets has room and can be counted there.
     fn count_for(&self, place: usize, len: usize) -> Result<u16, PushError>
         requires header { place + 2 ≤ 12 }
         requires item { length self.now.octets + len < 2 ^ 63 }
         ensures { HasRoom place len self.now result }
     {
-        if self.octets.len() + len > self.limit.min(MAX_LEN) {
+        if !self.has_room(len) {
             return Err(PushError::ShortBuf);
         }
         let count = number_at(self.octets.as_slice(), place);
@@ -249,11 +264,11 @@ impl MessageBuilder {
         })
     }
 
-    /// Adds the questions that are left, up to the first that can't be read.
+    /// Adds the questions that are left, up to the first that can't be read. All of them have room and can be counted.
     fn push_questions(&mut self, mut questions: QuestionSection<'_>) -> Result<(), PushError>
-        requires room { IsTrue (fits self.old.limit self.old.octets) }
+        requires room { fits self.old.limit (with_questions self.old.octets (filter_map (λ q. q) questions.left)) ≡ true }
         requires header { 12 ≤ length self.old.octets }
-        requires count { header_number 4 self.old.octets < 2 ^ 16 }
+        requires few { header_number 4 self.old.octets + length (filter_map (λ q. q) questions.left) < 2 ^ 16 }
         ensures { AddsQuestions (filter_map (λ q. q) questions.entry.left) self.old result self.new }
     {
         loop {
@@ -266,9 +281,10 @@ impl MessageBuilder {
     }
 
     /// Adds the questions that are left, up to the first that can't be read or has no room. Tells whether none was without room.
+    /// All of them can be counted.
     fn push_fitting(&mut self, mut questions: QuestionSection<'_>) -> Result<bool, PushError>
         requires header { 12 ≤ length self.old.octets }
-        requires count { header_number 4 self.old.octets < 2 ^ 16 }
+        requires few { header_number 4 self.old.octets + length (filter_map (λ q. q) questions.left) < 2 ^ 16 }
         ensures { AddsFitting (filter_map (λ q. q) questions.entry.left) self.old result self.new }
     {
         loop {
@@ -284,24 +300,23 @@ impl MessageBuilder {
         }
     }
 
-    /// A message of this header and no item, with the same push limit.
-    fn restarted(self, header: Header) -> Result<MessageBuilder, AllocError>
-        ensures { IfOk result (λ b. b
-            ≡ record { octets = header_wire header ++ replicate 8 0; limit = self.limit }) }
+    /// A message of this header and no item, with the same push limit. It takes no memory.
+    fn restarted(self, header: Header) -> MessageBuilder
+        ensures { result ≡ record { octets = header_wire header ++ replicate 8 0; limit = self.limit } }
     {
         let mut octets = self.octets;
-        octets.clear();
-        octets.extend_from_slice(&[0; 12])?;
+        octets.truncate(12);
+        octets.fill(0);
         write_header(&mut octets, header);
-        Ok(MessageBuilder {
+        MessageBuilder {
             octets,
             limit: self.limit,
             section: PhantomData,
-        })
+        }
     }
 
     /// Starts over with an answer to a request: its id, opcode, RD and its questions up to the first that can't be read, QR
-    /// set, that rcode, and no record (RFC 1035, 4.1.1). Refused where that is more than the push limit, or memory runs out.
+    /// set, that rcode, and no record (RFC 1035, 4.1.1). `ShortBuf` where that is more than the push limit; `Memory` only where it isn't.
     pub fn start_answer(
         self,
         request: &Message<'_>,
@@ -309,10 +324,8 @@ impl MessageBuilder {
     ) -> Result<AnswerBuilder, PushError>
         ensures { Builds (message_wire (empty_answer request.now rcode)) self.limit result }
     {
-        let Ok(mut message) = self.restarted(request.header().answer(rcode)) else {
-            return Err(PushError::Memory);
-        };
-        if message.limit < message.octets.len() {
+        let mut message = self.restarted(request.header().answer(rcode));
+        if !message.has_room(questions_len(request.question())) {
             return Err(PushError::ShortBuf);
         }
         message.push_questions(request.question())?;
@@ -328,7 +341,7 @@ impl MessageBuilder {
     }
 
     /// Starts over with an error answer to a request: as `start_answer`, but the first question without room ends the questions,
-    /// and the rcode is then SERVFAIL (RFC 1035, 4.1.1). Refused where the header alone is more than the push limit, or memory runs out.
+    /// and the rcode is then SERVFAIL (RFC 1035, 4.1.1). `ShortBuf` where the header alone is more than the push limit; `Memory` only where it isn't.
     pub fn start_error(
         self,
         request: &Message<'_>,
@@ -337,14 +350,28 @@ impl MessageBuilder {
         ensures { Builds (message_wire (error_answer self.limit request.now rcode)) self.limit result }
     {
         let asked = request.header();
-        let Ok(mut message) = self.restarted(asked.answer(Rcode::NOERROR)) else {
-            return Err(PushError::Memory);
-        };
+        let mut message = self.restarted(asked.answer(Rcode::NOERROR));
         if message.limit < message.octets.len() {
             return Err(PushError::ShortBuf);
         }
         let all = message.push_fitting(request.question())?;
         message.set_error_header(&asked, all, rcode);
         Ok(message.answer())
+    }
+}
+
+/// How many octets the questions that are left have as they are sent, up to the first that can't be read.
+fn questions_len(mut questions: QuestionSection<'_>) -> usize
+    requires few { length questions.left < 2 ^ 16 }
+    ensures len { result ≡ length (flat_map question_wire (filter_map (λ q. q) questions.entry.left)) }
+    ensures bound { result < 2 ^ 26 }
+{
+    let mut len = 0;
+    loop {
+        match questions.next_question() {
+            Some(Ok(question)) => len += usize::from(question.qname().compose_len()) + 4,
+            Some(Err(_)) => return len,
+            None => return len,
+        }
     }
 }

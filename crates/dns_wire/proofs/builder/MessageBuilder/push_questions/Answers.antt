@@ -11,4 +11,4 @@ returns-in_err-push_question-in-Some-Ok c =
     let count = rw next.0 at c.loop-question.invariant.count in
     rw (from.1, from.2) (questions_refused (Unit {0}) (Unit {0}) c.args.self.now c.loop-question.self c.push_question.new.self c.push_question.new.self c.in-Some-Ok.question
     (filter_map (λ q. q) c.next_question.new.self.left) (filter_map (λ q. q) c.args.questions.left) _ c.loop-question.invariant.limit same count
-    c.in_err-push_question-in-Some-Ok.ensures)
+    c.requires.room c.requires.few c.in_err-push_question-in-Some-Ok.ensures)

@@ -1,14 +1,12 @@
 use Rattle.std.proofs.Common.{◌≡◌, ◌+◌, ◌<◌, ◌≤◌, ◌^◌, length}
-use Rattle.std.specs.Prelude.{IsTrue}
 use Rattle.std.specs.List.{filter_map}
-use Rattle.dns_wire.specs.Wire.{fits, header_number}
+use Rattle.dns_wire.specs.Wire.{header_number}
 use Rattle.dns_wire.specs.Builds.{with_questions}
 use Rattle.dns_wire.proofs.builder.MessageBuilder.push_questions.Given as goal
 
 abbrev pub invariant-loop-question : goal.invariant-loop-question
 invariant-loop-question l = record {
   limit : l.self.limit ≡ l.fn.self.limit;
-  room : IsTrue (fits l.self.limit l.self.octets);
   header : 12 ≤ length l.self.octets;
   small : header_number 4 l.self.octets < 2 ^ 16;
   rest : with_questions l.self.octets (filter_map (λ q. q) l.questions.left) ≡ with_questions l.fn.self.octets (filter_map (λ q. q) l.fn.questions.left);
