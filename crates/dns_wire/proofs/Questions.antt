@@ -1,5 +1,5 @@
 -- Questions added one after another.
-use Rattle.std.proofs.Common.{◌≡◌, ℕ, ◌+◌, ◌-◌, ◌<◌, ◌≤◌, ◌^◌, true, false, List, [], ◌∷◌, ◌++◌, length, take, drop, sym, ap, ◌∙◌, arith, subst}
+use Rattle.std.proofs.Common.{◌≡◌, ℕ, ◌+◌, ◌-◌, ◌<◌, ◌≤◌, ◌^◌, true, false, List, [], ◌∷◌, ◌++◌, length, take, drop, refl, sym, ap, ◌∙◌, arith, subst}
 use Rattle.std.specs.Prelude.{slice_range, nat_le, min, flat_map, Option, None, Some, Ok, Err, filter_map, replicate}
 use Rattle.std.specs.Int.{w16, from_be_bytes}
 use Rattle.std.proofs.lemmas.Bool.Decides.{nat_tests}
@@ -111,13 +111,13 @@ pub wire_length : (m : Message) → length (message_wire m)
 wire_length m =
     let front = header_wire m.header ++ counts_wire (counts_of m) in
     let asked = front ++ flat_map question_wire m.questions in
-    let answered = asked ++ flat_map record_wire m.answers in
-    let referred = answered ++ flat_map record_wire m.authority in
+    let replied = asked ++ flat_map record_wire m.answers in
+    let referred = replied ++ flat_map record_wire m.authority in
     omega (
       arith,
       length-append front (flat_map question_wire m.questions),
       length-append asked (flat_map record_wire m.answers),
-      length-append answered (flat_map record_wire m.authority),
+      length-append replied (flat_map record_wire m.authority),
       length-append referred (flat_map record_wire m.additional),
     )
 
