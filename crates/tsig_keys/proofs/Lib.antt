@@ -1,3 +1,4 @@
 pub mod HmacOnLiterals
 pub mod KeyBlocks
 pub mod KeyLookups
+pub mod Comparing

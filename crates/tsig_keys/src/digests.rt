@@ -1,5 +1,7 @@
 // Digests under way, and HMAC (RFC 2104) over them.
-ghost use Rattle.std.specs.Prelude.{◌≡◌, ◌++◌, ◌-◌, ◌≤◌, ℕ, List, [], length, take, bit_xor, map, replicate};
+ghost use Rattle.std.specs.Prelude.{◌≡◌, ◌==◌, ◌++◌, ◌-◌, ◌≤◌, ℕ, List, [], length, take, bit_xor, map, nat_eq, replicate};
+ghost use Rattle.std.specs.List.{starts_with};
+ghost use Rattle.std.specs.Cmp.Lexicographic.{pointwise};
 ghost use Rattle.tsig_keys.specs.Hmac.{hmac, digest, block_len, block_key};
 ghost use Rattle.tsig_keys.specs.HmacState.{HoldsHash, HoldsHmac};
 ghost use Rattle.tsig_keys.specs.declared.algorithms.Algorithm.{Algorithm};
@@ -59,6 +61,30 @@ impl Mac {
         }
         Mac::from_octets(octets)
     }
+
+    /// Whether it begins with these octets, as the whole of a received MAC does (RFC 8945, 5.2.2.1). They are compared in one pass,
+    /// which no octet ends early, so that its time doesn't tell how many are right. That it takes the same time lies outside the proof.
+    pub fn begins_with(&self, octets: &[u8]) -> bool
+        ensures { result ≡ starts_with nat_eq self.now octets.now }
+    {
+        let own = self.as_slice();
+        if own.len() < octets.len() {
+            return false;
+        }
+        differences(octets, &own[..octets.len()]) == 0
+    }
+}
+
+/// The differences of the octets at the same places, all joined: 0 exactly where they are alike.
+fn differences(octets: &[u8], others: &[u8]) -> u8
+    requires { length octets.now ≡ length others.now }
+    ensures { (result == 0) ≡ pointwise nat_eq octets.now others.now }
+{
+    let mut joined = 0;
+    for i in 0..octets.len() {
+        joined |= octets[i] ^ others[i];
+    }
+    joined
 }
 
 impl AsSlice<u8> for Mac {

@@ -1,9 +1,9 @@
 // Shared keys (RFC 8945, 1.2).
-ghost use Rattle.std.specs.Prelude.{◌≡◌, ℕ, List, [], Option, Some, Ok, take, length, IfOk, IfErr};
+ghost use Rattle.std.specs.Prelude.{◌≡◌, ℕ, List, [], Option, Some, Ok, take, length, IsTrue, IfOk, IfErr};
 ghost use Rattle.dns_name.specs.Names.{name_text};
 ghost use Rattle.tsig_keys.specs.Hmac.{block_len, native_len};
 ghost use Rattle.tsig_keys.specs.HmacState.{HoldsHmac};
-ghost use Rattle.tsig_keys.specs.TsigKeys.{new_key, compose_len, key_debug};
+ghost use Rattle.tsig_keys.specs.TsigKeys.{new_key, is_mac_len, compose_len, key_debug};
 ghost use Rattle.tsig_keys.specs.KeySources.{RefusesKey};
 
 use crate::Algorithm;
@@ -122,7 +122,8 @@ impl Key {
 
     /// How many octets of its MACs are sent.
     pub fn signing_len(&self) -> usize
-        ensures { result ≡ self.now.signing_len }
+        ensures len { result ≡ self.now.signing_len }
+        ensures bounds { IsTrue (is_mac_len self.now.algorithm self.now.signing_len) }
     {
         self.signing_len
     }

@@ -195,7 +195,7 @@ fn signed_fault(
     if tsig.mac_slice().len() < key.min_mac_len() {
         return Some(ValidationError::BadTrunc);
     }
-    if !context.finish().as_slice().starts_with(tsig.mac_slice()) {
+    if !context.finish().begins_with(tsig.mac_slice()) {
         return Some(ValidationError::BadSig);
     }
     if refused && tsig.error() == TsigRcode::BADTIME.to_int() {

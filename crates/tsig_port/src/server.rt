@@ -178,11 +178,7 @@ fn mac_fault(key: &Key, received: &Message<'_>, signed: &SignedBy<'_>) -> Option
         signed.tsig.original_id(),
     );
     update_variables(&mut context, &signed.owner, &signed.tsig);
-    if context
-        .finish()
-        .as_slice()
-        .starts_with(signed.tsig.mac_slice())
-    {
+    if context.finish().begins_with(signed.tsig.mac_slice()) {
         return None;
     }
     Some(TsigRcode::BADSIG)
