@@ -1,12 +1,13 @@
 // The replies to refused requests (RFC 8945, 5.2 and 5.3.2).
-ghost use Rattle.std.specs.Prelude.{◌≡◌, ℕ, List, []};
+ghost use Rattle.std.specs.Prelude.{◌≡◌, ℕ, List, [], length};
 ghost use Rattle.dns_numbers.specs.Codes.{badtime, notauth};
 ghost use Rattle.dns_name.specs.Octets.{u48_octets};
+ghost use Rattle.dns_rdata.specs.Records.{record_wire};
 ghost use Rattle.dns_wire.specs.Builds.{Builds};
 ghost use Rattle.dns_wire.specs.Reply.{empty_answer};
 ghost use Rattle.dns_wire.specs.Wire.{arcount_in, message_wire, with_additional};
 ghost use Rattle.tsig_port.specs.HmacState.{HoldsHmac};
-ghost use Rattle.tsig_port.specs.ServerCheck.{Verdict, reply_to, unsigned_error as unsigned_error_of, unsigned_error_by as unsigned_error_by_of};
+ghost use Rattle.tsig_port.specs.ServerCheck.{Begins, Verdict, reply_to, unsigned_error as unsigned_error_of, unsigned_error_by as unsigned_error_by_of};
 ghost use Rattle.tsig_port.specs.States.{RefusalOf};
 ghost use Rattle.tsig_port.specs.Tsig.{badtime_tsig as badtime_tsig_of, blank_tsig, signature_of, tsig_record, with_len};
 
@@ -15,7 +16,7 @@ use crate::signature::{SignedBy, signature, update_variables};
 use crate::signing::{record_of, sent_mac};
 use dns_name::Labelled;
 use dns_numbers::{Rcode, TsigRcode};
-use dns_wire::{AdditionalBuilder, Message, MessageBuilder, PushError};
+use dns_wire::{AdditionalBuilder, ComposeRecord, Message, MessageBuilder, PushError};
 use tsig_keys::{Hmac, Key, KeyRef, Mac};
 use tsig_rdata::{SigningTsig, Time48, Tsig, TsigRecord};
 
@@ -24,8 +25,8 @@ impl<K: KeyRef> ServerError<K> {
     /// BADSIG and BADTRUNC are NOTAUTH with the request's TSIG, its MAC empty, the received id as original id, the error and no
     /// other octets, unsigned; SERVFAIL without a TSIG where `request` has none that can be read. BADTIME is NOTAUTH, signed as a
     /// first answer, with the time signed and the fudge of the request and the server's time as other octets (RFC 8945, 5.2 and
-    /// 5.3.2, but that a BADTRUNC reply would there be signed). `request` is the message as it was refused, `message` is started over and keeps its push limit. `ShortBuf` where
-    /// the reply is longer than that, `Memory` without memory; `CountOverflow` never.
+    /// 5.3.2, but that a BADTRUNC reply would there be signed). `request` is the message as it was refused, `message` is started over and
+    /// keeps its push limit. `ShortBuf` where the reply is longer than that, `Memory` only where it isn't; `CountOverflow` never.
     pub fn build_message(
         self,
         request: &Message<'_>,
@@ -37,8 +38,12 @@ impl<K: KeyRef> ServerError<K> {
             ServerError::Formerr => empty_reply(request, message, Rcode::FORMERR),
             ServerError::Unsigned(error) => unsigned_error(request, message, error),
             ServerError::BadTime(key, context, time_signed, fudge, now) => {
-                let reply = start_refusal(request, message)?;
-                badtime_reply(key.key_ref(), context, reply, time_signed, fudge, now)
+                match start_refusal(request, message, badtime_len(key.key_ref())) {
+                    Ok(reply) => {
+                        badtime_reply(key.key_ref(), context, reply, time_signed, fudge, now)
+                    }
+                    Err(error) => Err(error),
+                }
             }
         }
     }
@@ -58,14 +63,28 @@ fn empty_reply(
     }
 }
 
-/// NOTAUTH, before a TSIG is put on it.
+/// NOTAUTH, before a TSIG record of so many octets is put on it: refused as the whole reply would be.
 fn start_refusal(
     request: &Message<'_>,
     message: MessageBuilder,
+    room: usize,
 ) -> Result<AdditionalBuilder, PushError>
-    ensures { Builds (message_wire (empty_answer request.now notauth)) message.limit result }
+    ensures { (item : List ℕ) → length item ≡ room → Begins (message_wire (empty_answer request.now notauth)) item message.limit result }
 {
-    empty_reply(request, message, Rcode::NOTAUTH)
+    let limit = message.push_limit();
+    let most = limit.min(65535);
+    if most < room {
+        return Err(PushError::ShortBuf);
+    }
+    let mut message = message;
+    message.set_push_limit(most - room);
+    match empty_reply(request, message, Rcode::NOTAUTH) {
+        Ok(mut reply) => {
+            reply.set_push_limit(limit);
+            Ok(reply)
+        }
+        Err(error) => Err(error),
+    }
 }
 
 /// The reply with this TSIG record after it.
@@ -103,8 +122,14 @@ fn unsigned_error_by(
 ) -> Result<AdditionalBuilder, PushError>
     ensures { Builds (unsigned_error_of request.now signed.now.owner signed.now.tsig error) message.limit result }
 {
-    let reply = start_refusal(request, message)?;
-    put_tsig(reply, unsigned_record(signed, request.header().id, error))
+    let tsig = unsigned_record(signed, request.header().id, error);
+    match start_refusal(request, message, tsig.record_len() as usize) {
+        Ok(reply) => put_tsig(reply, tsig),
+        Err(error) => {
+            drop(tsig);
+            Err(error)
+        }
+    }
 }
 
 /// The record of this TSIG with an empty MAC, the received id as original id, the error and no other octets.
@@ -123,6 +148,16 @@ fn unsigned_record(signed: &SignedBy<'_>, received_id: u16, error: TsigRcode) ->
         Mac::from_octets(&[]),
     );
     TsigRecord::new(signed.owner.to_key_name(), unsigned)
+}
+
+/// How many octets the TSIG record of a BADTIME reply has: six are the server's time (RFC 8945, 4.2 and 5.2.3).
+fn badtime_len(key: &Key) -> usize
+    ensures { (request_mac message : List ℕ) (time_signed fudge now : ℕ)
+        → length (record_wire (tsig_record key.now.name (badtime_tsig_of key.now request_mac message time_signed fudge now))) ≡ result }
+{
+    // For the proof: a MAC is as long as it is sent.
+    let _ = key.signing_len();
+    usize::from(key.compose_len()) + 6
 }
 
 /// The reply with the TSIG that signs a BADTIME answer.
