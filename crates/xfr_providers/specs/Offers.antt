@@ -1,5 +1,5 @@
 -- What a provider offers, as its calls answer it.
-use Rattle.std.specs.Prelude.{◌≡◌, ℕ, Bool, true, false, ◌&&◌, ◌==◌, if◌then◌else◌, List, [], map, Option, Some, None, option_map, unwrap_or, Result, Ok, Err}
+use Rattle.std.specs.Prelude.{◌≡◌, ℕ, Bool, true, false, ◌&&◌, ◌==◌, if◌then◌else◌, List, [], map, Option, Some, None, option_map, unwrap_or, Result, Ok, Err, IsOk}
 use Rattle.dns_name.specs.Names.{Name, same_name}
 use Rattle.dns_wire.specs.Wire.{Question}
 use Rattle.tsig_port.specs.Tsig.{TsigKey}
@@ -64,14 +64,14 @@ zones_answer version_of zones None = Err ParseError
 zones_answer version_of zones (Some q) =
     found_answer (option_map version_of (find_zone zones q.qclass q.qname))
 
--- the answer is what the provider tells, or want of memory
+-- the answer is what the provider tells, or want of memory, which is told only in the place of an offer
 abbrev pub Answers : Result Offer XfrDataProviderError → Result Offer XfrDataProviderError → Type 0
 Answers told (Ok offer) = told ≡ Ok offer
 Answers told (Err ParseError) = told ≡ Err ParseError
 Answers told (Err UnknownZone) = told ≡ Err UnknownZone
 Answers told (Err Refused) = told ≡ Err Refused
 Answers told (Err TemporarilyUnavailable) = told ≡ Err TemporarilyUnavailable
-Answers told (Err Memory) = Unit {0}
+Answers told (Err Memory) = IsOk told
 
 -- the law of grants: a provider with a history offers what it keeps to one whose key it grants (RFC 1995, 2)
 abbrev pub HistoryGrants : Type 0

@@ -172,7 +172,7 @@ pub trait XfrDataProvider<M> {
     ghost told: { Self → List ℕ → M → Option ℕ → Result Offer XfrDataProviderError };
 
     /// What is sent in answer to this request, of which the requestor has the version of this serial, if any. `rt` is for a provider that
-    /// reads a zone, as `Zone::read` takes it.
+    /// reads a zone, as `Zone::read` takes it. Want of memory is told only where there is an offer, never for a refusal.
     fn request<R>(
         &self,
         rt: &R,

@@ -1,6 +1,6 @@
 -- What is chosen of an offer, and what is sent of that.
 use Rattle.std.proofs.Common.{◌≡◌, ℕ, Bool, false, ◌&&◌, not, List, Option, refl, sym, ap, ◌∙◌, subst}
-use Rattle.std.specs.Prelude.{Result, Ok, Err, is_some, option_map}
+use Rattle.std.specs.Prelude.{Result, Ok, Err, IsOk, is_some, option_map}
 use Rattle.dns_rdata.specs.Records.{Record}
 use Rattle.dns_wire.specs.Wire.{message_wire, fits}
 use Rattle.dns_wire.specs.Parse.{sole_question_in}
@@ -12,7 +12,7 @@ use Rattle.zone_model.specs.Version.{Version}
 use Rattle.xfr_replies.specs.TransferPages.{page_answer}
 use Rattle.xfr_server.specs.Items.{Sending, Calls, Makes, all_given, one_reply}
 use Rattle.xfr_server.specs.Transfers.{asked_serial, is_ixfr, chosen, choice_of, soa_reply, udp_reply, SendsChoice}
-use Rattle.xfr_server.specs.Choosing.{short_shown, short_sent}
+use Rattle.xfr_server.specs.Choosing.{IsOffered, short_shown, short_sent}
 use Rattle.xfr_server.specs.declared.transfer.Short.{Short}
 use Rattle.xfr_server.specs.declared.transfer.Short.TheVariants.{Error, SoaAlone}
 use Rattle.xfr_services.specs.declared.services.CallResult.{CallResult}
@@ -31,6 +31,14 @@ pub chosen_offer : (told : Option ℕ → Result Offer XfrDataProviderError) (mo
 chosen_offer told mode udp message offer asked same test given =
     let P : Option ℕ → Type 0 = λ o. (is_ixfr mode && not (is_some o)) ≡ false → told o ≡ Ok offer → chosen told mode udp message ≡ choice_of mode udp (sole_question_in message) o offer in
     subst P (sym same) (here told mode udp message offer) test given
+
+-- where the provider wants memory, it has an offer
+pub offered : (told : Option ℕ → Result Offer XfrDataProviderError) (mode : XfrMode) (message : List ℕ) (asked : Option ℕ) → asked ≡ asked_serial message
+    → (is_ixfr mode && not (is_some asked)) ≡ false → IsOk (told asked) → IsOffered told mode message
+offered told mode message asked same test given =
+    let P : Option ℕ → Type 0 = λ o. (is_ixfr mode && not (is_some o)) ≡ false in
+    let Q : Option ℕ → Type 0 = λ o. IsOk (told o) in
+    record { named = subst P same test; offer = subst Q same given }
 
 -- what is answered without a text
 pub calls_short : {S : Type 0} (LeftOf : S → List Sending → Type 0) (request : List ℕ) (limit : ℕ) (udp : Bool) (s : Short) (made : Result S ServiceError)

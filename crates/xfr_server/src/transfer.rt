@@ -226,7 +226,7 @@ fn choose_reply<R, M, X: XfrDataProvider<M>>(
     request: &Request<M>,
     mode: XfrMode,
 ) -> Result<Reply, ServiceError>
-    ensures { Chooses (transfers.chosen (X.told provider.now request.now.message request.now.metadata) mode (transfers.is_udp request.now.transport) request.now.message) result }
+    ensures { Chooses (X.told provider.now request.now.message request.now.metadata) mode (transfers.is_udp request.now.transport) request.now.message result }
 {
     let message = request.message.as_message();
     let asked = asked_serial(&message);
