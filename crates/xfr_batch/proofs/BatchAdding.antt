@@ -135,10 +135,16 @@ pub joins_overflow : (b : Beginning) (f : Building → Bool) (r : Record) (begun
     → Joins b f r begun kept (Ok (NotPushedMessageFull m)) kept
 joins_overflow b f r begun old m kept is room adds = absurd (overflow b begun r old m is room adds)
 
+memory_at : (b : Beginning) (rs : List Record) (r : Record) (new : Building) → has_room b rs ≡ true → Adds {A = Unit {0}} 6 (record_wire r) (message_with b rs) (Err Memory) new
+    → has_room b (rs ++ r ∷ []) ≡ true
+memory_at b rs r new room adds = ap (fits b.limit) (more_octets b rs r room) ∙ adds.0
+
 pub joins_memory : (b : Beginning) (f : Building → Bool) (r : Record) (begun : List Record) (old m : Building) (kept new : Option Building)
-    → old ≡ message_with b begun → Adds {A = Unit {0}} 6 (record_wire r) old (Err Memory) m → new ≡ Some m
+    → old ≡ message_with b begun → has_room b begun ≡ true → Adds {A = Unit {0}} 6 (record_wire r) old (Err Memory) m → new ≡ Some m
     → Joins b f r begun kept (Err Memory) new
-joins_memory b f r begun old m kept new is adds put = put ∙ ap (λ x. Some x) (adds.2 ∙ is)
+joins_memory b f r begun old m kept new is room adds put =
+    let P : Building → Type 0 = λ x. Adds {A = Unit {0}} 6 (record_wire r) x (Err Memory) m in
+    (memory_at b begun r m room (subst P is adds), put ∙ ap (λ x. Some x) (adds.2 ∙ is))
 
 -- ---- a message that begins with a record
 

@@ -71,7 +71,7 @@ tries_next b f r begun m old kept new (Err ShortBuf) is none had j = absurd j
 tries_next b f r begun m old kept new (Err CountOverflow) is none had j = j
 tries_next b f r begun m old kept new (Err Memory) is none had j =
     let h = begun_some b f begun m old is had in
-    j ∙ ap (λ x. Some x) (sym h.1) ∙ sym is
+    (j.1 ∙ ap (λ x. Some x) (sym h.1) ∙ sym is, λ some. j.0)
 
 tries_first_at : (b : Beginning) (f : Building → Bool) (r : Record) (old kept new : Option Building) (result : Result PushResult PushError)
     → old ≡ None → kept ≡ None → Opens b f r kept result new → Tries b f r [] old result new
@@ -81,7 +81,7 @@ tries_first_at b f r old kept new (Ok (NotPushedMessageFull l)) is none o = absu
 tries_first_at b f r old kept new (Ok Retry) is none o = o
 tries_first_at b f r old kept new (Err ShortBuf) is none o = (refl, o.0, o.1)
 tries_first_at b f r old kept new (Err CountOverflow) is none o = o
-tries_first_at b f r old kept new (Err Memory) is none o = o ∙ sym is
+tries_first_at b f r old kept new (Err Memory) is none o = (o ∙ sym is, λ some. absurd (some refl))
 
 pub tries_first : (b : Beginning) (f : Building → Bool) (r : Record) (begun : List Record) (old kept new : Option Building) (result : Result PushResult PushError)
     → old ≡ None → kept ≡ None → IsBegun b f begun old → Opens b f r kept result new → Tries b f r begun old result new
@@ -248,7 +248,7 @@ module _ {T E : Type 0} (begins : T → List ℕ → Beginning) (is_full : T →
   once_failed r kept new s CountOverflow error pushed batches st tried from = absurd tried
   once_failed r kept new s Memory error pushed batches st tried from =
       let P : Option Building → Type 0 = λ k. Stands begins is_full (batching q k s) pushed batches in
-      NoMemory from (still (ByPush r) kept new s pushed batches (subst P (sym tried) st))
+      NoMemory from (still (ByPush r) kept new s pushed batches (subst P (sym tried.0) st))
 
   pub once_never : (r : Record) (begun : List Record) (kept k : Option Building) (s : T) (old new : Batching T) (pushed : List Record) (batches : List (Batch T))
       → Tries (begins s q) (is_full s) r begun kept (Ok Retry) k → TriesOnce begins is_full Readies From r old pushed batches (Ok false) new

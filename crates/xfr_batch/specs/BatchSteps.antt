@@ -26,7 +26,7 @@ Joins b is_full r begun old (Ok (NotPushedMessageFull m)) new = (has_room b (beg
 Joins b is_full r begun old (Ok Retry) new = ⊥
 Joins b is_full r begun old (Err ShortBuf) new = ⊥
 Joins b is_full r begun old (Err CountOverflow) new = ⊥
-Joins b is_full r begun old (Err Memory) new = new ≡ Some (message_with b begun)
+Joins b is_full r begun old (Err Memory) new = (has_room b (begun ++ r ∷ []) ≡ true) × (new ≡ Some (message_with b begun))
 
 -- a message begun with a record
 abbrev pub Opens : Beginning → (Building → Bool) → Record → Option Building → Result PushResult PushError → Option Building → Type 0
@@ -40,6 +40,10 @@ Opens b is_full r old (Err ShortBuf) new = (has_room b (r ∷ []) ≡ false) × 
 Opens b is_full r old (Err CountOverflow) new = ⊥
 Opens b is_full r old (Err Memory) new = new ≡ None
 
+-- what want of memory for a record may hide: that it has no room in a message of its own; it is never told for a message that is begun and has none for it
+abbrev pub MemoryHides : Beginning → Record → List Record → Type 0
+MemoryHides b r begun = begun ≢ [] → has_room b (begun ++ r ∷ []) ≡ true
+
 -- a record pushed where these records were begun; a message that has to be handed on is given back
 abbrev pub Tries : Beginning → (Building → Bool) → Record → List Record → Option Building → Result PushResult PushError → Option Building → Type 0
 Tries b is_full r begun old (Ok PushedAndReadyForMore) new = (has_room b (begun ++ r ∷ []) ≡ true)
@@ -51,7 +55,7 @@ Tries b is_full r begun old (Ok (NotPushedMessageFull m)) new = (begun ≢ []) �
 Tries b is_full r begun old (Ok Retry) new = ⊥
 Tries b is_full r begun old (Err ShortBuf) new = (begun ≡ []) × (has_room b (r ∷ []) ≡ false) × (new ≡ None)
 Tries b is_full r begun old (Err CountOverflow) new = ⊥
-Tries b is_full r begun old (Err Memory) new = new ≡ old
+Tries b is_full r begun old (Err Memory) new = (new ≡ old) × MemoryHides b r begun
 
 -- where a message is given back that has no room for a record, what is kept stays
 abbrev pub KeepsWhereFull : Option Building → Result PushResult PushError → Option Building → Type 0

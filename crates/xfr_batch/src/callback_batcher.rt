@@ -105,8 +105,8 @@ impl<T, C: Callbacks<T>> CallbackBatcher<C, T> {
     /// with the record (`PushedAndLimitReached`) or, where it has no room for that, without (`NotPushedMessageFull`). None is begun then, and
     /// the record can be tried again. `Retry` never comes.
     ///
-    /// `ShortBuf` tells that the record has no room in a message of its own. Without memory nothing has changed. It is for a caller that
-    /// keeps what is made itself, as a stream that is pulled.
+    /// `ShortBuf` tells that the record has no room in a message of its own. Without memory nothing has changed, and a message that is begun
+    /// has room for the record. It is for a caller that keeps what is made itself, as a stream that is pulled.
     pub fn try_push<R: ComposeRecord>(&mut self, item: &R) -> Result<PushResult, PushError>
         ensures tries { (begun : List Record)
             → IsBegun (C.begins self.old.state self.old.request) (C.is_full self.old.state) begun self.old.answer

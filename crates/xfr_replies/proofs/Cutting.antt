@@ -130,7 +130,7 @@ no_pages room singles ((x ∷ page) ∷ more) cut = let e = cut.joined in cc
 -- ---- what can be sent
 
 -- a list of records before the first without room
-sendable_more : (room : ℕ) (r : Record) (rest : List Record) → has_page room r ≡ true → sendable room (r ∷ rest) ≡ r ∷ sendable room rest
+pub sendable_more : (room : ℕ) (r : Record) (rest : List Record) → has_page room r ≡ true → sendable room (r ∷ rest) ≡ r ∷ sendable room rest
 sendable_more room r rest fits = rw fits refl
 
 pub sendable_none : (room : ℕ) (r : Record) (rest : List Record) → has_page room r ≡ false → sendable room (r ∷ rest) ≡ []

@@ -1,13 +1,13 @@
 -- What is pulled of a text, message by message.
 use Rattle.std.proofs.Common.{◌≡◌, ℕ, ◌+◌, ◌≤◌, ◌<◌, Bool, true, false, true≢false, List, [], ◌∷◌, ◌++◌, length, map, drop, refl, sym, ap, ◌∙◌, subst, arith}
-use Rattle.std.specs.Prelude.{◌≢◌, nat_le, slice_get, Option, Some, None, Ok, Err, if◌then◌else◌}
+use Rattle.std.specs.Prelude.{◌≢◌, nat_le, slice_get, flat_map, Option, Some, None, Ok, Err, if◌then◌else◌}
 use Rattle.std.specs.List.{list_all}
 use Rattle.std.proofs.lemmas.Bool.{and_left}
 use Rattle.std.proofs.lemmas.List.{append_assoc}
 use Rattle.std.proofs.lemmas.List.Sums.{sum_by_push}
 use Rattle.dns_rdata.specs.Records.{Record, record_wire}
 use Rattle.dns_wire.specs.Wire.{Building, ancount_in}
-use Rattle.dns_wire.specs.declared.builder.PushError.TheVariants.{ShortBuf}
+use Rattle.dns_wire.specs.declared.builder.PushError.TheVariants.{ShortBuf, Memory}
 use Rattle.zone_model.specs.Offer.{room_of, IsCutInto}
 use Rattle.xfr_batch.specs.Batches.{Batching, IsBegun, message_with, has_room}
 use Rattle.xfr_batch.specs.BatchSteps.{Tries}
@@ -17,13 +17,16 @@ use Rattle.xfr_batch.specs.declared.batcher.PushResult.TheVariants.{PushedAndRea
 use Rattle.xfr_batch.proofs.BatchRooms.{not_nil, begun_none}
 use Rattle.xfr_batch.proofs.XfrReady.{fewer, small_batch}
 use Rattle.xfr_services.specs.Items.{Sending, reply_item, feedback_item}
-use Rattle.xfr_services.specs.Items.Sending.{Given}
+use Rattle.xfr_services.specs.Replying.{error_reply}
+use Rattle.dns_numbers.specs.Codes.{servfail}
+use Rattle.std.specs.Option.{option_map_or}
+use Rattle.xfr_services.specs.Items.Sending.{Given, Failed}
 use Rattle.xfr_services.specs.declared.services.ServiceFeedback.TheVariants.{BeginTransaction, EndTransaction}
 use Rattle.xfr_replies.specs.TransferPages.{page_message, page_room, has_page, sendable, EndsBefore, FirstPage}
 use Rattle.xfr_replies.specs.PagedReplies.{SendsRest, TransferSends, page_sent, end_sent, servfail_sent}
-use Rattle.xfr_replies.specs.PulledStreams.{Continues, begun_left, messages_left}
+use Rattle.xfr_replies.specs.PulledStreams.{Continues, LacksMemory, NeedsMemory, begun_left, messages_left}
 use Rattle.xfr_replies.proofs.PageRooms.{room_is, message_is}
-use Rattle.xfr_replies.proofs.Cutting.{one_room, first_page, first_single, no_pages, sendable_behind, sendable_none, all_behind, has_pages, one_cut}
+use Rattle.xfr_replies.proofs.Cutting.{one_room, first_page, first_single, no_pages, sendable_behind, sendable_more, sendable_none, all_behind, has_pages, one_cut}
 
 -- ---- one page
 
@@ -193,6 +196,28 @@ module _ (old new : Batching Kept) (kept : new ≡ record old { answer = new.ans
       given k.limit k.singles k.begun [] items m k.soft k.hard had.0 had.2
       (last_first old.state old.request k.limit k.begun old.answer k.soft k.message k.singles k.hard had.0 had.2) k.sends had.1 none
 
+  -- memory lacks for the record, and nothing has changed
+  pub lacks : (r : Record) (text xs : List Record) (items : List Sending) → text ≡ r ∷ xs → (k : Continues old (r ∷ xs) items)
+      → Tries (transfer_begins old.state old.request) (transfer_is_full old.state) r k.begun old.answer (Err Memory) new.answer → LacksMemory new text items
+  lacks r text xs items is k tries =
+      let P : Option Building → Type 0 = λ a. IsBegun (transfer_begins old.state old.request) (transfer_is_full old.state) k.begun a in
+      let Q : Batching Kept → Type 0 = λ b. LacksMemory b text items in
+      subst Q (sym kept) (record {
+        next = r;
+        behind = xs;
+        text_is = is;
+        left = record {
+          begun = k.begun;
+          limit = k.limit;
+          singles = k.singles;
+          soft = k.soft;
+          hard = k.hard;
+          message = subst P (sym tries.0) k.message;
+          sends = k.sends;
+        };
+        hides = tries.1;
+      })
+
 -- ---- the ends
 
 -- the record has no room in a message of its own
@@ -223,6 +248,41 @@ some_left b xs items k none = at k.sends.pages (sym k.sends.sent ∙ none)
     at : (pages : List (List Record)) → map (page_sent b.request k.limit) pages ++ end_sent b.request k.limit (k.begun ++ xs) ∷ [] ≡ [] → ⊥
     at [] e = cc
     at (p ∷ pages) e = cc
+
+-- where a record is left, the next item takes memory
+servfail_item_needs : (q : List ℕ) → NeedsMemory (servfail_sent q ∷ [])
+servfail_item_needs q = at (error_reply q servfail)
+  where
+    at : (o : Option Building) → NeedsMemory (option_map_or (λ reply. Given (reply_item reply)) o Failed ∷ [])
+    at None = tt
+    at (Some reply) = refl
+
+pub servfail_needs : (q : List ℕ) (items : List Sending) → items ≡ servfail_sent q ∷ [] → NeedsMemory items
+servfail_needs q items is = subst NeedsMemory (sym is) (servfail_item_needs q)
+
+first_unpaged : (room : ℕ) (r : Record) (rest : List Record) → [] ≡ sendable room (r ∷ rest) → list_all (has_page room) (r ∷ rest) ≡ false
+first_unpaged room r rest none = by (has_page room r) refl
+  where
+    by : (b : Bool) → has_page room r ≡ b → list_all (has_page room) (r ∷ rest) ≡ false
+    by true is = let e = none ∙ sendable_more room r rest is in cc
+    by false is = and_left (has_page room r) (list_all (has_page room) rest) is
+
+unpaged : (room : ℕ) (begun : List Record) (r : Record) (xs : List Record) → [] ≡ sendable room (begun ++ r ∷ xs) → list_all (has_page room) (begun ++ r ∷ xs) ≡ false
+unpaged room [] r xs none = first_unpaged room r xs none
+unpaged room (x ∷ begun) r xs none = first_unpaged room x (begun ++ r ∷ xs) none
+
+sent_needs : (q : List ℕ) (limit : ℕ) (begun : List Record) (r : Record) (xs : List Record) (pages : List (List Record)) → flat_map (λ page. page) pages ≡ sendable (page_room q limit) (begun ++ r ∷ xs)
+    → NeedsMemory (map (page_sent q limit) pages ++ end_sent q limit (begun ++ r ∷ xs) ∷ [])
+sent_needs q limit begun r xs (page ∷ pages) joined = refl
+sent_needs q limit begun r xs [] joined =
+    let fails = ap (λ t. if t then Given (feedback_item EndTransaction) else servfail_sent q) (unpaged (page_room q limit) begun r xs joined) in
+    let P : Sending → Type 0 = λ s. NeedsMemory (s ∷ []) in
+    subst P (sym fails) (servfail_item_needs q)
+
+pub needs : (b : Batching Kept) (text : List Record) (items : List Sending) → LacksMemory b text items → NeedsMemory items
+needs b text items l =
+    let k = l.left in
+    subst NeedsMemory (sym k.sends.sent) (sent_needs b.request k.limit k.begun l.next l.behind k.sends.pages k.sends.cut.joined)
 
 -- ---- how many
 

@@ -1,12 +1,13 @@
 -- Which items a stream of a transfer's replies still gives.
-use Rattle.std.specs.Prelude.{◌≡◌, ◌≢◌, ℕ, ◌+◌, ◌*◌, ◌<◌, Bool, List, [], ◌∷◌, ◌++◌, length, Option, Some, None, if◌then◌else◌}
+use Rattle.std.specs.Prelude.{◌≡◌, ℕ, ◌+◌, ◌*◌, ◌<◌, Bool, List, [], ◌∷◌, ◌++◌, length, Option, Some, None, IsSome, if◌then◌else◌}
 use Rattle.dns_rdata.specs.Records.{Record}
 use Rattle.dns_wire.specs.Wire.{Building}
 use Rattle.xfr_batch.specs.Batches.{Batching, IsBegun}
+use Rattle.xfr_batch.specs.BatchSteps.{MemoryHides}
 use Rattle.xfr_batch.specs.ReadyMessages.{Kept}
 use Rattle.xfr_batch.specs.XfrBatches.{transfer_begins, transfer_is_full}
 use Rattle.xfr_services.specs.Items.{Sending, reply_item, feedback_item}
-use Rattle.xfr_services.specs.Items.Sending.{Given}
+use Rattle.xfr_services.specs.Items.Sending.{Given, Failed}
 use Rattle.xfr_services.specs.declared.services.ServiceFeedback.TheVariants.{BeginTransaction, EndTransaction}
 use Rattle.xfr_replies.specs.PagedReplies.{SendsRest, TransferSends, servfail_sent}
 use Rattle.xfr_replies.specs.declared.transfer_replies.Stage.{Stage}
@@ -54,12 +55,20 @@ pulled_left s = stage_left s.stage (messages_left s.batcher s.text.records)
 
 -- ---- what is pulled
 
--- One case for each outcome: a message, after which these items are left; SERVFAIL or the end, which is the last; or there was an item.
+-- memory lacks for a record that is left, and the same items are left: so no message that is full is lost, nor the end, which takes no memory
+pub record LacksMemory (b : Batching Kept) (text : List Record) (items : List Sending) : Type 0 where
+  pub next : Record
+  pub behind : List Record
+  pub text_is : text ≡ next ∷ behind
+  pub left : Continues b (next ∷ behind) items
+  pub hides : MemoryHides (transfer_begins b.state b.request) next left.begun
+
+-- One case for each outcome: a message, after which these items are left; SERVFAIL or the end, which is the last; or memory lacks.
 abbrev pub Pulls : List Sending → Pulled → Batching Kept → List Record → Type 0
 Pulls items (Page m) b text = (rest : List Sending) × (items ≡ Given (reply_item m) ∷ rest) × Continues b text rest
 Pulls items TooLong b text = items ≡ servfail_sent b.request ∷ []
 Pulls items Nothing b text = items ≡ Given (feedback_item EndTransaction) ∷ []
-Pulls items NoMemory b text = items ≢ []
+Pulls items NoMemory b text = LacksMemory b text items
 
 -- where a message was pulled, fewer can be
 abbrev pub PullsFewer : ℕ → Pulled → ℕ → Type 0
@@ -67,6 +76,12 @@ PullsFewer before (Page m) after = after < before
 PullsFewer before TooLong after = Unit {0}
 PullsFewer before Nothing after = Unit {0}
 PullsFewer before NoMemory after = Unit {0}
+
+-- whether the next item takes memory: a reply, or what stands where none can be made; feedback alone takes none
+abbrev pub NeedsMemory : List Sending → Type 0
+NeedsMemory [] = ⊥
+NeedsMemory (Failed ∷ rest) = Unit {0}
+NeedsMemory (Given item ∷ rest) = IsSome item.response
 
 -- what is sent in answer to a request, where it is a transfer's text
 abbrev pub SendsText : List ℕ → ℕ → Bool → List Record → Option (List Sending) → Type 0

@@ -1,8 +1,9 @@
 // The stream of one transfer's replies.
-ghost use Rattle.std.specs.Prelude.{◌≡◌, ◌<◌, List, Some, None, if◌then◌else◌};
+ghost use Rattle.std.specs.Prelude.{◌≡◌, ◌<◌, List, Some, None, Err, if◌then◌else◌};
 ghost use Rattle.xfr_services.specs.Items.{Sending, Gives, NextOf};
-ghost use Rattle.xfr_replies.specs.PulledStreams.{Continues, PulledLeft, Pulls, PullsFewer, SendsText, messages_left, pulled_left};
+ghost use Rattle.xfr_replies.specs.PulledStreams.{Continues, PulledLeft, Pulls, PullsFewer, SendsText, NeedsMemory, messages_left, pulled_left};
 ghost use Rattle.xfr_replies.specs.declared.transfer_replies.Stage.TheVariants.{Records};
+ghost use Rattle.xfr_services.specs.declared.services.ServiceError.TheVariants.{Memory};
 
 use crate::text::TransferText;
 use dns_numbers::Rcode;
@@ -66,11 +67,13 @@ impl TransferReplies {
         }
     }
 
-    /// The next message, or what comes after the last.
+    /// The next message, or what comes after the last. The end takes no memory, so want of it is told only where a message is next.
     fn next_reply(&mut self) -> Result<CallResult, ServiceError>
         ensures item { self.old.stage ≡ Records → (items : List Sending) → PulledLeft self.old items
             → NextOf (PulledLeft self.new) items (Some result) }
         ensures progress { self.old.stage ≡ Records → pulled_left self.new < pulled_left self.old }
+        ensures memory { self.old.stage ≡ Records → (items : List Sending) → PulledLeft self.old items
+            → result ≡ Err Memory → NeedsMemory items }
     {
         match pull(&mut self.batcher, &mut self.text) {
             Pulled::Page(answer) => Ok(CallResult::new(answer.additional())),
@@ -96,13 +99,21 @@ impl TransferReplies {
 }
 
 impl ReplyStream for TransferReplies {
-    ghost use Rattle.xfr_replies.specs.PulledStreams.{pulled_left, PulledLeft};
+    ghost use Rattle.std.specs.Prelude.{◌≡◌, ◌<◌, List, Some, Err, OnSome};
+    ghost use Rattle.xfr_services.specs.Items.{Sending, NextOf};
+    ghost use Rattle.xfr_services.specs.declared.services.ServiceError.TheVariants.{Memory};
+    ghost use Rattle.xfr_replies.specs.PulledStreams.{pulled_left, PulledLeft, NeedsMemory};
 
     ghost remaining = { pulled_left };
 
     ghost LeftOf = { PulledLeft };
 
-    fn next_item(&mut self) -> Option<Result<CallResult, ServiceError>> {
+    /// As every stream's. Want of memory is told only where a message is next: what tells of begin and end takes none.
+    fn next_item(&mut self) -> Option<Result<CallResult, ServiceError>>
+        ensures progress { OnSome result (pulled_left self.new < pulled_left self.old) }
+        ensures item { (items : List Sending) → PulledLeft self.old items → NextOf (PulledLeft self.new) items result }
+        ensures memory { (items : List Sending) → PulledLeft self.old items → result ≡ Some (Err Memory) → NeedsMemory items }
+    {
         match self.stage {
             Stage::Begin => {
                 self.stage = Stage::Records;

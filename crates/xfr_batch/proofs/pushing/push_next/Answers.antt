@@ -20,4 +20,4 @@ returns-in-Err-CountOverflow-clause-joins g c = λ b begun is room.
 pub returns-in-Err-Memory-clause-joins : goal.returns-in-Err-Memory-clause-joins
 returns-in-Err-Memory-clause-joins g c = λ b begun is room.
     let adds = rw c.in-Err-Memory.field-0-is at c.in-Err-Memory.ensures.adds in
-    joins_memory b (g.C.Callbacks.is_full c.args.state.now) (g.R.ComposeRecord.record_of c.args.item.now) begun c.args.answer c.push.new.self c.args.kept.now _ is adds refl
+    joins_memory b (g.C.Callbacks.is_full c.args.state.now) (g.R.ComposeRecord.record_of c.args.item.now) begun c.args.answer c.push.new.self c.args.kept.now _ is room adds refl

@@ -4,7 +4,7 @@ use Rattle.xfr_batch.specs.Batches.{Batching}
 use Rattle.xfr_batch.specs.ReadyMessages.{Kept}
 use Rattle.xfr_services.specs.Items.{Sending}
 use Rattle.xfr_replies.specs.PulledStreams.{Continues}
-use Rattle.xfr_replies.proofs.Pulling.{at_first, at_end, pushed, full, limited, last, too_long, ended, no_more_left}
+use Rattle.xfr_replies.proofs.Pulling.{at_first, at_end, pushed, full, limited, lacks, last, too_long, ended, no_more_left}
 use Rattle.xfr_replies.proofs.transfer_replies.pull.Goals as goal
 
 -- what is left, by the text's first record
@@ -47,6 +47,18 @@ pub returns-in-Err-CountOverflow-clause-item : goal.returns-in-Err-CountOverflow
 returns-in-Err-CountOverflow-clause-item c = λ items left.
     let k = by_first c.records.batcher c.records.text.records c.in-Some.record items c.in-Some.ensures (c.records.invariant.item items left) in
     absurd (rw c.in-Err-CountOverflow.field-0-is at (c.in-Err-CountOverflow.ensures.tries k.begun k.message))
+
+pub returns-in-Ok-Retry-clause-item : goal.returns-in-Ok-Retry-clause-item
+returns-in-Ok-Retry-clause-item c = λ items left.
+    let k = by_first c.records.batcher c.records.text.records c.in-Some.record items c.in-Some.ensures (c.records.invariant.item items left) in
+    absurd (rw c.in-Ok-Retry.field-0-is at (c.in-Ok-Retry.ensures.tries k.begun k.message))
+
+pub returns-in-Err-Memory-clause-item : goal.returns-in-Err-Memory-clause-item
+returns-in-Err-Memory-clause-item c = λ items left.
+    let xs = c.records.text.records in
+    let k = by_first c.records.batcher xs c.in-Some.record items c.in-Some.ensures (c.records.invariant.item items left) in
+    let tries = rw c.in-Err-Memory.field-0-is at (c.in-Err-Memory.ensures.tries k.begun k.message) in
+    lacks c.records.batcher c.try_push.new.self c.try_push.ensures.kept c.in-Some.record xs (drop 1 xs) items (at_first xs c.in-Some.record (sym c.in-Some.ensures)) k tries
 
 -- what is left, where the text is at its end
 by_none : (b : Batching Kept) (xs : List Record) (items : List Sending) → slice_get xs 0 ≡ None → Continues b xs items → Continues b [] items
