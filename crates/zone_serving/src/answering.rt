@@ -1,7 +1,9 @@
 // Questions to a zone.
-ghost use Rattle.std.specs.Prelude.{◌≡◌, true, false, IfOk, OnOk, OnErr, Some};
+ghost use Rattle.std.specs.Prelude.{◌≡◌, true, false, Err, IfOk, OnOk, OnErr, Some};
 ghost use Rattle.dns_name.specs.Names.{under};
+ghost use Rattle.dns_wire.specs.Wire.{header_in};
 ghost use Rattle.xfr_services.specs.Items.{Makes, Calls, all_given, one_reply};
+ghost use Rattle.xfr_services.specs.declared.services.ServiceError.TheVariants.{Memory};
 ghost use Rattle.zone_serving.specs.ZoneReplies.{found_in, owned_of, query_replies, query_sends, replies_to_question, room, told_in};
 
 use dns_name::ParsedName;
@@ -53,16 +55,20 @@ impl<Z: Drop> ZoneQueries<Z> {
 }
 
 impl<M: Drop, Z: StoredZone + Drop> Service<M> for ZoneQueries<Z> {
-    ghost use Rattle.std.specs.Prelude.{◌≡◌};
+    ghost use Rattle.std.specs.Prelude.{◌≡◌, false, Err};
+    ghost use Rattle.dns_wire.specs.Wire.{header_in};
     ghost use Rattle.xfr_services.specs.Items.{Calls, all_given};
+    ghost use Rattle.xfr_services.specs.declared.services.ServiceError.TheVariants.{Memory};
     ghost use Rattle.zone_serving.specs.ZoneReplies.{query_sends};
 
     type Stream = Replies;
 
     ghost Sends = { λ s request sent. sent ≡ query_sends (Z.current s) request };
 
+    /// Want of memory is told only where there is a reply to make: a response has none.
     fn call<R>(&self, rt: &R, alloc: Global, request: Request<M>) -> Result<Replies, ServiceError>
-        ensures { Calls (λ sent. sent ≡ query_sends (Z.current self.now) request) (λ s items. items ≡ all_given s) result }
+        ensures sends { Calls (λ sent. sent ≡ query_sends (Z.current self.now) request) (λ s items. items ≡ all_given s) result }
+        ensures memory { result ≡ Err Memory → (header_in request.message).qr ≡ false }
     {
         let limit = room(request.transport, request.reserved);
         answer(rt, alloc, &self.zone, &request.message, limit)
@@ -88,7 +94,8 @@ fn answer<R, Z: StoredZone>(
     message: &MessageBuf,
     limit: usize,
 ) -> Result<Replies, ServiceError>
-    ensures { Makes (query_replies (Z.current zone.now) limit message.now) result }
+    ensures replies { Makes (query_replies (Z.current zone.now) limit message.now) result }
+    ensures memory { result ≡ Err Memory → (header_in message.now).qr ≡ false }
 {
     let header = message.header();
     if header.qr {
