@@ -407,6 +407,18 @@ fn large<R: Abort>(rt: &R, alloc: Global, octet: u8, len: u16) -> Vec<u8> {
     octets
 }
 
+/// Adds such a record.
+fn add_large<R: Abort>(rt: &R, alloc: Global, session: &mut WriteZone<'_>, octet: u8, len: u16)
+    ensures { session.new.current ≡ session.old.current }
+{
+    let octets = large(rt, alloc, octet, len);
+    let found = record_from_octets(octets.as_slice()).expect(rt, "a record");
+    let added = session.add_read(&found);
+    drop(found);
+    drop(octets);
+    added.expect(rt, "an edit");
+}
+
 /// What is sent by a stream, with the 76 octets of a TSIG reserved, of a zone with an SOA record and so many of these records, of the octets 1, 2 and
 /// so on.
 fn axfr_of_large<R: Abort>(rt: &R, alloc: Global, count: u8, len: u16) -> String {
@@ -414,11 +426,7 @@ fn axfr_of_large<R: Abort>(rt: &R, alloc: Global, count: u8, len: u16) -> String
     let mut session = zone.write(alloc);
     edit(rt, alloc, &mut session, "soa-1", true);
     for before in 0..count {
-        let octets = large(rt, alloc, before + 1, len);
-        let found = record_from_octets(octets.as_slice()).expect(rt, "a record");
-        session.add_read(&found).expect(rt, "an edit");
-        drop(found);
-        drop(octets);
+        add_large(rt, alloc, &mut session, before + 1, len);
     }
     drop(session.commit(rt, false).expect(rt, "a version"));
     drop(session);
@@ -446,4 +454,42 @@ fn three_messages_leave_room_for_a_tsig(rt: HostRuntime) {
     are_large(&rt, alloc, 1, 65_259, "begin;00fc0003 soa-1 x soa-1;end");
     let two = "begin;00fc0002 soa-1 x;00fc0001 soa-1;end";
     are_large(&rt, alloc, 1, 65_260, two);
+}
+
+/// A provider of the first version, and of one that has a large record more.
+fn with_large<R: Abort>(rt: &R, alloc: Global, len: u16) -> HistoryProvider {
+    let mut zone = zone_at(rt, alloc, JAIN);
+    let mut session = zone.write(alloc);
+    first_version(rt, alloc, &mut session);
+    let mut provider = keeper(rt, alloc, &mut session, false);
+    edit(rt, alloc, &mut session, "soa-1", false);
+    edit(rt, alloc, &mut session, "soa-2", true);
+    add_large(rt, alloc, &mut session, 1, len);
+    push(rt, &mut session, &mut provider);
+    drop(session);
+    drop(zone);
+    provider
+}
+
+/// What is sent by UDP to one who has the first version and says nothing of sizes, with the 76 octets of a TSIG reserved.
+fn sent_by_udp<R: Abort>(rt: &R, alloc: Global, len: u16) -> String {
+    let provider = with_large(rt, alloc, len);
+    let asked = ixfr(rt, alloc, "soa-1");
+    let key: Option<Key> = Some(shared_key(rt, KEY));
+    let unsaid = TransportSpecificContext::Udp(None);
+    sent(rt, alloc, provider, asked, unsaid, 76, key)
+}
+
+// By UDP 436 octets, 512 less the TSIG's 76: header and question have 28, four SOA records 300, and the large record 22 and its data. So with 86 octets
+// of data the differences go whole, and one octet more is answered by the SOA alone.
+#[test]
+fn udp_leaves_room_for_a_tsig(rt: HostRuntime) {
+    let alloc = rt.alloc();
+    let whole = sent_by_udp(&rt, alloc, 86);
+    let line = wanted(&rt, alloc, "00fb0005 soa-2 soa-1 soa-2 x soa-2", 86);
+    is(&rt, whole.as_str(), line.as_str());
+    drop(line);
+    drop(whole);
+    let soa = sent_by_udp(&rt, alloc, 87);
+    are(&rt, alloc, soa, "00fb0001 soa-2");
 }
