@@ -7,7 +7,7 @@ use Rattle.std.proofs.lemmas.List.{append_assoc, append-nil, drop_at, take_at, l
 use Rattle.std.proofs.lemmas.Nat.{from_be_bytes-to_be_bytes_2}
 use Rattle.dns_name.specs.Octets.{u16_octets}
 use Rattle.dns_rdata.specs.Records.{record_wire}
-use Rattle.dns_wire.specs.Wire.{Building, Header, Message, Question, question_wire, header_in, header_wire, counts_wire, counts_of, message_wire, header_number, with_item, with_question, fits}
+use Rattle.dns_wire.specs.Wire.{Building, Header, Message, Question, question_wire, header_in, header_wire, counts_wire, counts_of, message_wire, in_answer, header_number, with_item, with_question, fits}
 use Rattle.dns_wire.specs.Builds.{with_questions, Adds, AddsQuestions, Builds, building}
 use Rattle.dns_wire.specs.Parse.{questions_in}
 use Rattle.dns_wire.specs.Reply.{answer_header, answer_with, empty_answer}
@@ -120,6 +120,10 @@ wire_length m =
       length-append replied (flat_map record_wire m.authority),
       length-append referred (flat_map record_wire m.additional),
     )
+
+-- a header and questions alone
+pub begun_length : (h : Header) (qs : List Question) → 12 + length (flat_map question_wire qs) ≡ length (message_wire (in_answer h qs []))
+begun_length h qs = omega (arith, wire_length (in_answer h qs []))
 
 -- so the length of the questions tells whether the answer has room
 pub answer_room : (request : List ℕ) (rcode limit len : ℕ) (old : Building) → old ≡ building (header_wire (answer_header (header_in request) rcode) ++ replicate 8 0) limit

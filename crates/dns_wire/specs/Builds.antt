@@ -43,6 +43,14 @@ Builds octets limit (Err ShortBuf) = fits limit octets ≡ false
 Builds octets limit (Err CountOverflow) = ⊥
 Builds octets limit (Err Memory) = fits limit octets ≡ true
 
+-- The same of a call that builds it piece by piece behind a front, where want of memory may hide that what is behind has no room: it is told
+-- only where the front has.
+abbrev pub BuildsBehind : List ℕ → List ℕ → ℕ → Result Building PushError → Type 0
+BuildsBehind front octets limit (Ok new) = (fits limit octets ≡ true) × (new ≡ record { octets = octets; limit = limit })
+BuildsBehind front octets limit (Err ShortBuf) = fits limit octets ≡ false
+BuildsBehind front octets limit (Err CountOverflow) = ⊥
+BuildsBehind front octets limit (Err Memory) = fits limit front ≡ true
+
 -- the message with these questions at its end, one after another
 abbrev pub with_questions : List ℕ → List Question → List ℕ
 with_questions message [] = message

@@ -1,13 +1,13 @@
 // A message that is being built, and what its sections have in common.
 
-ghost use Rattle.std.specs.Prelude.{◌≡◌, ◌+◌, ◌^◌, ◌<◌, ◌≤◌, ◌++◌, nat_le, min, true, length, take, drop, replicate, vec_len, flat_map, if◌then◌else◌, IfOk, Some};
+ghost use Rattle.std.specs.Prelude.{◌≡◌, ◌+◌, ◌^◌, ◌<◌, ◌≤◌, ◌++◌, nat_le, min, true, [], length, take, drop, replicate, vec_len, flat_map, if◌then◌else◌, IfOk, Some};
 ghost use Rattle.std.specs.List.{filter_map};
 ghost use Rattle.dns_rdata.specs.Records.{record_wire};
-ghost use Rattle.dns_wire.specs.Wire.{header_in, header_wire, header_number, question_wire, message_wire, fits, Message as MessageOf};
+ghost use Rattle.dns_wire.specs.Wire.{header_in, header_wire, header_number, question_wire, message_wire, in_answer, fits, Header as HeaderOf, Message as MessageOf};
 ghost use Rattle.dns_wire.specs.Numbers.{counts_in};
 ghost use Rattle.dns_wire.specs.Builds.{Adds, AddsFitting, AddsQuestions, Builds, HasRoom, cut_at, rewound, with_questions};
 ghost use Rattle.dns_wire.specs.Reply.{answer_header, empty_answer, error_answer};
-ghost use Rattle.dns_wire.specs.Parse.{parsed, answers_start, authority_start, additional_start};
+ghost use Rattle.dns_wire.specs.Parse.{parsed, questions_in, answers_start, authority_start, additional_start};
 ghost use Rattle.dns_wire.specs.Written.{IsMessage, parsed_of};
 
 use crate::header::{Header, HeaderCounts, write_header};
@@ -374,4 +374,28 @@ fn questions_len(mut questions: QuestionSection<'_>) -> usize
             None => return len,
         }
     }
+}
+
+impl<'m> Message<'m> {
+    /// How many octets an answer to this request has before any record: a header, and the questions up to the first that can't be read.
+    pub fn answer_len(&self) -> usize
+        ensures len { result ≡ 12 + length (flat_map question_wire (questions_in self.now)) }
+        ensures bound { result < 2 ^ 27 }
+    {
+        12 + questions_len(self.question())
+    }
+
+    /// Whether that is within a push limit, and within 65,535.
+    pub fn answer_fits(&self, limit: usize) -> bool
+        ensures { (h : HeaderOf) → result ≡ fits limit (message_wire (in_answer h (questions_in self.now) [])) }
+    {
+        is_within(self.answer_len(), limit)
+    }
+}
+
+/// Whether so many octets are within a push limit, and within 65,535.
+fn is_within(len: usize, limit: usize) -> bool
+    ensures { result ≡ nat_le len (min limit 65535) }
+{
+    len <= limit.min(MAX_LEN)
 }

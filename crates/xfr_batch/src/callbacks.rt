@@ -27,7 +27,8 @@ pub trait Callbacks<T> {
     /// What becomes of a message, which is the last one or isn't: the answer, and the state afterwards.
     ghost Readies: { T → Building → Bool → Result (Unit {0}) Self.Error → T → Type 0 };
 
-    /// Begins a message, for the answers to a request. `ShortBuf` exactly where what it begins with isn't within its limit.
+    /// Begins a message, for the answers to a request. `ShortBuf` exactly where what it begins with isn't within its limit, `Memory` only
+    /// where it is.
     fn batch_started(
         alloc: Global,
         state: &T,
@@ -46,10 +47,13 @@ pub trait Callbacks<T> {
 }
 
 /// How a message begins where nothing else is wanted: an answer to the request with NOERROR and its questions, which may have
-/// 65,535 octets. `ShortBuf` exactly where these pass that.
+/// 65,535 octets. `ShortBuf` exactly where these pass that, `Memory` only where they don't.
 pub fn start_batch(alloc: Global, request: &Message<'_>) -> Result<AnswerBuilder, PushError>
     ensures { Builds (message_wire (empty_answer request.now 0)) 65535 result }
 {
+    if !request.answer_fits(65535) {
+        return Err(PushError::ShortBuf);
+    }
     let Ok(builder) = MessageBuilder::new(alloc) else {
         return Err(PushError::Memory);
     };

@@ -90,6 +90,9 @@ fn start_transfer(
     ensures { Builds (message_wire (in_answer (axfr_header (header_in request.now)) (questions_in request.now) []))
         limit result }
 {
+    if !request.answer_fits(limit) {
+        return Err(PushError::ShortBuf);
+    }
     let Ok(mut builder) = MessageBuilder::new(alloc) else {
         return Err(PushError::Memory);
     };
