@@ -1,10 +1,10 @@
 -- What is chosen of an offer, and what is sent of that.
-use Rattle.std.proofs.Common.{◌≡◌, ℕ, Bool, false, ◌&&◌, not, List, Option, refl, sym, ap, ◌∙◌, subst}
+use Rattle.std.proofs.Common.{◌≡◌, ℕ, Bool, false, ◌&&◌, not, List, [], Option, refl, sym, ap, ◌∙◌, subst}
 use Rattle.std.specs.Prelude.{Result, Ok, Err, IsOk, is_some, option_map}
 use Rattle.dns_rdata.specs.Records.{Record}
 use Rattle.dns_wire.specs.Wire.{message_wire, fits}
 use Rattle.dns_wire.specs.Parse.{sole_question_in}
-use Rattle.dns_wire.specs.Builds.{Builds}
+use Rattle.dns_wire.specs.Builds.{BuildsBehind}
 use Rattle.dns_wire.specs.declared.builder.PushError.{PushError}
 use Rattle.dns_wire.specs.declared.builder.PushError.TheVariants.{ShortBuf}
 use Rattle.zone_model.specs.Offer.{Offer}
@@ -52,9 +52,9 @@ without_room : (request : List ℕ) (limit : ℕ) (v : Version) (text : List Rec
 without_room request limit v text none = rw none refl
 
 pub makes_soa : (request : List ℕ) (limit : ℕ) (v w : Version) (text : List Record) (made : Result (List CallResult) ServiceError) (e : PushError) → e ≡ ShortBuf
-    → Builds (message_wire (page_answer request text)) limit (Err e) → w ≡ v → Makes (option_map one_reply (soa_reply request limit w)) made
+    → BuildsBehind (message_wire (page_answer request [])) (message_wire (page_answer request text)) limit (Err e) → w ≡ v → Makes (option_map one_reply (soa_reply request limit w)) made
     → Makes (option_map one_reply (udp_reply request limit v text)) made
 makes_soa request limit v w text made e short refused same soa =
-    let none : fits limit (message_wire (page_answer request text)) ≡ false = subst (λ (x : PushError). Builds (message_wire (page_answer request text)) limit (Err x)) short refused in
+    let none : fits limit (message_wire (page_answer request text)) ≡ false = subst (λ (x : PushError). BuildsBehind (message_wire (page_answer request [])) (message_wire (page_answer request text)) limit (Err x)) short refused in
     let P : Option (List CallResult) → Type 0 = λ o. Makes o made in
     subst P (ap (λ x. option_map one_reply (soa_reply request limit x)) same ∙ sym (ap (option_map one_reply) (without_room request limit v text none))) soa

@@ -17,11 +17,15 @@ pub fn start_transfer(
 ) -> Result<AnswerBuilder, PushError>
     ensures { Builds (message_wire (page_answer request.now [])) limit result }
 {
+    let asked = request.as_message();
+    if !asked.answer_fits(limit) {
+        return Err(PushError::ShortBuf);
+    }
     let Ok(mut builder) = MessageBuilder::new(alloc) else {
         return Err(PushError::Memory);
     };
     builder.set_push_limit(limit);
-    let mut answer = builder.start_answer(&request.as_message(), Rcode::NOERROR)?;
+    let mut answer = builder.start_answer(&asked, Rcode::NOERROR)?;
     let mut header = request.header().answer(Rcode::NOERROR);
     header.opcode = Opcode::QUERY;
     header.aa = true;

@@ -1,9 +1,9 @@
 // Records written into one message.
-ghost use Rattle.std.specs.Prelude.{◌≡◌, ◌↔◌, IfSome, IsSome, IsTrue};
+ghost use Rattle.std.specs.Prelude.{◌≡◌, ◌↔◌, [], IfSome, IsSome, IsTrue};
 ghost use Rattle.dns_rdata.specs.Soa.{serial_of};
 ghost use Rattle.dns_rdata.specs.ZoneData.{data_fields};
 ghost use Rattle.dns_wire.specs.Wire.{message_wire};
-ghost use Rattle.dns_wire.specs.Builds.{Builds};
+ghost use Rattle.dns_wire.specs.Builds.{BuildsBehind};
 ghost use Rattle.zone_model.specs.Version.{has_one_apex_soa};
 ghost use Rattle.zone_model.specs.Answer.{apex_soa_record};
 ghost use Rattle.zone_model.specs.Difference.{zone_serial as serial_of_version};
@@ -41,30 +41,32 @@ fn serial_in(rdata: &StoredRecordData) -> Serial
     }
 }
 
-/// An answer with the apex SOA alone (RFC 1995, 2), of up to so many octets. `ShortBuf` where that doesn't fit.
+/// An answer with the apex SOA alone (RFC 1995, 2), of up to so many octets. `ShortBuf` where that doesn't fit; `Memory` may hide that the
+/// record doesn't, never that header and question don't.
 pub fn soa_message(
     alloc: Global,
     request: &MessageBuf,
     limit: usize,
     zone: &ReadZone,
 ) -> Result<AdditionalBuilder, PushError>
-    ensures { Builds (message_wire (page_answer request.now (apex_soa_record zone.now.version)))
-        limit result }
+    ensures { BuildsBehind (message_wire (page_answer request.now []))
+        (message_wire (page_answer request.now (apex_soa_record zone.now.version))) limit result }
 {
     let mut answer = start_transfer(alloc, request, limit)?;
     push_soa(&mut answer, zone)?;
     Ok(answer.additional())
 }
 
-/// An answer with all that is left of a text (RFC 1995, 2 and 4), of up to so many octets. `ShortBuf` where that doesn't fit.
+/// An answer with all that is left of a text (RFC 1995, 2 and 4), of up to so many octets. `ShortBuf` where that doesn't fit; `Memory` may
+/// hide that the records don't, never that header and question don't.
 pub fn text_message(
     alloc: Global,
     request: &MessageBuf,
     limit: usize,
     text: &mut TransferText,
 ) -> Result<AdditionalBuilder, PushError>
-    ensures built { Builds (message_wire (page_answer request.now text.old.records))
-        limit result }
+    ensures built { BuildsBehind (message_wire (page_answer request.now []))
+        (message_wire (page_answer request.now text.old.records)) limit result }
     ensures zone { text.new.zone ≡ text.old.zone }
 {
     let mut answer = start_transfer(alloc, request, limit)?;
