@@ -11,7 +11,7 @@ use Rattle.dns_name.specs.Octets.{u16_octets, u32_octets}
 use Rattle.dns_name.specs.Names.{Name, name_wire}
 use Rattle.dns_rdata.specs.Records.{Field, Record, record_wire, data_wire}
 use Rattle.dns_wire.specs.Wire.{Building, Header, Question, Message, question_wire, header_wire, counts_wire, counts_of, message_wire, in_answer, in_authority, with_item, header_number, fits}
-use Rattle.dns_wire.specs.Builds.{Adds, Builds, building}
+use Rattle.dns_wire.specs.Builds.{Adds, Builds, BuildsBehind, building}
 use Rattle.dns_wire.specs.declared.builder.PushError.{PushError}
 use Rattle.dns_wire.specs.declared.builder.PushError.TheVariants.{ShortBuf, CountOverflow, Memory}
 use Rattle.dns_wire.proofs.Pushing.{message_wire-more_answers, message_wire-more_authority, message_wire-more_additional}
@@ -317,11 +317,17 @@ pub referred : (h : Header) (qs : List Question) (xs ys zs : List Record) → le
 referred h qs xs ys zs = omega (arith, wire_length (in_authority h qs xs ys), wire_length (message_of h qs xs ys zs))
 
 -- what refuses a message refuses a longer one
-pub refused_longer : (m n : Message) (limit : ℕ) (e : PushError) → length (message_wire m) ≤ length (message_wire n) → Builds (message_wire m) limit (Err e)
-    → Builds (message_wire n) limit (Err e)
-refused_longer m n limit ShortBuf more refused = not_fitting limit (message_wire m) (message_wire n) more refused
-refused_longer m n limit CountOverflow more refused = refused
-refused_longer m n limit Memory more refused = tt
+pub refused_longer : (front m n : Message) (limit : ℕ) (e : PushError) → length (message_wire m) ≤ length (message_wire n)
+    → BuildsBehind (message_wire front) (message_wire m) limit (Err e) → BuildsBehind (message_wire front) (message_wire n) limit (Err e)
+refused_longer front m n limit ShortBuf more refused = not_fitting limit (message_wire m) (message_wire n) more refused
+refused_longer front m n limit CountOverflow more refused = refused
+refused_longer front m n limit Memory more refused = refused
+
+-- a front that isn't built
+pub front_unbuilt : (m : Message) (limit : ℕ) (e : PushError) → Builds (message_wire m) limit (Err e) → BuildsBehind (message_wire m) (message_wire m) limit (Err e)
+front_unbuilt m limit ShortBuf refused = refused
+front_unbuilt m limit CountOverflow refused = refused
+front_unbuilt m limit Memory refused = refused
 
 pub stood : (m : Message) (limit : ℕ) (b : Building) → Builds (message_wire m) limit (Ok b) → Stands m b
 stood m limit b built =
@@ -333,11 +339,11 @@ built_more m n limit b new u built reached =
     let is : building new.octets new.limit ≡ building (message_wire n) limit = ap (λ octets. building octets new.limit) reached.0.1 ∙ ap (λ l. building (message_wire n) l) bound in
     (ap (λ l. fits l (message_wire n)) (sym bound) ∙ reached.0.0, is)
 
-pub refused_more : (m n : Message) (limit : ℕ) (b new : Building) (e : PushError) → Builds (message_wire m) limit (Ok b) → Reaches {A = Unit {0}} n b (Err e) new
-    → Builds (message_wire n) limit (Err e)
-refused_more m n limit b new ShortBuf built refused = ap (λ (c : Building). fits c.limit (message_wire n)) (sym built.1) ∙ refused
-refused_more m n limit b new CountOverflow built refused = refused
-refused_more m n limit b new Memory built refused = tt
+pub refused_more : (front m n : Message) (limit : ℕ) (b new : Building) (e : PushError) → fits limit (message_wire front) ≡ true → Builds (message_wire m) limit (Ok b)
+    → Reaches {A = Unit {0}} n b (Err e) new → BuildsBehind (message_wire front) (message_wire n) limit (Err e)
+refused_more front m n limit b new ShortBuf room built refused = ap (λ (c : Building). fits c.limit (message_wire n)) (sym built.1) ∙ refused
+refused_more front m n limit b new CountOverflow room built refused = refused
+refused_more front m n limit b new Memory room built refused = room
 
 pub moved : (octets : List ℕ) (limit : ℕ) (b new : Building) → new ≡ b → Builds octets limit (Ok b) → Builds octets limit (Ok new)
 moved octets limit b new is built = (built.0, is ∙ built.1)

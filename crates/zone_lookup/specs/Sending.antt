@@ -140,7 +140,8 @@ reply_message limit request a = reply_for limit request a (sole_question_in requ
 abbrev pub Stands : Message → Building → Type 0
 Stands m b = (fits b.limit (message_wire m) ≡ true) × (b.octets ≡ message_wire m)
 
--- One case for each answer of a call that adds records: the message with them, where it is within the limit; else ShortBuf or Memory.
+-- One case for each answer of a call that adds records: the message with them, where it is within the limit; else ShortBuf, or Memory, which may
+-- hide that: they are added one by one.
 abbrev pub Reaches : {A : Type 0} → Message → Building → Result A PushError → Building → Type 0
 Reaches m old (Ok a) new = Stands m new × (new.limit ≡ old.limit)
 Reaches m old (Err ShortBuf) new = fits old.limit (message_wire m) ≡ false
@@ -152,10 +153,14 @@ abbrev pub Tried : List ℕ → ℕ → Option Building → Type 0
 Tried octets limit (Some b) = (fits limit octets ≡ true) × (b ≡ building octets limit)
 Tried octets limit None = fits limit octets ≡ false
 
--- the same of a call, which may want memory
-abbrev pub Tries : {E : Type 0} → List ℕ → ℕ → Result (Option Building) E → Type 0
-Tries octets limit (Ok found) = Tried octets limit found
-Tries octets limit (Err e) = Unit {0}
+-- the same of a call, which may want memory: that may hide that the message isn't within the limit, but not that what it begins with isn't
+abbrev pub Tries : {E : Type 0} → List ℕ → List ℕ → ℕ → Result (Option Building) E → Type 0
+Tries front octets limit (Ok found) = Tried octets limit found
+Tries front octets limit (Err e) = fits limit front ≡ true
+
+-- whether the message with the question alone is within the limit: then one that says the answer is
+abbrev pub QuestionFits : ℕ → List ℕ → Reply → Type 0
+QuestionFits limit request a = fits limit (message_wire (reply_with request a true [] [] [])) ≡ true
 
 -- the first message within the limit, built
 abbrev pub built_first : ℕ → List Message → Option Building

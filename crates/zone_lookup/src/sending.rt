@@ -1,10 +1,10 @@
 // The message that says an answer.
-ghost use Rattle.std.specs.Prelude.{◌≡◌, ℕ, List, [], ◌++◌, IfOk, map, if◌then◌else◌};
+ghost use Rattle.std.specs.Prelude.{◌≡◌, ℕ, List, [], ◌++◌, IfOk, OnErr, map, not, if◌then◌else◌};
 ghost use Rattle.dns_rdata.specs.Records.{Record};
 ghost use Rattle.dns_wire.specs.Wire.{in_answer, in_authority, message_wire, Header as HeaderOf, Question as QuestionOf, Message as MessageOf};
 ghost use Rattle.dns_wire.specs.Reply.{answer_with};
-ghost use Rattle.dns_wire.specs.Builds.{Builds, building};
-ghost use Rattle.zone_lookup.specs.Sending.{answers_of, required_of, discardable_of, additional_to, reply_to_extent, reply_with, replies_to, refusal, reply_message, authority_of, first_or_header, refusal_message, Stands, Reaches, Tries, built_first};
+ghost use Rattle.dns_wire.specs.Builds.{Builds, BuildsBehind, building};
+ghost use Rattle.zone_lookup.specs.Sending.{answers_of, required_of, discardable_of, additional_to, reply_to_extent, reply_with, replies_to, refusal, reply_message, authority_of, first_or_header, refusal_message, Stands, Reaches, Tries, QuestionFits, built_first};
 
 use crate::answer::Answer;
 use crate::sections::{push_content, push_records};
@@ -83,7 +83,8 @@ impl Answer {
         }
     }
 
-    /// The fullest message that says the answer to this question within the limit, if one does (RFC 2181, 9).
+    /// The fullest message that says the answer to this question within the limit, if one does (RFC 2181, 9). Want of memory is told only
+    /// where one does.
     fn fullest(
         &self,
         alloc: Global,
@@ -91,7 +92,8 @@ impl Answer {
         question: &Question<ParsedName<'_>>,
         limit: usize,
     ) -> Result<Option<AdditionalBuilder>, AllocError>
-        ensures { IfOk result (λ found. found ≡ built_first limit (replies_to request.now self.now question.now)) }
+        ensures found { IfOk result (λ found. found ≡ built_first limit (replies_to request.now self.now question.now)) }
+        ensures memory { OnErr result (QuestionFits limit request.now self.now) }
     {
         let fullest_first = [
             Extent::of(true, true, true, true),
@@ -112,7 +114,8 @@ impl Answer {
         limit: usize,
         extents: &[Extent],
     ) -> Result<Option<AdditionalBuilder>, AllocError>
-        ensures { IfOk result (λ found. found ≡ built_first limit (map (reply_to_extent request.now self.now question.now) extents.now)) }
+        ensures found { IfOk result (λ found. found ≡ built_first limit (map (reply_to_extent request.now self.now question.now) extents.now)) }
+        ensures memory { OnErr result (QuestionFits limit request.now self.now) }
     {
         let mut rest = extents;
         'extents: while let Some((extent, behind)) = rest.split_first() {
@@ -134,7 +137,8 @@ impl Answer {
         limit: usize,
         extent: Extent,
     ) -> Result<AdditionalBuilder, PushError>
-        ensures { Builds (message_wire (reply_to_extent request.now self.now question.now extent)) limit result }
+        ensures { BuildsBehind (message_wire (reply_with request.now self.now (not extent.required) [] [] []))
+            (message_wire (reply_to_extent request.now self.now question.now extent)) limit result }
     {
         let mut answer_section = self.write_question(alloc, request, limit, !extent.required)?;
         self.push_answers(&mut answer_section, question, extent.answers)?;
@@ -155,6 +159,9 @@ impl Answer {
     ) -> Result<AnswerBuilder, PushError>
         ensures { Builds (message_wire (reply_with request.now self.now cut [] [] [])) limit result }
     {
+        if !request.answer_fits(limit) {
+            return Err(PushError::ShortBuf);
+        }
         let Ok(mut builder) = MessageBuilder::new(alloc) else {
             return Err(PushError::Memory);
         };
@@ -246,7 +253,7 @@ impl Answer {
 fn fitting(
     tried: Result<AdditionalBuilder, PushError>,
 ) -> Result<Option<AdditionalBuilder>, AllocError>
-    ensures { (octets : List ℕ) (limit : ℕ) → Builds octets limit tried → Tries octets limit result }
+    ensures { (front octets : List ℕ) (limit : ℕ) → BuildsBehind front octets limit tried → Tries front octets limit result }
 {
     match tried {
         Ok(message) => Ok(Some(message)),
