@@ -1,5 +1,5 @@
 -- What services send: the items of a stream of replies, and what its calls answer.
-use Rattle.std.specs.Prelude.{◌≡◌, ◌≢◌, ℕ, Bool, true, false, List, [], ◌∷◌, ◌++◌, map, Option, Some, None, Result, Ok, Err}
+use Rattle.std.specs.Prelude.{◌≡◌, ◌≢◌, ℕ, Bool, true, false, List, [], ◌∷◌, ◌++◌, map, Option, Some, None, IsSome, Result, Ok, Err}
 use Rattle.dns_wire.specs.Wire.{Building}
 use Rattle.dns_wire.specs.declared.builder.PushError.{PushError}
 use Rattle.dns_wire.specs.declared.builder.PushError.TheVariants.{ShortBuf, CountOverflow, Memory as OutOfMemory}
@@ -14,11 +14,17 @@ service_error_of ShortBuf = InternalError
 service_error_of CountOverflow = InternalError
 service_error_of OutOfMemory = Memory
 
--- One case for each answer of a call that makes something: this, where it can be made; else InternalError.
+-- One case for each answer of a call that makes something: this, where it can be made; InternalError where it can't; Memory only where it can.
 abbrev pub Makes : {A : Type 0} → Option A → Result A ServiceError → Type 0
 Makes made (Ok a) = made ≡ Some a
 Makes made (Err InternalError) = made ≡ None
-Makes made (Err Memory) = Unit {0}
+Makes made (Err Memory) = IsSome made
+
+-- The same of a call that begins it before that is known: want of memory may hide that it can't be made.
+abbrev pub MakesBegun : {A : Type 0} → Option A → Result A ServiceError → Type 0
+MakesBegun made (Ok a) = made ≡ Some a
+MakesBegun made (Err InternalError) = made ≡ None
+MakesBegun made (Err Memory) = Unit {0}
 
 -- ---- items
 

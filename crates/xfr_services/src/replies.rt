@@ -7,6 +7,9 @@ use dns_numbers::Rcode;
 use dns_wire::{AdditionalBuilder, MessageBuf, MessageBuilder};
 use std::alloc::Global;
 
+/// The most octets of a message (RFC 1035, 4.2.2).
+const MAX_LEN: usize = 65535;
+
 /// A reply without records: the request's id, opcode, RD and questions, and an rcode (RFC 1035, 4.1.1).
 pub fn error_reply(
     alloc: Global,
@@ -15,8 +18,12 @@ pub fn error_reply(
 ) -> Result<AdditionalBuilder, ServiceError>
     ensures { Makes (error_reply request.now rcode) result }
 {
+    let asked = request.as_message();
+    if !asked.answer_fits(MAX_LEN) {
+        return Err(ServiceError::InternalError);
+    }
     let builder = MessageBuilder::new(alloc)?;
-    let answer = builder.start_answer(&request.as_message(), rcode)?;
+    let answer = builder.start_answer(&asked, rcode)?;
     Ok(answer.additional())
 }
 
@@ -36,8 +43,12 @@ pub fn truncated_reply(
 ) -> Result<AdditionalBuilder, ServiceError>
     ensures { Makes (truncated_reply request.now) result }
 {
+    let asked = request.as_message();
+    if !asked.answer_fits(MAX_LEN) {
+        return Err(ServiceError::InternalError);
+    }
     let builder = MessageBuilder::new(alloc)?;
-    let mut answer = builder.start_answer(&request.as_message(), Rcode::NOERROR)?;
+    let mut answer = builder.start_answer(&asked, Rcode::NOERROR)?;
     let mut header = request.header().answer(Rcode::NOERROR);
     header.tc = true;
     answer.set_header(header);

@@ -2,7 +2,7 @@
 ghost use Rattle.std.specs.Prelude.{ℕ};
 ghost use Rattle.tsig_port.specs.ServerCheck.{Verdict, reply_to};
 ghost use Rattle.tsig_port.specs.States.{RefusalOf};
-ghost use Rattle.xfr_services.specs.Items.{Makes};
+ghost use Rattle.xfr_services.specs.Items.{MakesBegun};
 ghost use Rattle.xfr_services.specs.Replying.{built};
 
 use dns_wire::{AdditionalBuilder, MessageBuf, MessageBuilder};
@@ -16,7 +16,7 @@ pub fn refusal_reply<K: KeyRef>(
     refusal: ServerError<K>,
     request: &MessageBuf,
 ) -> Result<AdditionalBuilder, ServiceError>
-    ensures { (found : Verdict) (now : ℕ) → RefusalOf K.the_key found request.now now refusal → Makes (built (reply_to found request.now request.now now)) result }
+    ensures { (found : Verdict) (now : ℕ) → RefusalOf K.the_key found request.now now refusal → MakesBegun (built (reply_to found request.now request.now now)) result }
 {
     let builder = MessageBuilder::new(alloc)?;
     Ok(refusal.build_message(&request.as_message(), builder)?)

@@ -1,8 +1,14 @@
 -- Where no reply can be made.
-use Rattle.std.proofs.Common.{◌≡◌, ℕ, ◌<◌, Bool, true, false, List, [], Option, Some, None, option_map, not, sym, ap, ◌∙◌}
-use Rattle.std.specs.Prelude.{◌==◌, if◌then◌else◌}
+use Rattle.std.proofs.Common.{◌≡◌, ℕ, ◌<◌, ◌≤◌, min, nat_le, Bool, true, false, List, [], ◌∷◌, ◌++◌, length, length-append, Option, Some, None, option_map, not, refl, sym, ap, ◌∙◌, subst, arith}
+use Rattle.std.specs.Prelude.{◌==◌, IsSome, flat_map, if◌then◌else◌}
+use Rattle.std.proofs.lemmas.Bool.Decides.{nat_tests}
+use Rattle.dns_name.specs.Names.{name_wire}
+use Rattle.dns_name.specs.Octets.{u16_octets}
 use Rattle.dns_numbers.specs.Codes.{formerr}
-use Rattle.dns_wire.specs.Wire.{Building, Question, header_in}
+use Rattle.dns_wire.specs.Wire.{Building, Question, header_in, question_wire, message_wire, fits}
+use Rattle.dns_wire.specs.Reply.{empty_answer}
+use Rattle.dns_wire.proofs.Questions.{wire_length}
+use Rattle.zone_lookup.proofs.Limits.{asked}
 use Rattle.dns_wire.specs.Parse.{sole_question_in}
 use Rattle.zone_model.specs.Version.{Version}
 use Rattle.xfr_services.specs.Items.{Sending, one_reply, all_given}
@@ -36,3 +42,32 @@ by_header v limit request q false false e = sole v limit request q e
 pub queries_fail : {M : Type 0} (v : Version) (r : Request M) (sent : Option (List Sending)) → sent ≡ query_sends v r → fails sent ≡ true → 65535 < bare_len r.message
 queries_fail v r sent is e =
     by_header v (room r.transport r.reserved) r.message (sole_question_in r.message) (header_in r.message).qr (not ((header_in r.message).opcode == 0)) (ap fails (sym is) ∙ e)
+
+-- ---- where one can
+
+within_most : (n : ℕ) → n ≤ 65535 → nat_le n (min 65535 65535) ≡ true
+within_most n few = grind (arith, nat_tests)
+
+-- a request with one question that can be read has an error reply
+sole_fits : (request : List ℕ) (q : Question) (rcode : ℕ) → sole_question_in request ≡ Some q → length (name_wire q.qname) < 256
+    → fits 65535 (message_wire (empty_answer request rcode)) ≡ true
+sole_fits request q rcode sole short =
+    let n = name_wire q.qname in
+    within_most (length (message_wire (empty_answer request rcode))) (omega (
+      arith,
+      wire_length (empty_answer request rcode),
+      ap (λ qs. length (flat_map question_wire qs)) (asked request q sole),
+      length-append (question_wire q) [],
+      length-append (n ++ u16_octets q.qtype) (u16_octets q.qclass),
+      length-append n (u16_octets q.qtype),
+    ))
+
+pub sole_some : (v : Version) (limit : ℕ) (request : List ℕ) (q : Question) → sole_question_in request ≡ Some q → length (name_wire q.qname) < 256
+    → IsSome (replies_to_question v limit request q)
+sole_some v limit request q sole short = by (is_in_zone v q) (fits 65535 (message_wire (empty_answer request refused))) (sole_fits request q refused sole short)
+  where
+    by : (inside fit : Bool) → fit ≡ true
+        → IsSome (if inside then Some (one_reply (zone_reply v limit request q)) else option_map one_reply (if fit then Some (record { octets = message_wire (empty_answer request refused); limit = 65535 }) else None))
+    by true fit room = refl
+    by false true room = refl
+    by false false room = cc

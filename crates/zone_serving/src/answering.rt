@@ -2,11 +2,12 @@
 ghost use Rattle.std.specs.Prelude.{◌≡◌, true, false, Err, IfOk, OnOk, OnErr, Some};
 ghost use Rattle.dns_name.specs.Names.{under};
 ghost use Rattle.dns_wire.specs.Wire.{header_in};
+ghost use Rattle.dns_wire.specs.Parse.{sole_question_in};
 ghost use Rattle.xfr_services.specs.Items.{Makes, Calls, all_given, one_reply};
 ghost use Rattle.xfr_services.specs.declared.services.ServiceError.TheVariants.{Memory};
 ghost use Rattle.zone_serving.specs.ZoneReplies.{found_in, owned_of, query_replies, query_sends, replies_to_question, room, told_in};
 
-use dns_name::ParsedName;
+use dns_name::{Labelled, ParsedName};
 use dns_numbers::{Opcode, Rcode};
 use dns_wire::{AdditionalBuilder, Message, MessageBuf, Question};
 use std::alloc::{AllocError, Global};
@@ -110,7 +111,7 @@ fn answer<R, Z: StoredZone>(
     }
 }
 
-/// The reply to a question: what the zone's current version has for it, or REFUSED.
+/// The reply to a request's one question: what the zone's current version has for it, or REFUSED.
 fn answer_question<R, Z: StoredZone>(
     rt: &R,
     alloc: Global,
@@ -119,9 +120,14 @@ fn answer_question<R, Z: StoredZone>(
     question: &Question<ParsedName<'_>>,
     limit: usize,
 ) -> Result<Replies, ServiceError>
+    requires { sole_question_in message.now ≡ Some question.now }
     ensures { Makes (replies_to_question (Z.current zone.now) limit message.now question.now) result }
 {
-    let version = zone.read_current(rt)?;
+    // For the proof: a name is short, so there is a reply.
+    let _len = question.qname().compose_len();
+    let Ok(version) = zone.read_current(rt) else {
+        return Err(ServiceError::Memory);
+    };
     if question.qclass() != version.class() {
         return replies::refuse(alloc, message, Rcode::REFUSED);
     }
