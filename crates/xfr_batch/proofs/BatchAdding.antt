@@ -1,5 +1,5 @@
 -- A record added to a message: how long messages are, and what is in the message then.
-use Rattle.std.proofs.Common.{◌≡◌, ℕ, ◌+◌, ◌*◌, ◌<◌, ◌≤◌, Bool, true, false, List, [], ◌∷◌, ◌++◌, length, refl, sym, ap, ◌∙◌, subst, arith}
+use Rattle.std.proofs.Common.{◌≡◌, ℕ, ◌+◌, ◌*◌, ◌<◌, ◌≤◌, Bool, true, false, true≢false, List, [], ◌∷◌, ◌++◌, length, refl, sym, ap, ◌∙◌, subst, arith}
 use Rattle.std.specs.Prelude.{Option, Some, None, Ok, Err, flat_map}
 use Rattle.std.proofs.lemmas.Bool.Decides.{nat_tests}
 use Rattle.std.proofs.lemmas.List.{length-append, append_assoc}
@@ -70,6 +70,14 @@ pub no_room_for_more : (b : Beginning) (xs ys : List Record) → has_room b xs �
 no_room_for_more b xs ys none =
     let P : List Record → Type 0 = λ zs. length (message_with b xs).octets ≤ length (message_wire (in_answer b.header b.questions zs)) in
     not_fitting b.limit (message_with b xs).octets (message_with b (xs ++ ys)).octets (subst P (append_assoc b.answers xs ys) (longer b.header b.questions (b.answers ++ xs) ys)) none
+
+-- so where more of them have room, some have
+pub room_before : (b : Beginning) (xs ys : List Record) → has_room b (xs ++ ys) ≡ true → has_room b xs ≡ true
+room_before b xs ys room = by (has_room b xs) refl
+  where
+    by : (fit : Bool) → has_room b xs ≡ fit → has_room b xs ≡ true
+    by true is = is
+    by false none = absurd (true≢false (sym room ∙ no_room_for_more b xs ys none))
 
 -- ---- one more record
 
@@ -152,13 +160,13 @@ pub opens_unbegun : (b : Beginning) (f : Building → Bool) (r : Record) (kept n
     → Opens b f r kept (Err e) new
 opens_unbegun b f r kept new ShortBuf built none = (no_room_for_more b [] (r ∷ []) built, none)
 opens_unbegun b f r kept new CountOverflow built none = built
-opens_unbegun b f r kept new Memory built none = none
+opens_unbegun b f r kept new Memory built none = (built, none)
 
 pub opens_refused : (b : Beginning) (f : Building → Bool) (r : Record) (old m : Building) (kept new : Option Building) (e : PushError) → Builds (message_with b []).octets b.limit (Ok old)
     → Adds {A = Unit {0}} 6 (record_wire r) old (Err e) m → new ≡ None → Opens b f r kept (Err e) new
 opens_refused b f r old m kept new ShortBuf built adds none = (short b [] r old m built.1 built.0 adds, none)
 opens_refused b f r old m kept new CountOverflow built adds none = overflow b [] r old m built.1 built.0 adds
-opens_refused b f r old m kept new Memory built adds none = none
+opens_refused b f r old m kept new Memory built adds none = (built.0, none)
 
 opens_added : (b : Beginning) (f : Building → Bool) (r : Record) (m : Building) (kept new : Option Building) (result : PushResult)
     → has_room b (r ∷ []) ≡ true → m ≡ message_with b (r ∷ []) → Settles f m kept result new → Opens b f r kept (Ok result) new

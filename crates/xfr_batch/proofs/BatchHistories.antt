@@ -14,6 +14,7 @@ use Rattle.xfr_batch.specs.BatchCalls.NotPushed.{NoRoom, NoMemory, Refused}
 use Rattle.xfr_batch.specs.BatchSteps.{Joins, Opens, Tries, HandedOn, TriesOnce, TriesAgain}
 use Rattle.xfr_batch.specs.declared.batcher.PushResult.{PushResult}
 use Rattle.xfr_batch.specs.declared.batcher.PushResult.TheVariants.{PushedAndReadyForMore, PushedAndLimitReached, NotPushedMessageFull, Retry}
+use Rattle.xfr_batch.proofs.BatchAdding.{room_before}
 use Rattle.xfr_batch.proofs.BatchRooms.{not_nil, right_nil, joined_more, begun_none, gains}
 
 -- ---- lists
@@ -71,7 +72,7 @@ tries_next b f r begun m old kept new (Err ShortBuf) is none had j = absurd j
 tries_next b f r begun m old kept new (Err CountOverflow) is none had j = j
 tries_next b f r begun m old kept new (Err Memory) is none had j =
     let h = begun_some b f begun m old is had in
-    (j.1 ∙ ap (λ x. Some x) (sym h.1) ∙ sym is, λ some. j.0)
+    (j.1 ∙ ap (λ x. Some x) (sym h.1) ∙ sym is, (room_before b [] (begun ++ r ∷ []) j.0, λ some. j.0))
 
 tries_first_at : (b : Beginning) (f : Building → Bool) (r : Record) (old kept new : Option Building) (result : Result PushResult PushError)
     → old ≡ None → kept ≡ None → Opens b f r kept result new → Tries b f r [] old result new
@@ -81,7 +82,7 @@ tries_first_at b f r old kept new (Ok (NotPushedMessageFull l)) is none o = absu
 tries_first_at b f r old kept new (Ok Retry) is none o = o
 tries_first_at b f r old kept new (Err ShortBuf) is none o = (refl, o.0, o.1)
 tries_first_at b f r old kept new (Err CountOverflow) is none o = o
-tries_first_at b f r old kept new (Err Memory) is none o = (o ∙ sym is, λ some. absurd (some refl))
+tries_first_at b f r old kept new (Err Memory) is none o = (o.1 ∙ sym is, (o.0, λ some. absurd (some refl)))
 
 pub tries_first : (b : Beginning) (f : Building → Bool) (r : Record) (begun : List Record) (old kept new : Option Building) (result : Result PushResult PushError)
     → old ≡ None → kept ≡ None → IsBegun b f begun old → Opens b f r kept result new → Tries b f r begun old result new

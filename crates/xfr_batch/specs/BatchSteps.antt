@@ -38,11 +38,12 @@ Opens b is_full r old (Ok (NotPushedMessageFull m)) new = ⊥
 Opens b is_full r old (Ok Retry) new = ⊥
 Opens b is_full r old (Err ShortBuf) new = (has_room b (r ∷ []) ≡ false) × (new ≡ None)
 Opens b is_full r old (Err CountOverflow) new = ⊥
-Opens b is_full r old (Err Memory) new = new ≡ None
+Opens b is_full r old (Err Memory) new = (has_room b [] ≡ true) × (new ≡ None)
 
--- what want of memory for a record may hide: that it has no room in a message of its own; it is never told for a message that is begun and has none for it
+-- what want of memory for a record may hide: that it has no room in a message of its own; but not that what a message begins with has none, nor
+-- that the record has none in one that is begun
 abbrev pub MemoryHides : Beginning → Record → List Record → Type 0
-MemoryHides b r begun = begun ≢ [] → has_room b (begun ++ r ∷ []) ≡ true
+MemoryHides b r begun = (has_room b [] ≡ true) × (begun ≢ [] → has_room b (begun ++ r ∷ []) ≡ true)
 
 -- a record pushed where these records were begun; a message that has to be handed on is given back
 abbrev pub Tries : Beginning → (Building → Bool) → Record → List Record → Option Building → Result PushResult PushError → Option Building → Type 0

@@ -1,19 +1,21 @@
 -- How much room a page takes in its message.
-use Rattle.std.proofs.Common.{◌≡◌, ℕ, ◌+◌, ◌-◌, ◌≤◌, Bool, true, false, true≢false, List, [], ◌∷◌, length, refl, sym, ap, ◌∙◌, arith}
-use Rattle.std.specs.Prelude.{◌≢◌, ◌&&◌, ◌==◌, nat_le, min, flat_map, All, Some}
+use Rattle.std.proofs.Common.{◌≡◌, ℕ, ◌+◌, ◌-◌, ◌≤◌, Bool, true, false, true≢false, List, [], ◌∷◌, length, refl, sym, ap, ◌∙◌, subst, arith}
+use Rattle.std.specs.Prelude.{◌≢◌, ◌&&◌, ◌==◌, nat_le, min, flat_map, All, Some, None, IsSome, if◌then◌else◌}
 use Rattle.std.proofs.lemmas.Bool.{and_parts}
 use Rattle.std.proofs.lemmas.Bool.Decides.{nat_tests}
 use Rattle.std.proofs.lemmas.List.{length-append}
 use Rattle.std.proofs.lemmas.List.Elements.{All-cons, All-nil}
 use Rattle.std.proofs.lemmas.List.Sums.{sum_by-cons}
 use Rattle.dns_rdata.specs.Records.{Record, record_wire}
-use Rattle.dns_wire.specs.Wire.{header_in, message_wire, fits}
+use Rattle.dns_wire.specs.Wire.{Building, header_in, message_wire, fits}
+use Rattle.dns_wire.specs.Reply.{empty_answer}
 use Rattle.dns_wire.specs.Parse.{questions_in}
 use Rattle.zone_model.specs.Offer.{room_of, are_pages, are_single, IsCutInto}
 use Rattle.xfr_batch.specs.Batches.{message_with, has_room}
 use Rattle.xfr_batch.specs.ReadyMessages.{Kept}
 use Rattle.xfr_batch.specs.XfrBatches.{axfr_header, push_limit, transfer_begins}
 use Rattle.xfr_batch.proofs.BatchAdding.{wire_length, record_long}
+use Rattle.xfr_services.specs.Replying.{error_reply}
 use Rattle.xfr_replies.specs.TransferPages.{page_answer, page_message, page_room}
 use Rattle.xfr_replies.proofs.Cutting.{within_first, some_page, pages_behind}
 
@@ -46,6 +48,16 @@ room_is s q limit page soft some = ap (λ l. fits (push_limit l) (message_wire (
 -- .. and that message is the page's
 pub message_is : (s : Kept) (q : List ℕ) (limit : ℕ) (page : List Record) → s.soft_byte_limit ≡ Some limit → message_with (transfer_begins s q) page ≡ page_message q limit page
 message_is s q limit page soft = ap (λ l. record { octets = message_wire (page_answer q page); limit = push_limit l }) soft
+
+-- where a message has room for header and question, an error reply has
+most_room : (limit n : ℕ) → nat_le n (min limit 65535) ≡ true → nat_le n (min 65535 65535) ≡ true
+most_room limit n room = grind (arith, nat_tests)
+
+pub error_made : (q : List ℕ) (limit rcode : ℕ) → fits limit (message_wire (page_answer q [])) ≡ true → IsSome (error_reply q rcode)
+error_made q limit rcode room =
+    let reply : Building = record { octets = message_wire (empty_answer q rcode); limit = 65535 } in
+    let P : Bool → Type 0 = λ b. IsSome (if b then Some reply else None) in
+    subst P (sym (most_room limit (length (message_wire (page_answer q []))) room)) refl
 
 -- ---- the pages of a cut
 

@@ -1,6 +1,6 @@
 -- What is pulled of a text, message by message.
 use Rattle.std.proofs.Common.{◌≡◌, ℕ, ◌+◌, ◌≤◌, ◌<◌, Bool, true, false, true≢false, List, [], ◌∷◌, ◌++◌, length, map, drop, refl, sym, ap, ◌∙◌, subst, arith}
-use Rattle.std.specs.Prelude.{◌≢◌, nat_le, slice_get, flat_map, Option, Some, None, Ok, Err, if◌then◌else◌}
+use Rattle.std.specs.Prelude.{◌≢◌, nat_le, slice_get, flat_map, Option, Some, None, IsSome, Ok, Err, if◌then◌else◌}
 use Rattle.std.specs.List.{list_all}
 use Rattle.std.proofs.lemmas.Bool.{and_left}
 use Rattle.std.proofs.lemmas.List.{append_assoc}
@@ -12,7 +12,7 @@ use Rattle.zone_model.specs.Offer.{room_of, IsCutInto}
 use Rattle.xfr_batch.specs.Batches.{Batching, IsBegun, message_with, has_room}
 use Rattle.xfr_batch.specs.BatchSteps.{Tries}
 use Rattle.xfr_batch.specs.ReadyMessages.{Kept, none_ready}
-use Rattle.xfr_batch.specs.XfrBatches.{has_reached, transfer_begins, transfer_is_full}
+use Rattle.xfr_batch.specs.XfrBatches.{has_reached, push_limit, transfer_begins, transfer_is_full}
 use Rattle.xfr_batch.specs.declared.batcher.PushResult.TheVariants.{PushedAndReadyForMore, PushedAndLimitReached, NotPushedMessageFull}
 use Rattle.xfr_batch.proofs.BatchRooms.{not_nil, begun_none}
 use Rattle.xfr_batch.proofs.XfrReady.{fewer, small_batch}
@@ -24,8 +24,10 @@ use Rattle.xfr_services.specs.Items.Sending.{Given, Failed}
 use Rattle.xfr_services.specs.declared.services.ServiceFeedback.TheVariants.{BeginTransaction, EndTransaction}
 use Rattle.xfr_replies.specs.TransferPages.{page_message, page_room, has_page, sendable, EndsBefore, FirstPage}
 use Rattle.xfr_replies.specs.PagedReplies.{SendsRest, TransferSends, page_sent, end_sent, servfail_sent}
-use Rattle.xfr_replies.specs.PulledStreams.{Continues, LacksMemory, NeedsMemory, begun_left, messages_left}
-use Rattle.xfr_replies.proofs.PageRooms.{room_is, message_is}
+use Rattle.xfr_replies.specs.PulledStreams.{Continues, StageLeft, LacksMemory, NeedsMemory, begun_left, messages_left}
+use Rattle.xfr_replies.specs.declared.transfer_replies.Stage.{Stage}
+use Rattle.xfr_replies.specs.declared.transfer_replies.Stage.TheVariants.{Records}
+use Rattle.xfr_replies.proofs.PageRooms.{room_is, message_is, error_made}
 use Rattle.xfr_replies.proofs.Cutting.{one_room, first_page, first_single, no_pages, sendable_behind, sendable_more, sendable_none, all_behind, has_pages, one_cut}
 
 -- ---- one page
@@ -249,16 +251,20 @@ some_left b xs items k none = at k.sends.pages (sym k.sends.sent ∙ none)
     at [] e = cc
     at (p ∷ pages) e = cc
 
--- where a record is left, the next item takes memory
-servfail_item_needs : (q : List ℕ) → NeedsMemory (servfail_sent q ∷ [])
-servfail_item_needs q = at (error_reply q servfail)
-  where
-    at : (o : Option Building) → NeedsMemory (option_map_or (λ reply. Given (reply_item reply)) o Failed ∷ [])
-    at None = tt
-    at (Some reply) = refl
+-- what a stream still gives that is among its records
+pub continued : (s : Stage) (b : Batching Kept) (text : List Record) (items : List Sending) → s ≡ Records → StageLeft s b text items → Continues b text items
+continued s b text items is left = subst (λ x. StageLeft x b text items) is left
 
-pub servfail_needs : (q : List ℕ) (items : List Sending) → items ≡ servfail_sent q ∷ [] → NeedsMemory items
-servfail_needs q items is = subst NeedsMemory (sym is) (servfail_item_needs q)
+-- where a record is left, the next item needs memory
+servfail_item : (q : List ℕ) → IsSome (error_reply q servfail) → NeedsMemory (servfail_sent q ∷ [])
+servfail_item q made = at (error_reply q servfail) made
+  where
+    at : (o : Option Building) → IsSome o → NeedsMemory (option_map_or (λ reply. Given (reply_item reply)) o Failed ∷ [])
+    at None none = absurd (true≢false (sym none))
+    at (Some reply) some = refl
+
+pub servfail_needs : (q : List ℕ) (items : List Sending) → items ≡ servfail_sent q ∷ [] → IsSome (error_reply q servfail) → NeedsMemory items
+servfail_needs q items is made = subst NeedsMemory (sym is) (servfail_item q made)
 
 first_unpaged : (room : ℕ) (r : Record) (rest : List Record) → [] ≡ sendable room (r ∷ rest) → list_all (has_page room) (r ∷ rest) ≡ false
 first_unpaged room r rest none = by (has_page room r) refl
@@ -271,18 +277,19 @@ unpaged : (room : ℕ) (begun : List Record) (r : Record) (xs : List Record) →
 unpaged room [] r xs none = first_unpaged room r xs none
 unpaged room (x ∷ begun) r xs none = first_unpaged room x (begun ++ r ∷ xs) none
 
-sent_needs : (q : List ℕ) (limit : ℕ) (begun : List Record) (r : Record) (xs : List Record) (pages : List (List Record)) → flat_map (λ page. page) pages ≡ sendable (page_room q limit) (begun ++ r ∷ xs)
+sent_needs : (q : List ℕ) (limit : ℕ) (begun : List Record) (r : Record) (xs : List Record) (pages : List (List Record)) → IsSome (error_reply q servfail) → flat_map (λ page. page) pages ≡ sendable (page_room q limit) (begun ++ r ∷ xs)
     → NeedsMemory (map (page_sent q limit) pages ++ end_sent q limit (begun ++ r ∷ xs) ∷ [])
-sent_needs q limit begun r xs (page ∷ pages) joined = refl
-sent_needs q limit begun r xs [] joined =
+sent_needs q limit begun r xs (page ∷ pages) made joined = refl
+sent_needs q limit begun r xs [] made joined =
     let fails = ap (λ t. if t then Given (feedback_item EndTransaction) else servfail_sent q) (unpaged (page_room q limit) begun r xs joined) in
     let P : Sending → Type 0 = λ s. NeedsMemory (s ∷ []) in
-    subst P (sym fails) (servfail_item_needs q)
+    subst P (sym fails) (servfail_item q made)
 
 pub needs : (b : Batching Kept) (text : List Record) (items : List Sending) → LacksMemory b text items → NeedsMemory items
 needs b text items l =
     let k = l.left in
-    subst NeedsMemory (sym k.sends.sent) (sent_needs b.request k.limit k.begun l.next l.behind k.sends.pages k.sends.cut.joined)
+    let made = error_made b.request (push_limit b.state.soft_byte_limit) servfail l.hides.0 in
+    subst NeedsMemory (sym k.sends.sent) (sent_needs b.request k.limit k.begun l.next l.behind k.sends.pages made k.sends.cut.joined)
 
 -- ---- how many
 

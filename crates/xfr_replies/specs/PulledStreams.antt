@@ -77,10 +77,10 @@ PullsFewer before TooLong after = Unit {0}
 PullsFewer before Nothing after = Unit {0}
 PullsFewer before NoMemory after = Unit {0}
 
--- whether the next item takes memory: a reply, or what stands where none can be made; feedback alone takes none
+-- whether the next item needs memory, as a reply does; feedback alone needs none, and where no reply can be made that is told without
 abbrev pub NeedsMemory : List Sending → Type 0
 NeedsMemory [] = ⊥
-NeedsMemory (Failed ∷ rest) = Unit {0}
+NeedsMemory (Failed ∷ rest) = ⊥
 NeedsMemory (Given item ∷ rest) = IsSome item.response
 
 -- what is sent in answer to a request, where it is a transfer's text
