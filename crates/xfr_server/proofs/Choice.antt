@@ -1,6 +1,6 @@
 -- What is chosen of an offer, and what is sent of that.
-use Rattle.std.proofs.Common.{◌≡◌, ℕ, Bool, true, false, true≢false, ◌&&◌, not, List, [], Option, refl, sym, ap, ◌∙◌, subst}
-use Rattle.std.specs.Prelude.{Some, None, Result, Ok, Err, IsSome, IsOk, is_some, option_map, if◌then◌else◌}
+use Rattle.std.proofs.Common.{◌≡◌, ℕ, Bool, true, false, ◌&&◌, not, List, [], Option, refl, sym, ap, ◌∙◌, subst}
+use Rattle.std.specs.Prelude.{Some, Result, Ok, Err, IsSome, IsOk, is_some, option_map, if◌then◌else◌}
 use Rattle.dns_numbers.specs.Codes.{servfail}
 use Rattle.dns_rdata.specs.Records.{Record}
 use Rattle.dns_wire.specs.Wire.{Building, message_wire, fits}
@@ -13,6 +13,7 @@ use Rattle.zone_model.specs.Version.{Version}
 use Rattle.zone_model.specs.Answer.{apex_soa_record}
 use Rattle.xfr_replies.specs.TransferPages.{page_answer, page_message}
 use Rattle.xfr_replies.proofs.PageRooms.{error_made}
+use Rattle.xfr_services.proofs.Making.{some_replies}
 use Rattle.xfr_server.specs.Replying.{error_reply}
 use Rattle.xfr_server.specs.Items.{Sending, Calls, Makes, all_given, one_reply}
 use Rattle.xfr_server.specs.Transfers.{asked_serial, is_ixfr, chosen, choice_of, soa_reply, udp_reply, SendsChoice}
@@ -64,17 +65,13 @@ makes_soa request limit v w text made e short refused same soa =
     subst P (ap (λ x. option_map one_reply (soa_reply request limit x)) same ∙ sym (ap (option_map one_reply) (without_room request limit v text none))) soa
 
 -- where header and question have room, something can be answered
-some_reply : (reply : Option Building) → IsSome reply → IsSome (option_map one_reply reply)
-some_reply None none = absurd (true≢false (sym none))
-some_reply (Some reply) some = refl
-
 by_room : (fit : Bool) (reply : Building) (other : Option Building) → IsSome (option_map one_reply other) → IsSome (option_map one_reply (if fit then Some reply else other))
 by_room true reply other some = refl
 by_room false reply other some = some
 
 pub soa_some : (request : List ℕ) (limit : ℕ) (v : Version) → fits limit (message_wire (page_answer request [])) ≡ true → IsSome (option_map one_reply (soa_reply request limit v))
 soa_some request limit v room =
-    by_room (fits limit (message_wire (page_answer request (apex_soa_record v)))) (page_message request limit (apex_soa_record v)) (error_reply request servfail) (some_reply (error_reply request servfail) (error_made request limit servfail room))
+    by_room (fits limit (message_wire (page_answer request (apex_soa_record v)))) (page_message request limit (apex_soa_record v)) (error_reply request servfail) (some_replies (error_reply request servfail) (error_made request limit servfail room))
 
 pub udp_some : (request : List ℕ) (limit : ℕ) (v : Version) (text : List Record) → fits limit (message_wire (page_answer request [])) ≡ true
     → IsSome (option_map one_reply (udp_reply request limit v text))

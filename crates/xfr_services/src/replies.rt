@@ -28,6 +28,7 @@ pub fn error_reply(
 }
 
 /// One such reply and nothing else.
+#[tactic(auto, using(crate::proofs::Making::some_replies))]
 pub fn refuse(alloc: Global, request: &MessageBuf, rcode: Rcode) -> Result<Replies, ServiceError>
     ensures { Makes (error_replies request.now rcode) result }
 {
