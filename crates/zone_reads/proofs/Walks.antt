@@ -1,5 +1,5 @@
 -- Two versions are the same, set by set of their trees; and the stops of a version are its sets.
-use Rattle.std.proofs.Common.{◌≡◌, is_some, ◌&&◌, List, [], ◌∷◌, map, refl, sym, subst, ◌∙◌, bytes_eq}
+use Rattle.std.proofs.Common.{◌≡◌, is_some, ◌&&◌, List, [], ◌∷◌, map, refl, sym, ap, subst, ◌∙◌, bytes_eq}
 use Rattle.std.specs.List.{AllByRecursion, list_all, list_any}
 use Rattle.std.specs.List.Sorted.{IsStrictlySortedBy}
 use Rattle.std.specs.Cmp.Lexicographic.{pointwise, bytes_decides}
@@ -10,14 +10,13 @@ use Rattle.dns_name.specs.Names.{Name, fold, same_name}
 use Rattle.dns_rdata.specs.Records.{Field, same_data}
 use Rattle.name_keys.specs.NameKeys.{name_key}
 use Rattle.name_keys.proofs.Reading.{one_key}
-use Rattle.zone_model.specs.Version.{RecordSet, Key, Sets, Version, key_cmp, same_items, same_entry}
+use Rattle.zone_model.specs.Version.{RecordSet, Key, Sets, Version, key_cmp, same_entry}
 use Rattle.zone_model.specs.Walk.{Stop, shown_owner}
 use Rattle.zone_model.specs.Answer.{highest_cut}
 use Rattle.zone_model.proofs.Folded.{IsFolded}
 use Rattle.zone_model.proofs.Valid.{valid_good}
 use Rattle.zone_model.proofs.Phases.{shown_folds}
 use Rattle.zone_versions.specs.Held.{told}
-use Rattle.zone_values.proofs.Equality.{list_any_map}
 use Rattle.zone_reads.specs.Stops.{same_told, key_of, entry_of, VisitsOnce}
 
 -- names are the same where their keys are (RFC 4343, 3)
@@ -36,20 +35,10 @@ same_sets [] (q ∷ fs) = refl
 same_sets (p ∷ es) [] = refl
 same_sets (p ∷ es) (q ∷ fs) = λ i. same_entry p q && same_sets es fs i
 
--- data in a list, read through what they stand for
+-- data that have their equals among others, read through what they stand for
 module _ {D : Type 0} (f : D → List Field) where
-  pub among_read : (d : List Field) (ys : List D) → list_any (λ y. same_data d (f y)) ys ≡ list_any (same_data d) (map f ys)
-  among_read d ys = sym (list_any_map (same_data d) f ys)
-
-  pub all_among_read : (xs ys : List D) → list_all (λ x. list_any (λ y. same_data (f x) (f y)) ys) xs ≡ list_all (λ x. list_any (same_data x) (map f ys)) (map f xs)
-  all_among_read xs ys = each xs ∙ sym (list_all-map (λ x. list_any (same_data x) (map f ys)) f xs)
-    where
-      each : (zs : List D) → list_all (λ x. list_any (λ y. same_data (f x) (f y)) ys) zs ≡ list_all (λ x. list_any (same_data (f x)) (map f ys)) zs
-      each [] = refl
-      each (z ∷ zs) = λ i. among_read (f z) ys i && each zs i
-
-  pub same_read : (xs ys : List D) → (list_all (λ x. list_any (λ y. same_data (f x) (f y)) ys) xs && list_all (λ y. list_any (λ x. same_data (f y) (f x)) xs) ys) ≡ same_items (map f xs) (map f ys)
-  same_read xs ys = λ i. all_among_read xs ys i && all_among_read ys xs i
+  pub all_among : (xs : List D) (ys zs : List (List Field)) → map f xs ≡ zs → list_all (λ x. list_any (same_data (f x)) ys) xs ≡ list_all (λ z. list_any (same_data z) ys) zs
+  all_among xs ys zs is = sym (list_all-map (λ z. list_any (same_data z) ys) f xs) ∙ ap (list_all (λ z. list_any (same_data z) ys)) is
 
 -- the stops of a version are its sets
 abbrev stops : Version → Sets → List Stop

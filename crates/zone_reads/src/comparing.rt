@@ -1,5 +1,5 @@
 // Whether two versions have the same records.
-ghost use Rattle.std.specs.Prelude.{◌≡◌, bytes_eq, map};
+ghost use Rattle.std.specs.Prelude.{◌≡◌, bytes_eq};
 ghost use Rattle.std.specs.Cmp.Lexicographic.{pointwise};
 ghost use Rattle.std.specs.List.{list_all, list_any};
 ghost use Rattle.dns_rdata.specs.Records.{same_data};
@@ -11,11 +11,12 @@ ghost use Rattle.zone_reads.specs.Stops.{same_told};
 use crate::read::ReadZone;
 use dns_rdata::StoredRecordData;
 use name_keys::NameKeyRef;
+use zone_values::Rrset;
 use zone_versions::{TreeSet, TreeSets};
 
 /// Whether two versions have sets of the same owners, types and TTLs with the same data, but for the order of a set's data and the case of
-/// letters in names (RFC 2181, 5; RFC 4343). Apex and class aren't looked at. Two sets are compared
-/// datum by datum in their order, and each datum with each of the other's only where that fails.
+/// letters in names (RFC 2181, 5; RFC 4343). Apex and class aren't looked at. Two sets are compared datum by datum in their order; only where that
+/// fails is each datum looked for in the other set, by its index where there are many.
 #[tactic(auto, using(crate::proofs::Walks::same_sets))]
 pub fn is_same(one: &ReadZone, other: &ReadZone) -> bool
     ensures { result ≡ same_version one.now.version other.now.version }
@@ -50,7 +51,7 @@ fn is_same_set(found: &TreeSet<'_>, beside: &TreeSet<'_>) -> bool
     is_same_owner(found.owner(), beside.owner())
         && found.rtype() == beside.rtype()
         && found.set().ttl() == beside.set().ttl()
-        && are_same(found.set().data(), beside.set().data())
+        && are_same(found.set(), beside.set())
 }
 
 /// Whether two owners in lower case are the same. Their keys are compared, so that no name is spelled out.
@@ -63,15 +64,17 @@ fn is_same_owner(owner: &NameKeyRef<'_>, beside: &NameKeyRef<'_>) -> bool
     owner.as_slice() == beside.as_slice()
 }
 
-/// Whether each datum of each list has its equal in the other. Most often they stand in the same order.
-fn are_same(items: &[StoredRecordData], others: &[StoredRecordData]) -> bool
-    ensures { result ≡ same_items (map data_fields items.now) (map data_fields others.now) }
+/// Whether each datum of each set has its equal in the other. Most often they stand in the same order.
+fn are_same(one: &Rrset, other: &Rrset) -> bool
+    ensures { result ≡ same_items one.now.contents.items other.now.contents.items }
 {
+    let items = one.data();
+    let others = other.data();
     if are_alike(items, others) {
         return true;
     }
-    let there = are_among(items, others);
-    let back = are_among(others, items);
+    let there = are_among(items, other);
+    let back = are_among(others, one);
     there & back
 }
 
@@ -92,16 +95,9 @@ fn are_alike(items: &[StoredRecordData], others: &[StoredRecordData]) -> bool
     others.next().is_none()
 }
 
-/// Whether each datum has its equal among the others.
-fn are_among(items: &[StoredRecordData], others: &[StoredRecordData]) -> bool
-    ensures { result ≡ list_all (λ x. list_any (λ y. same_data (data_fields x) (data_fields y)) others.now) items.now }
+/// Whether each datum has its equal in a set, whose index is asked where it has one.
+fn are_among(items: &[StoredRecordData], other: &Rrset) -> bool
+    ensures { result ≡ list_all (λ x. list_any (same_data (data_fields x)) other.now.contents.items) items.now }
 {
-    items.iter().all(|item| is_among(item, others))
-}
-
-/// Whether a datum has its equal among the others.
-fn is_among(item: &StoredRecordData, others: &[StoredRecordData]) -> bool
-    ensures { result ≡ list_any (λ y. same_data (data_fields item.now) (data_fields y)) others.now }
-{
-    others.iter().any(|other| item.fields_eq(other))
+    items.iter().all(|item| other.contains(item))
 }
