@@ -1,5 +1,5 @@
 -- A zone file without faults makes a sound version.
-use Rattle.std.proofs.Common.{◌≡◌, ◌==◌, Bool, true, false, cond, ◌&&◌, ◌||◌, not, if◌then◌else◌, List, [], ◌∷◌, length, nat_le, refl, sym, ap, subst, ◌∙◌, true≢false, Equal, Some, None, is_some, bytes_eq}
+use Rattle.std.proofs.Common.{◌≡◌, ◌==◌, Bool, true, false, cond, ◌&&◌, ◌||◌, not, if◌then◌else◌, List, [], ◌∷◌, length, nat_le, refl, sym, ap, subst, ◌∙◌, true≢false, Equal, Some, None, IfNone, is_some, bytes_eq, Result, Ok, Err, IfErr}
 use Rattle.std.specs.Prelude.{is_none}
 use Rattle.std.specs.List.{list_all}
 use Rattle.std.specs.List.Sorted.{IsStrictlySortedBy}
@@ -22,6 +22,9 @@ use Rattle.zone_values.specs.SetEdits.{put_all}
 use Rattle.zone_values.proofs.KeptTypes.{all_insert}
 use Rattle.zone_versions.specs.Sound.{is_sound_at, IsSound}
 use Rattle.zone_records.specs.Parsed.{Parsed, version_of, is_tidy_at, IsTidy, is_no_alias, is_one_alias, IsByKind}
+use Rattle.zone_records.specs.declared.errors.FileError.{FileError}
+use Rattle.zone_records.specs.declared.errors.FileError.TheVariants.{Errors, Memory}
+use Rattle.zone_records.specs.Causes.{errors_in}
 use Rattle.zone_records.specs.Faults.{faults}
 use Rattle.zone_records.proofs.Whole.{passes, whole_in_parts, passes_alike}
 
@@ -176,3 +179,9 @@ owners_in p none =
 -- nothing was told
 pub no_faults : (p : Parsed) (found : List (Name × ContextError)) → found ≡ faults p → found ≡ [] → faults p ≡ []
 no_faults p found e h = sym e ∙ h
+
+-- want of memory then hides nothing
+pub none_hidden : {V : Type 0} (p : Parsed) (r : Result V (FileError ContextError)) → faults p ≡ [] → IfErr r (λ e. IfNone (errors_in e) (faults p ≡ []))
+none_hidden p (Ok v) h = tt
+none_hidden p (Err (Errors errors)) h = tt
+none_hidden p (Err Memory) h = h

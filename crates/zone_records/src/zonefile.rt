@@ -1,5 +1,5 @@
 // The records of a zone file.
-ghost use Rattle.std.specs.Prelude.{◌≡◌, ◌==◌, ◌&&◌, ◌||◌, ◌<◌, [], length, map, not, true, None, Ok, OnOk, OnErr, IfOk, IfErr, IfSome, IsTrue, if◌then◌else◌};
+ghost use Rattle.std.specs.Prelude.{◌≡◌, ◌==◌, ◌&&◌, ◌||◌, ◌<◌, [], length, map, not, true, None, Ok, OnOk, OnErr, IfOk, IfErr, IfSome, IfNone, IsTrue, if◌then◌else◌};
 ghost use Rattle.std.specs.List.{list_all};
 ghost use Rattle.std.specs.Map.{keys_of};
 ghost use Rattle.dns_name.specs.Names.{same_name, under};
@@ -291,7 +291,8 @@ impl Zonefile {
     }
 
     /// The version that the records make, which is sound; or all that keeps them from making one, in the order of `faults` and at least one,
-    /// or want of memory. The file is gone either way; the RRsets move, and none is copied.
+    /// or want of memory, which hides these only where it is their list that finds none: `is_whole` tells beforehand, and needs none, whether
+    /// there are any. The file is gone either way; the RRsets move, and none is copied.
     #[tactic(auto, using(crate::proofs::SoundFiles::no_faults))]
     pub fn into_version(self) -> Result<ZoneVersion, FileError<ContextError>>
         ensures ok { IfOk result (λ v. (faults self ≡ []) × (v ≡ version_of self)) }
@@ -307,6 +308,7 @@ impl Zonefile {
     }
 
     /// The version that the records make, unless these are faults.
+    #[tactic(auto, using(crate::proofs::SoundFiles::no_faults, crate::proofs::SoundFiles::none_hidden))]
     fn unless_faults(
         self,
         found: ZoneErrors<ContextError>,
@@ -314,6 +316,7 @@ impl Zonefile {
         requires { found ≡ faults self }
         ensures ok { IfOk result (λ v. (faults self ≡ []) × (v ≡ version_of self)) }
         ensures refused { IfErr result (λ e. IfSome (errors_in e) (λ errors. (errors ≡ faults self) × (0 < length errors))) }
+        ensures memory { IfErr result (λ e. IfNone (errors_in e) (faults self ≡ [])) }
     {
         match found.unwrap() {
             Ok(()) => Ok(self.joined()?),
