@@ -1,7 +1,8 @@
 -- What edits of nodes make of the version, from the session that opened the node to the one that is lent back.
-use Rattle.std.proofs.Common.{◌≡◌, ℕ, Bool, true, false, ◌&&◌, ◌||◌, if◌then◌else◌, List, refl, sym, ap, subst, ◌∙◌, Option, Some, None, is_some}
+use Rattle.std.proofs.Common.{◌≡◌, ℕ, Bool, true, false, ◌&&◌, ◌||◌, if◌then◌else◌, List, refl, sym, ap, subst, ◌∙◌, true≢false, Option, Some, None, is_some, Result, Ok, Err, IsErr}
 use Rattle.std.specs.Borrow.{GName}
 use Rattle.zone_model.specs.Version.{Version}
+use Rattle.zone_model.specs.Edits.{Refusal}
 use Rattle.zone_model.specs.Session.{Session, opened_session, with_pending}
 use Rattle.zone_model.specs.Commits.{kept_or}
 use Rattle.zone_sessions.specs.Nodes.{Node, opened_node, with_edit}
@@ -44,6 +45,15 @@ moved n m k labels edit b r there same e =
 
 pub is_reached : (n m : Node) (labels : List (List ℕ)) (b : Bool) → reached n.name labels ≡ (if b then Some m.name else None) → b ≡ true → is_some (reached n.name labels) ≡ true
 is_reached n m labels b r there = ap is_some (r ∙ (λ j. if there j then Some m.name else None))
+
+-- where the version refuses an edit nothing changes
+pub refused_stays : (s : Session) (r : Result Version Refusal) → IsErr r → s ≡ with_pending s (kept_or s.pending r)
+refused_stays s (Ok v) h = absurd (true≢false (sym h))
+refused_stays s (Err why) h = refl
+
+pub refused_stays_at : (n : Node) (r : Result Version Refusal) → IsErr r → n ≡ with_edit n (kept_or n.session.pending r)
+refused_stays_at n (Ok v) h = absurd (true≢false (sym h))
+refused_stays_at n (Err why) h = refl
 
 -- what may be made of a version, and what may not
 pub permitted : (v w : Version) (a b : Bool) → a ≡ true → b ≡ true → kept_or v (allowed (a && b) v w) ≡ w

@@ -1,5 +1,5 @@
 -- What an edit makes of the version that is pending (RFC 2136, 3.4.2; RFC 1034, 3.6.2 and 4.2.1).
-use Rattle.std.specs.Prelude.{ℕ, Bool, true, ◌&&◌, ◌==◌, nat_lt, not, if◌then◌else◌, List, [], ◌∷◌, length, Option, Some, None, is_some, Result, Ok, option_map}
+use Rattle.std.specs.Prelude.{ℕ, Bool, true, false, ◌&&◌, ◌==◌, nat_lt, not, if◌then◌else◌, List, [], ◌∷◌, length, Option, Some, None, Result, Ok, is_ok, option_map}
 use Rattle.std.specs.Option.{option_map_or}
 use Rattle.dns_name.specs.Names.{Name, name_wire}
 use Rattle.dns_numbers.specs.Codes.{type_ns, type_cname, type_ds}
@@ -53,10 +53,15 @@ edited (PutSoa ttl soa) v = Ok (with_soa v ttl (soa_fields (λ n. n) soa))
 edited ClearAll v = Ok (with_sets v [])
 edited (Node labels edit) v = edited_at (reached v.apex labels.items) edit v
 
--- whether an edit may want memory: one of a node where no name stands changes nothing
+-- whether an edit of the node with this name, if there is one, may want memory: one that is refused changes nothing
+abbrev pub can_change_at : Option Name → NodeEdit → Version → Bool
+can_change_at None edit v = false
+can_change_at (Some n) edit v = is_ok (edited_node edit n v)
+
+-- whether an edit may: one that is refused, or of a node where no name stands, changes nothing
 abbrev pub can_change : ZoneEdit → Version → Bool
-can_change (Add r) v = true
-can_change (Delete r) v = true
+can_change (Add r) v = is_ok (add v r)
+can_change (Delete r) v = is_ok (delete v r)
 can_change (PutSoa ttl soa) v = true
 can_change ClearAll v = true
-can_change (Node labels edit) v = is_some (reached v.apex labels.items)
+can_change (Node labels edit) v = can_change_at (reached v.apex labels.items) edit v

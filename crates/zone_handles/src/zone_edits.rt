@@ -1,12 +1,12 @@
 // Edits of what is pending, as steps of a zone's history make them.
-ghost use Rattle.std.specs.Prelude.{◌≡◌, [], true, OnOk, OnErr, IfErr, Some, None, if◌then◌else◌, is_some};
+ghost use Rattle.std.specs.Prelude.{◌≡◌, [], true, OnOk, OnErr, IfErr, IsOk, Some, None, if◌then◌else◌};
 ghost use Rattle.zone_model.specs.Edits as edits;
 ghost use Rattle.zone_model.specs.Commits.{kept_or};
 ghost use Rattle.zone_model.specs.Session.{with_pending};
 ghost use Rattle.zone_sessions.specs.Nodes.{with_edit};
 ghost use Rattle.zone_versions.specs.Puts.{with_soa};
 ghost use Rattle.dns_rdata.specs.DataFields.{soa_fields};
-ghost use Rattle.zone_handles.specs.ZoneEdits.{edited, edited_at, edited_node, reached, can_change, is_cut};
+ghost use Rattle.zone_handles.specs.ZoneEdits.{edited, edited_at, edited_node, reached, can_change, can_change_at, is_cut};
 ghost use Rattle.zone_handles.specs.declared.zone_edits.NodeEdit.{NodeEdit};
 
 use dns_name::{OwnedLabel, StoredName};
@@ -69,11 +69,16 @@ pub(crate) fn make_edit(
 }
 
 /// Adds a record, unless the version refuses it.
+#[tactic(auto, using(crate::proofs::EditSteps::refused_stays))]
 fn add(session: &mut WriteZone<'_>, added: &StoredRecord) -> Result<(), CommitError>
     ensures ok { OnOk result (session.new ≡ with_pending session.old (kept_or session.old.pending (edits.add session.old.pending added.now))) }
     ensures err { OnErr result (session.new ≡ session.old) }
     ensures memory { IfErr result (λ e. e ≡ CommitError.Memory) }
+    ensures cause { OnErr result (IsOk (edits.add session.old.pending added.now)) }
 {
+    if session.refuses(added) {
+        return Ok(());
+    }
     match session.add_record(added.clone()?) {
         Err(EditError::Memory) => Err(CommitError::Memory),
         _ => Ok(()),
@@ -85,6 +90,7 @@ fn delete(session: &mut WriteZone<'_>, deleted: &StoredRecord) -> Result<(), Com
     ensures ok { OnOk result (session.new ≡ with_pending session.old (kept_or session.old.pending (edits.delete session.old.pending deleted.now))) }
     ensures err { OnErr result (session.new ≡ session.old) }
     ensures memory { IfErr result (λ e. e ≡ CommitError.Memory) }
+    ensures cause { OnErr result (IsOk (edits.delete session.old.pending deleted.now)) }
 {
     match session.delete_record(deleted) {
         Err(EditError::Memory) => Err(CommitError::Memory),
@@ -126,7 +132,7 @@ fn edit_below(
     ensures ok { OnOk result (session.new ≡ with_pending session.old (kept_or session.old.pending (edited_at (reached session.old.pending.apex labels.now) edit.now session.old.pending))) }
     ensures err { OnErr result (session.new ≡ session.old) }
     ensures memory { IfErr result (λ e. e ≡ CommitError.Memory) }
-    ensures cause { OnErr result (is_some (reached session.old.pending.apex labels.now) ≡ true) }
+    ensures cause { OnErr result (can_change_at (reached session.old.pending.apex labels.now) edit.now session.old.pending ≡ true) }
 {
     let mut told = Ok(());
     edit_and_lend(session, labels, edit, &mut told);
@@ -144,7 +150,7 @@ fn edit_and_lend<'s, 'z>(
     ensures ok { OnOk told.new (result.now ≡ with_pending session.old (kept_or session.old.pending (edited_at (reached session.old.pending.apex labels.now) edit.now session.old.pending))) }
     ensures err { OnErr told.new (result.now ≡ session.old) }
     ensures memory { IfErr told.new (λ e. e ≡ CommitError.Memory) }
-    ensures cause { OnErr told.new (is_some (reached session.old.pending.apex labels.now) ≡ true) }
+    ensures cause { OnErr told.new (can_change_at (reached session.old.pending.apex labels.now) edit.now session.old.pending ≡ true) }
 {
     let mut node = session.open(false);
     *told = edit_reached(&mut node, labels, edit);
@@ -161,7 +167,7 @@ fn edit_reached(
     ensures err { OnErr result (node.new.session ≡ node.old.session) }
     ensures same_borrow { node.new.lender ≡ node.old.lender }
     ensures memory { IfErr result (λ e. e ≡ CommitError.Memory) }
-    ensures cause { OnErr result (is_some (reached node.old.name labels.now) ≡ true) }
+    ensures cause { OnErr result (can_change_at (reached node.old.name labels.now) edit.now node.old.session.pending ≡ true) }
 {
     if !go_down(node, labels) {
         return Ok(());
@@ -186,10 +192,12 @@ fn go_down(node: &mut WriteNode<'_, '_>, labels: &[OwnedLabel]) -> bool
 }
 
 /// Edits a node, unless the edit is refused.
+#[tactic(auto, using(crate::proofs::Told::on_err_always))]
 fn edit_node(node: &mut WriteNode<'_, '_>, edit: &NodeEdit) -> Result<(), CommitError>
     ensures ok { OnOk result (node.new ≡ with_edit node.old (kept_or node.old.session.pending (edited_node edit.now node.old.name node.old.session.pending))) }
     ensures err { OnErr result (node.new ≡ node.old) }
     ensures memory { IfErr result (λ e. e ≡ CommitError.Memory) }
+    ensures cause { OnErr result (IsOk (edited_node edit.now node.old.name node.old.session.pending)) }
 {
     match edit {
         NodeEdit::PutSet(set) => put_set(node, set),
@@ -202,11 +210,16 @@ fn edit_node(node: &mut WriteNode<'_, '_>, edit: &NodeEdit) -> Result<(), Commit
 }
 
 /// Puts an RRset, unless the version refuses it.
+#[tactic(auto, using(crate::proofs::EditSteps::refused_stays_at))]
 fn put_set(node: &mut WriteNode<'_, '_>, set: &SharedRrset) -> Result<(), CommitError>
     ensures ok { OnOk result (node.new ≡ with_edit node.old (kept_or node.old.session.pending (edits.replace_set node.old.session.pending node.old.name set.now.rtype set.now.contents))) }
     ensures err { OnErr result (node.new ≡ node.old) }
     ensures memory { IfErr result (λ e. e ≡ CommitError.Memory) }
+    ensures cause { OnErr result (IsOk (edits.replace_set node.old.session.pending node.old.name set.now.rtype set.now.contents)) }
 {
+    if node.refuses_rrset(set.as_rrset()) {
+        return Ok(());
+    }
     match node.update_rrset(set.clone()?) {
         Err(EditError::Memory) => Err(CommitError::Memory),
         _ => Ok(()),

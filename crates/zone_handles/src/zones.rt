@@ -103,6 +103,15 @@ impl<S: ZoneStore + Drop> Zone<S> {
     }
 }
 
+impl<S: ZoneStore + Drop> AsRef<S> for Zone<S> {
+    /// What keeps the zone, as `store` lends it.
+    fn as_ref(&self) -> &S
+        ensures { result.now ≡ self.now }
+    {
+        &self.store
+    }
+}
+
 impl<S: ZoneStore + Drop> ZoneStore for Zone<S> {
     type Read = S::Read;
 

@@ -1,5 +1,5 @@
 // The nodes that a session edits.
-ghost use Rattle.std.specs.Prelude.{◌≡◌, ◌↔◌, ◌≤◌, ◌∷◌, ◌==◌, true, false, length, Ok, Err, IfOk, IfErr, IfSome, IsOk, OnOk, OnErr, option_copied, option_map};
+ghost use Rattle.std.specs.Prelude.{◌≡◌, ◌↔◌, ◌≤◌, ◌∷◌, ◌==◌, true, false, length, Ok, Err, IfOk, IfErr, IfSome, IsOk, IsErr, OnOk, OnErr, option_copied, option_map};
 ghost use Rattle.dns_name.specs.Names.{name_wire};
 ghost use Rattle.dns_numbers.specs.Codes.{type_cname, type_ns, type_ds};
 ghost use Rattle.zone_model.specs.Version.{set_at, below_apex};
@@ -95,6 +95,22 @@ impl<'s, 'z> WriteNode<'s, 'z> {
         self.session.shown().set_at(&self.name, rtype)
     }
 
+    /// Whether a set is a CNAME set below the apex whose data aren't one value.
+    fn is_bad_alias(&self, set: &Rrset) -> bool
+        ensures { result ≡ edits.is_bad_alias self.now.session.pending self.now.name set.now.rtype set.now.contents }
+    {
+        self.session.shown().is_bad_alias(&self.name, set)
+    }
+
+    /// Whether `update_rrset` refuses a set. It takes no memory.
+    #[tactic(auto, using(crate::proofs::Refused::bad_is_err, crate::proofs::Refused::good_is_ok))]
+    pub fn refuses_rrset(&self, set: &Rrset) -> bool
+        ensures refused { result ≡ true → IsErr (replace_set self.now.session.pending self.now.name set.now.rtype set.now.contents) }
+        ensures accepted { result ≡ false → IsOk (replace_set self.now.session.pending self.now.name set.now.rtype set.now.contents) }
+    {
+        self.is_bad_alias(set)
+    }
+
     /// Puts a set in place of the one of its type, the first of equal data kept; an empty one removes that. Refused is, as `InvalidData`, a
     /// CNAME set below the apex whose data aren't one value (RFC 2181, 10.1).
     pub fn update_rrset(&mut self, set: SharedRrset) -> Result<(), EditError>
@@ -104,11 +120,7 @@ impl<'s, 'z> WriteNode<'s, 'z> {
         ensures else_same { self.new ≡ with_edit self.old self.new.session.pending }
         ensures err { OnErr result (self.new ≡ self.old) }
     {
-        if self
-            .session
-            .shown()
-            .is_bad_alias(&self.name, set.as_rrset())
-        {
+        if self.is_bad_alias(set.as_rrset()) {
             return Err(EditError::InvalidData);
         }
         self.session.replace_set(&self.name, set.as_rrset())?;

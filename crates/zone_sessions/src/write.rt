@@ -1,5 +1,5 @@
 // A session that writes a zone's next versions.
-ghost use Rattle.std.specs.Prelude.{◌≡◌, ◌↔◌, ◌-◌, ◌^◌, [], Ok, Err, IfOk, IfErr, IfSome, IfNone, OnOk, OnErr, IsOk, IsTrue, false, option_copied, option_map};
+ghost use Rattle.std.specs.Prelude.{◌≡◌, ◌↔◌, ◌-◌, ◌^◌, [], Ok, Err, IfOk, IfErr, IfSome, IfNone, OnOk, OnErr, IsOk, IsErr, IsTrue, true, false, option_copied, option_map};
 ghost use Rattle.zone_model.specs.Edits.{add, delete, with_sets};
 ghost use Rattle.zone_model.specs.Edits as edits;
 ghost use Rattle.zone_model.specs.Version.{set_at};
@@ -95,6 +95,18 @@ impl<'z> WriteZone<'z> {
         ensures { result ≡ edits.has_data self.now.pending added.now }
     {
         self.shown().has_data(added)
+    }
+
+    /// Whether `add_record` refuses a record. It takes no memory.
+    #[tactic(auto, using(crate::proofs::Refused::refused_is_err, crate::proofs::Refused::taken_is_ok))]
+    pub fn refuses(&self, added: &StoredRecord) -> bool
+        ensures refused { result ≡ true → IsErr (add self.now.pending added.now) }
+        ensures accepted { result ≡ false → IsOk (add self.now.pending added.now) }
+    {
+        match self.shown().refusal(added) {
+            Some(_) => true,
+            None => false,
+        }
     }
 
     /// The pending set of an owner and type.
