@@ -32,6 +32,14 @@ pub(crate) fn says<R: Abort, T: fmt::Display>(rt: &R, alloc: Global, value: &T, 
     drop(said);
 }
 
+/// Asserts what a value's `Debug` says.
+pub(crate) fn shows<R: Abort, T: Debug>(rt: &R, alloc: Global, value: &T, wanted: &str) {
+    let mut said = String::new(alloc);
+    write!(said, "{value:?}").expect(rt, "memory");
+    is(rt, said.as_str(), wanted);
+    drop(said);
+}
+
 pub(crate) fn name<R: Abort>(rt: &R, alloc: Global, octets: &[u8]) -> StoredName {
     let found = NameRef::from_octets(octets).expect(rt, "a name");
     found.store(alloc).expect(rt, "memory")

@@ -1,10 +1,11 @@
 // What each error of zones says, the owners of refused records, and lists of refusals.
 
-use crate::common::{HOST, address, is, name, says};
+use crate::common::{HOST, address, is, name, says, shows};
 use dns_numbers::{Class, Rtype};
 use dns_rdata::StoredRecord;
 use std::alloc::Global;
 use std::process::Abort;
+use zone_file::FileError;
 use zone_store::{
     AskError, CommitError, EditError, InsertError, NodeError, QueryError, UpdateError,
 };
@@ -161,4 +162,21 @@ fn a_list_in_order(rt: HostRuntime) {
     is(&rt, first.1, ContextError::MissingNs);
     drop(first);
     drop(refusals);
+}
+
+#[test]
+fn texts_for_debugging(rt: HostRuntime) {
+    let alloc = rt.alloc();
+    let refused = RecordError::MissingSoa(None);
+    let wanted = "RecordError(The SOA record was not found.)";
+    shows(&rt, alloc, &refused, wanted);
+    drop(refused);
+    let mut list = ZoneErrors::new(alloc);
+    add(&rt, alloc, &mut list, b"\x01b\x00", ContextError::MissingNs);
+    let wanted = "ZoneErrors(Zone file errors: ['b': Missing NS,])";
+    shows(&rt, alloc, &list, wanted);
+    let refused = FileError::Errors(list);
+    let wanted = "FileError(Zone file errors: ['b': Missing NS,])";
+    shows(&rt, alloc, &refused, wanted);
+    drop(refused);
 }

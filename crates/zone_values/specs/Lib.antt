@@ -9,3 +9,4 @@ pub mod TypedEntries
 pub mod SetEdits
 pub mod PutCauses
 pub mod SetLends
+pub mod Texts

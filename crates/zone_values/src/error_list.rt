@@ -8,6 +8,24 @@ use std::alloc::{AllocError, Global};
 use std::fmt;
 use std::marker::Model;
 
+/// One refusal with the name that it is about, as a list prints it.
+#[derive(Drop)]
+struct Refusal<'e, T: Drop> {
+    name: &'e StoredName,
+    error: &'e T,
+}
+
+impl<'e, T: fmt::Display + Drop> fmt::Display for Refusal<'e, T> {
+    ghost use Rattle.zone_values.specs.Texts.{refusal_text};
+
+    ghost output = { λ r. refusal_text T.output (r.name.now, r.error.now) };
+
+    /// The refusal after its name in quotes, with a comma after it.
+    fn fmt<W: fmt::Write>(&self, f: &mut fmt::Formatter<W>) -> fmt::Result {
+        write!(f, "'{}': {},", self.name, self.error)
+    }
+}
+
 /// Refusals in the order in which they were added, each with the name that it is about.
 #[derive(Drop)]
 pub struct ZoneErrors<T: Drop> {
@@ -116,8 +134,19 @@ impl<T: fmt::Display + Drop> fmt::Display for ZoneErrors<T> {
     fn fmt<W: fmt::Write>(&self, f: &mut fmt::Formatter<W>) -> fmt::Result {
         write!(f, "Zone file errors: [")?;
         for entry in &self.errors {
-            write!(f, "'{}': {},", entry.0, entry.1)?;
+            let refusal = Refusal {
+                name: &entry.0,
+                error: &entry.1,
+            };
+            write!(f, "{refusal}")?;
         }
         write!(f, "]")
+    }
+}
+
+impl<T: fmt::Display + Drop> fmt::Debug for ZoneErrors<T> {
+    /// `ZoneErrors(TEXT)`, the text as printed.
+    fn fmt<W: fmt::Write>(&self, f: &mut fmt::Formatter<W>) -> fmt::Result {
+        write!(f, "ZoneErrors({self})")
     }
 }

@@ -1,6 +1,7 @@
 // Why a record, or a zone of records, is refused.
 ghost use Rattle.std.specs.Prelude.{◌≡◌, option_copied};
 ghost use Rattle.zone_values.specs.Owners.{owner_in};
+ghost use Rattle.zone_values.specs.Texts.{soa_text};
 
 use crate::errors::{CnameError, ZoneCutError};
 use dns_name::StoredName;
@@ -96,7 +97,9 @@ impl fmt::Debug for RecordError {
 }
 
 /// What is said of a missing SOA record.
-fn soa_text(found: &Option<StoredRecord>) -> &'static str {
+fn soa_text(found: &Option<StoredRecord>) -> &'static str
+    ensures { result.now ≡ soa_text found.now }
+{
     match found {
         Some(_) => "The SOA record was not found, found this record instead",
         None => "The SOA record was not found.",
