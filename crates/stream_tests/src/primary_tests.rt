@@ -1,10 +1,11 @@
-//! Signed requests for transfers through `run_primary`, each with the whole reply that dnspython signs.
+//! Signed requests for transfers through `run_primary`, each with the whole reply that dnspython signs, and the words and moments of its program.
 
-use crate::common::{at, is, sink, source};
+use crate::common::{at, is, sink, source, words_of};
 use std::alloc::Global;
 use std::process::Abort;
+use tsig_port::Time48;
 use zone_devices::sources::MemorySource;
-use zone_primary_run::run_primary;
+use zone_primary_run::{exit_status, run_primary, run_words};
 
 /// The primary's zone: serial 1, then serial 2 with 192.0.2.2 in place of 192.0.2.1.
 const SCRIPT: &str = "zone 076578616d706c6500 1
@@ -70,4 +71,43 @@ fn signed_requests_are_served(rt: HostRuntime) {
     for row in ROWS.split('\n') {
         row_is_served(&rt, rt.alloc(), row);
     }
+}
+
+/// How the program ends over words, over streams without octets.
+fn ended<R: Abort>(
+    rt: &R,
+    alloc: Global,
+    text: &str,
+    opened: bool,
+    moment: Option<Time48>,
+) -> u8 {
+    let words = words_of(rt, alloc, text);
+    let mut file = script(rt, alloc);
+    let mut src = source(rt, alloc, b"", 0, Vec::new(alloc));
+    let mut out = sink(alloc);
+    let ended = run_words(
+        rt,
+        alloc,
+        words.as_slice(),
+        opened,
+        &mut file,
+        moment,
+        &mut src,
+        &mut out,
+    );
+    drop(out);
+    drop(src);
+    drop(file);
+    drop(words);
+    exit_status(&ended)
+}
+
+/// Words are tested first, then the file, then the moment.
+#[test]
+fn what_lacks_has_a_status(rt: HostRuntime) {
+    let alloc = rt.alloc();
+    is(&rt, ended(&rt, alloc, "script", true, Some(at())), 0);
+    is(&rt, ended(&rt, alloc, "script", false, None), 4);
+    is(&rt, ended(&rt, alloc, "script", true, None), 9);
+    is(&rt, ended(&rt, alloc, "script more", false, None), 2);
 }

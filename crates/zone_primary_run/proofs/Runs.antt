@@ -41,6 +41,9 @@ not_made SendsOf text left taken why.Memory m = inl (refl, refl)
 not_made SendsOf text left taken (why.Stream e) m = absurd m
 not_made SendsOf text left taken why.ScriptFault m = absurd m
 not_made SendsOf text left taken why.ScriptTooLong m = absurd m
+not_made SendsOf text left taken why.Words m = absurd m
+not_made SendsOf text left taken why.NotOpened m = absurd m
+not_made SendsOf text left taken why.Clock m = absurd m
 
 -- that the sink failed is told of no other cause
 pub sink_told : (e : ServeError) (r : Result Served PrimaryError) → r ≡ Err (of_serve e) → r ≡ Err (why.Stream stream.SinkFault) → e ≡ stream.SinkFault
@@ -64,6 +67,9 @@ is_read SendsOf script text s (Err (why.Line n)) told fits r = reads_script (λ 
 is_read SendsOf script text s (Err why.Memory) told fits r = inr (reads_script (λ t. RunsText SendsOf t s (Err why.Memory)) script text told fits r)
 is_read SendsOf script text s (Err why.ScriptFault) told fits r = absurd r
 is_read SendsOf script text s (Err why.ScriptTooLong) told fits r = absurd r
+is_read SendsOf script text s (Err why.Words) told fits r = absurd r
+is_read SendsOf script text s (Err why.NotOpened) told fits r = absurd r
+is_read SendsOf script text s (Err why.Clock) told fits r = absurd r
 
 -- the script is read, and its text is served
 pub is_read_as : (SendsOf : PrimaryParts → List ℕ → Option (List Sending) → Type 0) (script : Option (List ℕ)) (items text : List ℕ) (s : Stream) (answer : Result Served PrimaryError)

@@ -1,5 +1,5 @@
 -- A primary's run: the script that is read, and the stream that is served.
-use Rattle.std.specs.Prelude.{◌≡◌, ◌≢◌, ◌⊎◌, ℕ, ◌<◌, ◌≤◌, List, length, Option, Some, IfSome, Result, Ok, Err}
+use Rattle.std.specs.Prelude.{◌≡◌, ◌≢◌, ◌⊎◌, ℕ, ◌<◌, ◌≤◌, Bool, true, false, List, [], ◌∷◌, length, Option, Some, None, IfSome, Result, Ok, Err}
 use Rattle.tsig_port.specs.Tsig.{TsigKey}
 use Rattle.xfr_services.specs.Items.{Sending}
 use Rattle.zone_script.specs.Script.{Script, script_of}
@@ -42,6 +42,9 @@ MakesPrimary text (Err why.Memory) = Unit {0}
 MakesPrimary text (Err (why.Stream e)) = ⊥
 MakesPrimary text (Err why.ScriptFault) = ⊥
 MakesPrimary text (Err why.ScriptTooLong) = ⊥
+MakesPrimary text (Err why.Words) = ⊥
+MakesPrimary text (Err why.NotOpened) = ⊥
+MakesPrimary text (Err why.Clock) = ⊥
 
 -- the text's primary served the stream, which ended so
 pub record ServesScript (SendsOf : PrimaryParts → List ℕ → Option (List Sending) → Type 0) (text : List ℕ) (s : Stream) (answer : Result Served ServeError) : Type 0 where
@@ -57,6 +60,9 @@ RunsText SendsOf text s (Err (why.Line n)) = (script_of wire_readers text ≡ Er
 RunsText SendsOf text s (Err why.Memory) = IsUnserved s ⊎ ServesScript SendsOf text s (Err stream.Memory)
 RunsText SendsOf text s (Err why.ScriptFault) = ⊥
 RunsText SendsOf text s (Err why.ScriptTooLong) = ⊥
+RunsText SendsOf text s (Err why.Words) = ⊥
+RunsText SendsOf text s (Err why.NotOpened) = ⊥
+RunsText SendsOf text s (Err why.Clock) = ⊥
 
 -- the source of a script, where it tells its octets, had this text, which isn't too long
 pub record ReadsScript (Runs : List ℕ → Type 0) (script : Option (List ℕ)) : Type 0 where
@@ -75,3 +81,33 @@ RunsPrimary SendsOf script s answer = ReadsScript (λ text. RunsText SendsOf tex
 -- a script that is too long is refused as that, unless a fault or want of memory hides it
 abbrev pub IsRefusedAsLong : Result Served PrimaryError → Type 0
 IsRefusedAsLong answer = (answer ≡ Err why.ScriptTooLong) ⊎ ((answer ≡ Err why.ScriptFault) ⊎ (answer ≡ Err why.Memory))
+
+-- ---- a run of the program
+
+-- the words are one, the name of the script's file
+abbrev pub file_of : List (List ℕ) → Option (List ℕ)
+file_of [] = None
+file_of (file ∷ []) = Some file
+file_of (file ∷ word ∷ more) = None
+
+-- it ends with this before the script is read
+pub record StopsWith (e : PrimaryError) (left_old left_new : Option (List ℕ)) (s : Stream) (answer : Result Served PrimaryError) : Type 0 where
+  pub told : answer ≡ Err e
+  pub unread : left_new ≡ left_old
+  pub unserved : IsUnserved s
+
+-- by the moment, if it is known
+abbrev pub RunsAt : (ℕ → PrimaryParts → List ℕ → Option (List Sending) → Type 0) → Option ℕ → Option (List ℕ) → Option (List ℕ) → Stream → Result Served PrimaryError → Type 0
+RunsAt SendsAt None old new s answer = StopsWith why.Clock old new s answer
+RunsAt SendsAt (Some at) old new s answer =
+    RunsPrimary (SendsAt at) old s answer × ((text : List ℕ) → old ≡ Some text → 16777216 < length text → IsRefusedAsLong answer)
+
+-- .. whether the file was opened
+abbrev pub RunsOpened : (ℕ → PrimaryParts → List ℕ → Option (List Sending) → Type 0) → Bool → Option ℕ → Option (List ℕ) → Option (List ℕ) → Stream → Result Served PrimaryError → Type 0
+RunsOpened SendsAt false at old new s answer = StopsWith why.NotOpened old new s answer
+RunsOpened SendsAt true at old new s answer = RunsAt SendsAt at old new s answer
+
+-- .. and the one word that names it
+abbrev pub RunsWords : (ℕ → PrimaryParts → List ℕ → Option (List Sending) → Type 0) → Option (List ℕ) → Bool → Option ℕ → Option (List ℕ) → Option (List ℕ) → Stream → Result Served PrimaryError → Type 0
+RunsWords SendsAt None opened at old new s answer = StopsWith why.Words old new s answer
+RunsWords SendsAt (Some file) opened at old new s answer = RunsOpened SendsAt opened at old new s answer

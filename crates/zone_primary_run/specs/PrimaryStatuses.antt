@@ -40,7 +40,10 @@ stream_status stream.TooMany = 1
 abbrev pub exit_status : Result Served PrimaryError → ℕ
 exit_status (Ok s) = 0
 exit_status (Err (why.Stream e)) = stream_status e
+exit_status (Err why.Words) = 2
 exit_status (Err (why.Line n)) = 3
+exit_status (Err why.NotOpened) = 4
 exit_status (Err why.ScriptFault) = 4
 exit_status (Err why.Memory) = 6
 exit_status (Err why.ScriptTooLong) = 8
+exit_status (Err why.Clock) = 9

@@ -11,6 +11,15 @@ use zone_serving::{ServeError, Served};
 /// Why a primary's run didn't end well.
 #[derive(Clone, Copy, Debug, PartialEq, Eq, Error)]
 pub enum PrimaryError {
+    /// The words aren't one, the name of the script's file. Nothing was read or served, as with the next two.
+    #[error("usage: zone_peer primary SCRIPT")]
+    Words,
+    /// The script's file can't be opened.
+    #[error("the script can't be opened")]
+    NotOpened,
+    /// The moment isn't known.
+    #[error("the clock can't be read")]
+    Clock,
     /// The script's source failed, and its count of faults rose. Nothing was served.
     #[error("reading the script failed")]
     ScriptFault,
@@ -88,18 +97,20 @@ impl From<ServeError> for PrimaryError {
 }
 
 /// The exit status of a run: 0 where the stream was served to its end, 1 where it is cut, has a request that is too short or can't be answered, or too
-/// many; 3 for a line of the script, 4 and 8 where the script can't be read or is too long, 5 and 7 where the sink or the source failed, 6 where
-/// memory ran out.
+/// many; 2 for words that aren't one, 3 for a line of the script, 4 and 8 where the script can't be opened or read or is too long, 5 and 7 where the sink
+/// or the source failed, 6 where memory ran out, 9 where the moment isn't known.
 pub fn exit_status(ended: &Result<Served, PrimaryError>) -> u8
     ensures { result ≡ exit_status ended.now }
 {
     match ended {
         Ok(_) => 0,
         Err(PrimaryError::Stream(error)) => stream_status(*error),
+        Err(PrimaryError::Words) => 2,
         Err(PrimaryError::Line(_)) => 3,
-        Err(PrimaryError::ScriptFault) => 4,
+        Err(PrimaryError::NotOpened | PrimaryError::ScriptFault) => 4,
         Err(PrimaryError::Memory) => 6,
         Err(PrimaryError::ScriptTooLong) => 8,
+        Err(PrimaryError::Clock) => 9,
     }
 }
 

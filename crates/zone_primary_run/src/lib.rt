@@ -5,10 +5,12 @@
 
 pub mod errors;
 pub mod making;
+pub mod program;
 pub mod running;
 
 pub use errors::{PrimaryError, exit_status};
 pub use making::{Primary, primary_of};
+pub use program::{file_of, run_words};
 pub use running::run_primary;
 pub use tsig_port::Time48;
 pub use zone_devices::sinks::StdSink;
