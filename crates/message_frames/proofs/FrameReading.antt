@@ -1,5 +1,5 @@
 -- Octets that are read of a source in parts.
-use Rattle.std.proofs.Common.{◌≡◌, ℕ, ◌+◌, ◌-◌, ◌≤◌, List, [], ◌∷◌, ◌++◌, length, take, refl, sym, ap, ◌∙◌, subst, arith, append_assoc, Some, None, Option, slice_range, drop_at, take_all, length-take-le, le_refl, length-append}
+use Rattle.std.proofs.Common.{◌≡◌, ℕ, ◌+◌, ◌-◌, ◌≤◌, List, [], ◌∷◌, ◌++◌, length, take, refl, sym, ap, ◌∙◌, subst, arith, append_assoc, Some, None, Option, IfSome, slice_range, drop_at, take_all, length-take-le, le_refl, length-append}
 use Rattle.std.specs.Int.{w16, from_be_bytes}
 use Rattle.std.proofs.lemmas.List.{length-take}
 use Rattle.std.proofs.lemmas.Slice.{take-put_mid_below}
@@ -40,6 +40,16 @@ pub taken_both : (before mid after : Option (List ℕ)) (head : List ℕ) (n cou
 taken_both before mid after head n count two few e t =
     let l = length-take n head in
     (take n head ++ t.0, omega (arith, l, two, few, t.1, length-append (take n head) t.0), read_more before mid after (take n head) t.0 e t.2)
+
+-- a source of which two octets were read had them
+pub had_two : (before after : Option (List ℕ)) (head : List ℕ) (n : ℕ) → length head ≡ 2 → 2 ≤ n → n ≤ 2 → with_first (take n head) after ≡ before → IfSome before (λ left. 2 ≤ length left)
+had_two before after head n two enough within e = subst (λ (x : Option (List ℕ)). IfSome x (λ left. 2 ≤ length left)) e (by after)
+  where
+    by : (after : Option (List ℕ)) → IfSome (with_first (take n head) after) (λ left. 2 ≤ length left)
+    by None = tt
+    by (Some rest) =
+        let l = length-take-le n head (omega (arith, two, within)) in
+        omega (arith, length-append (take n head) rest, l, enough)
 
 -- ---- nothing behind the first frame
 

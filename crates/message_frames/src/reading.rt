@@ -104,6 +104,8 @@ pub fn read_frame<S: Source>(alloc: Global, src: &mut S) -> Result<Option<Vec<u8
     ensures within { TakesWithinFrame (S.remaining src.old) (S.remaining src.new) }
     ensures failed { result ≡ Err FrameError.Fault → Rose (S.faults src.old) (S.faults src.new) }
     ensures steady { result ≢ Err FrameError.Fault → S.faults src.new ≡ S.faults src.old }
+    // Want of memory hides neither the end nor one within a length; a message's octets may be cut off, or fail, behind it.
+    ensures memory { result ≡ Err FrameError.Memory → IfSome (S.remaining src.old) (λ left. 2 ≤ length left) }
 {
     let mut head = [0u8; 2];
     let read = fill(src, &mut head)?;

@@ -1,5 +1,5 @@
 use Rattle.std.proofs.Common.{rules}
-use Rattle.message_frames.proofs.FrameReading.{taken_both, within_length, within_frame}
+use Rattle.message_frames.proofs.FrameReading.{taken_both, had_two, within_length, within_frame}
 use Rattle.message_frames.proofs.reading.read_frame.Goals as goal
 
 pub returns-in_err-message-clause-most : goal.returns-in_err-message-clause-most
@@ -30,3 +30,7 @@ pub returns-clause-within : goal.returns-clause-within
 returns-clause-within g c =
     within_frame (g.S.Source.remaining c.args.src.now) (g.S.Source.remaining c.fill.new.src) (g.S.Source.remaining c.read_octets.new.src) c.fill.new.buf c.in_ok-read.read
     c.length_in-count.result (search rules) (search rules) (search rules) c.in_ok-read.ensures.octets c.read_octets.ensures.most
+
+pub returns-in_err-message-clause-memory : goal.returns-in_err-message-clause-memory
+returns-in_err-message-clause-memory g c = λ h.
+    had_two (g.S.Source.remaining c.args.src.now) (g.S.Source.remaining c.fill.new.src) c.fill.new.buf c.in_ok-read.read (search rules) (search rules) (search rules) c.in_ok-read.ensures.octets
