@@ -6,7 +6,7 @@ use dns_name::OwnedLabel;
 use dns_numbers::{Rcode, Rtype};
 use std::alloc::Global;
 use std::process::Abort;
-use zone_store::{AskError, NodeEdit, ReadZone, Step, WriteZone, ZoneEdit, ask, make_steps};
+use zone_store::{HandleError, NodeEdit, ReadZone, Step, WriteZone, ZoneEdit, ask, make_steps};
 
 fn then<R: Abort>(rt: &R, steps: &mut Vec<Step>, step: Step) {
     steps.push(step).ok().expect(rt, "memory");
@@ -41,7 +41,7 @@ fn answers<R: Abort>(
     handles: &[ReadZone],
     handle: usize,
     qname: &[u8],
-    wanted: Result<Rcode, AskError>,
+    wanted: Result<Rcode, HandleError>,
 ) {
     let qname = name(rt, alloc, qname);
     let told = match ask(handles, handle, &qname, Rtype::A) {
@@ -78,9 +78,9 @@ fn handles_answer_from_their_positions(rt: HostRuntime) {
     answers(&rt, alloc, handles.as_slice(), 0, b, Ok(absent));
     answers(&rt, alloc, handles.as_slice(), 3, b, Ok(Rcode::NOERROR));
     answers(&rt, alloc, handles.as_slice(), 4, b, Ok(absent));
-    let lacking = Err(AskError::NoHandle);
+    let lacking = Err(HandleError::NoHandle);
     answers(&rt, alloc, handles.as_slice(), 5, b, lacking);
-    let outside = Err(AskError::OutOfZone);
+    let outside = Err(HandleError::OutOfZone);
     answers(&rt, alloc, handles.as_slice(), 0, b"\x01d\0", outside);
     let mut steps = Vec::new(alloc);
     write(&rt, alloc, &mut steps, b"\x01e\x01c\0", Step::EndSession);

@@ -7,7 +7,7 @@ use std::alloc::Global;
 use std::process::Abort;
 use zone_file::FileError;
 use zone_store::{
-    AskError, CommitError, EditError, InsertError, NodeError, QueryError, UpdateError,
+    HandleError, CommitError, EditError, InsertError, NodeError, QueryError, UpdateError,
 };
 use zone_types::{
     CnameError, ContextError, OutOfZone, RecordError, WriteApexError, ZoneCutError, ZoneDiffError,
@@ -37,8 +37,8 @@ fn texts_of_refused_edits(rt: HostRuntime) {
     says(&rt, alloc, &NodeError::Memory, memory);
     says(&rt, alloc, &QueryError::OutOfZone, "Out of zone");
     says(&rt, alloc, &QueryError::Memory, memory);
-    says(&rt, alloc, &AskError::NoHandle, "no handle");
-    says(&rt, alloc, &AskError::OutOfZone, "Out of zone");
+    says(&rt, alloc, &HandleError::NoHandle, "no handle");
+    says(&rt, alloc, &HandleError::OutOfZone, "Out of zone");
 }
 
 #[test]

@@ -4,7 +4,7 @@
 mod batcher;
 mod callback_batcher;
 mod callbacks;
-mod laws;
+pub mod laws;
 mod pushing;
 mod ready;
 mod xfr;

@@ -8,8 +8,8 @@ use dns_rdata::ReadRecord;
 use std::fmt;
 use thiserror::Error;
 
-/// One update of a zone, with records of any kind.
-#[derive(Debug, Drop)]
+/// One update of a zone, with records of any kind. Two are equal where kind and record are.
+#[derive(Debug, PartialEq, Eq, Drop)]
 pub enum ZoneUpdate<R> {
     /// The zone's records all go; a whole zone follows.
     DeleteAllRecords,

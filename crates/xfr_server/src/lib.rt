@@ -4,12 +4,11 @@
 #![tactic(auto)]
 
 mod examples;
-mod laws;
+pub mod laws;
 mod replies;
 pub mod transfer;
 mod transfer_message;
 
-pub use laws::{granted_transfers_are_sent, primaries_fail_where_long};
 pub use transfer::{XfrMiddlewareStream, XfrMiddlewareSvc};
 pub use xfr_batch::{
     BatchReadyError, CallbackBatcher, Callbacks, PushResult, ReadyMessages, ResourceRecordBatcher,

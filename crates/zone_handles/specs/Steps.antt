@@ -9,8 +9,8 @@ use Rattle.zone_model.specs.Commits.{Commit, CommitList, Zone, latest, Event, Op
 use Rattle.zone_lookup.specs.Answers.{AnsweredBy, answered_by}
 use Rattle.zone_values.specs.declared.edit_errors.CommitError.{CommitError}
 use Rattle.zone_values.specs.declared.edit_errors.CommitError.TheVariants.{VersionsExhausted as NoNumber, Memory as NoMemory}
-use Rattle.zone_handles.specs.declared.errors.AskError.{AskError}
-use Rattle.zone_handles.specs.declared.errors.AskError.TheVariants.{OutOfZone, NoHandle}
+use Rattle.zone_handles.specs.declared.errors.HandleError.{HandleError}
+use Rattle.zone_handles.specs.declared.errors.HandleError.TheVariants.{OutOfZone, NoHandle}
 use Rattle.zone_handles.specs.declared.steps.Step.{Step}
 use Rattle.zone_handles.specs.declared.steps.Step.TheVariants.{Edit as EditStep, Open as OpenStep, Commit as CommitStep, Rollback, EndSession, Read as ReadStep, Copy}
 use Rattle.zone_handles.specs.ZoneEdits.{edited, can_change}
@@ -100,7 +100,7 @@ wish_after_all [] wish = wish
 wish_after_all (s ∷ more) wish = wish_after_all more (wish_after s wish)
 
 -- what a version answers to a question
-abbrev pub Answers : Version → Name → ℕ → Result AnsweredBy AskError → Type 0
+abbrev pub Answers : Version → Name → ℕ → Result AnsweredBy HandleError → Type 0
 Answers v name rtype (Ok a) = (in_zone v name ≡ true) × (a ≡ answered_by v (answer v name rtype))
 Answers v name rtype (Err OutOfZone) = in_zone v name ≡ false
 Answers v name rtype (Err NoHandle) = ⊥

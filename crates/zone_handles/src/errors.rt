@@ -14,7 +14,7 @@ pub enum QueryError {
 
 /// Why a handle isn't asked or has no answer.
 #[derive(Clone, Copy, Debug, PartialEq, Eq, Drop, Error)]
-pub enum AskError {
+pub enum HandleError {
     /// There is no handle at that place.
     #[error("no handle")]
     NoHandle,

@@ -14,7 +14,7 @@ mod walking;
 mod zone_edits;
 mod zones;
 
-pub use errors::{AskError, QueryError};
+pub use errors::{HandleError, QueryError};
 pub use steps::{Step, ask, begin_again, make_step, make_steps};
 pub use stores::ReadableZone;
 pub use walking::walk;

@@ -6,7 +6,7 @@ ghost use Rattle.zone_model.specs.Commits.{CommitList, Zone, Event, after_all, v
 ghost use Rattle.zone_handles.specs.Steps.{HandlesStand, Leads, Stays, Refuses, Exhausts, Answers, events_of, events_of_all, wish_after, wish_after_all, new_session};
 ghost use Rattle.zone_handles.specs.declared.steps.Step.{Step};
 
-use crate::errors::AskError;
+use crate::errors::HandleError;
 use crate::zone_edits::{ZoneEdit, make_edit};
 use dns_name::ToName;
 use dns_numbers::Rtype;
@@ -114,16 +114,16 @@ pub fn ask<'v, N: ToName>(
     handle: usize,
     qname: &N,
     qtype: Rtype,
-) -> Result<AnswerRef<'v>, AskError>
+) -> Result<AnswerRef<'v>, HandleError>
     ensures answered { (z : Zone) (since : List Event) (v : Version) → HandlesStand handles.now (after_all since z) → version_of z handle ≡ Some v → Answers v (N.labels qname.now) qtype result }
-    ensures lacking { (result ≡ Err AskError.NoHandle) ↔ (length handles.now ≤ handle) }
+    ensures lacking { (result ≡ Err HandleError.NoHandle) ↔ (length handles.now ≤ handle) }
 {
     match handles.get(handle) {
         Some(zone) => match look_up(zone, qname, qtype) {
             Ok(found) => Ok(found),
-            Err(_) => Err(AskError::OutOfZone),
+            Err(_) => Err(HandleError::OutOfZone),
         },
-        None => Err(AskError::NoHandle),
+        None => Err(HandleError::NoHandle),
     }
 }
 

@@ -10,7 +10,7 @@ mod answering;
 pub mod errors;
 pub mod laws;
 pub mod one_version;
-mod query_laws;
+pub mod query_laws;
 pub mod serving;
 
 pub use answering::ZoneQueries;

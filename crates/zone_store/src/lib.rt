@@ -39,7 +39,7 @@
 #![tactic(auto)]
 
 pub use zone_handles::{
-    AskError, NodeEdit, QueryError, ReadableZone, Step, Zone, ZoneEdit, ZoneStore, ask,
+    HandleError, NodeEdit, QueryError, ReadableZone, Step, Zone, ZoneEdit, ZoneStore, ask,
     begin_again, make_step, make_steps, walk,
 };
 pub use zone_lookup::look_up;

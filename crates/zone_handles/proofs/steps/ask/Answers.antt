@@ -1,5 +1,5 @@
 use Rattle.std.proofs.Common.{Ok, Err, subst}
-use Rattle.zone_handles.specs.declared.errors.AskError.TheVariants.{OutOfZone}
+use Rattle.zone_handles.specs.declared.errors.HandleError.TheVariants.{OutOfZone}
 use Rattle.zone_handles.specs.Steps.{Answers}
 use Rattle.zone_handles.proofs.Moves.{got, lacks, same_since, none_since}
 use Rattle.zone_handles.proofs.steps.ask.Goals as goal
