@@ -52,7 +52,12 @@ p 056f74686572000006000100000e10001600000000000100000000000000000000000000000000
 ";
 
 /// The replies of a script's primary to the requests of a stream.
-fn served<R: Abort>(rt: &R, alloc: Global, script: &str, requests: &[u8]) -> Vec<u8> {
+pub(crate) fn served<R: Abort>(
+    rt: &R,
+    alloc: Global,
+    script: &str,
+    requests: &[u8],
+) -> Vec<u8> {
     let mut file = source(rt, alloc, script.as_bytes(), script.len(), Vec::new(alloc));
     let mut src = source(rt, alloc, requests, requests.len(), Vec::new(alloc));
     let mut out = sink(alloc);

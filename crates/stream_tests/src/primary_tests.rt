@@ -1,11 +1,11 @@
 //! Signed requests for transfers through `run_primary`, each with the whole reply that dnspython signs, and the words and moments of its program.
 
 use crate::common::{at, is, sink, source, words_of};
+use crate::halves_tests::served;
 use std::alloc::Global;
 use std::process::Abort;
 use tsig_port::Time48;
-use zone_devices::sources::MemorySource;
-use zone_primary_run::{exit_status, run_primary, run_words};
+use zone_primary_run::{exit_status, run_words};
 
 /// The primary's zone: serial 1, then serial 2 with 192.0.2.2 in place of 192.0.2.1.
 const SCRIPT: &str = "zone 076578616d706c6500 1
@@ -35,31 +35,12 @@ fn octets_of<R: Abort>(rt: &R, alloc: Global, digits: &str) -> Vec<u8> {
     hex::decode(alloc, digits.as_bytes()).expect(rt, "memory, or hexadecimal digits")
 }
 
-/// A source of the script.
-fn script<R: Abort>(rt: &R, alloc: Global) -> MemorySource {
-    source(rt, alloc, SCRIPT.as_bytes(), SCRIPT.len(), Vec::new(alloc))
-}
-
-/// What the script's primary gives in answer to the requests of a stream.
-fn served<R: Abort>(rt: &R, alloc: Global, requests: &[u8]) -> Vec<u8> {
-    let mut file = script(rt, alloc);
-    let mut src = source(rt, alloc, requests, requests.len(), Vec::new(alloc));
-    let mut out = sink(alloc);
-    let ended = run_primary(rt, alloc, &mut file, at(), &mut src, &mut out);
-    is(rt, ended.is_ok(), true);
-    let replies = out.as_slice().to_vec(alloc).expect(rt, "memory");
-    drop(out);
-    drop(src);
-    drop(file);
-    replies
-}
-
 /// Asserts the reply of a line of `ROWS`.
 fn row_is_served<R: Abort>(rt: &R, alloc: Global, row: &str) {
     let (request, reply) = row.split_once(' ').expect(rt, "two words");
     let request = octets_of(rt, alloc, request);
     let reply = octets_of(rt, alloc, reply);
-    let found = served(rt, alloc, request.as_slice());
+    let found = served(rt, alloc, SCRIPT, request.as_slice());
     is(rt, found.as_slice(), reply.as_slice());
     drop(found);
     drop(reply);
@@ -82,7 +63,7 @@ fn ended<R: Abort>(
     moment: Option<Time48>,
 ) -> u8 {
     let words = words_of(rt, alloc, text);
-    let mut file = script(rt, alloc);
+    let mut file = source(rt, alloc, SCRIPT.as_bytes(), SCRIPT.len(), Vec::new(alloc));
     let mut src = source(rt, alloc, b"", 0, Vec::new(alloc));
     let mut out = sink(alloc);
     let ended = run_words(

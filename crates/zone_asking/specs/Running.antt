@@ -112,7 +112,8 @@ pub record TellsScript (text : List ℕ) (status : Status) : Type 0 where
   pub too_long : 16777216 < length text → (status ≡ ends.TooLong) ⊎ IsTrue (is_fault status)
   -- the first bad line of others is told, up to faults, and only that
   pub bad_line : (n : ℕ) → length text ≤ 16777216 → script_of wire_readers text ≡ Err n → (status ≡ ends.Script) ⊎ IsTrue (is_fault status)
-  pub good : (script : scripts.Script TsigKey) → length text ≤ 16777216 → script_of wire_readers text ≡ Ok script → (status ≢ ends.Script) × (status ≢ ends.TooLong)
+  pub good : (script : scripts.Script TsigKey) → length text ≤ 16777216 → script_of wire_readers text ≡ Ok script
+    → (status ≢ ends.Script) × (status ≢ ends.TooLong)
 
 -- ---- a run
 

@@ -1,5 +1,5 @@
 //! Lines that tell how much a version has, and whether it is the same as another.
-ghost use Rattle.std.specs.Prelude.{◌≡◌, ◌+◌, ◌++◌, flat_map, length, IfOk, OnOk};
+ghost use Rattle.std.specs.Prelude.{◌≡◌, ◌≤◌, ◌+◌, ◌^◌, ◌++◌, flat_map, length, IfOk, OnErr, OnOk};
 ghost use Rattle.zone_model.specs.Walk.{walk, records_of_version};
 ghost use Rattle.zone_report.specs.Lines.{count_lines, items_told, same_line};
 
@@ -50,9 +50,10 @@ fn with_records(count: u64, found: &TreeSet<'_>) -> Result<u64, AllocError>
     sum(count, found.set().data().len() as u64)
 }
 
-/// A sum of two counts.
+/// A sum of two counts, unless it passes 2^64 - 1.
 fn sum(count: u64, more: u64) -> Result<u64, AllocError>
-    ensures { IfOk result (λ n. n ≡ count + more) }
+    ensures sum { IfOk result (λ n. n ≡ count + more) }
+    ensures full { OnErr result (2 ^ 64 ≤ count + more) }
 {
     match count.checked_add(more) {
         Some(sum) => Ok(sum),

@@ -1,5 +1,5 @@
 -- Which status of a run comes when, and what it tells (docs/SCRIPT.md).
-use Rattle.std.specs.Prelude.{◌≡◌, ◌≢◌, ◌⊎◌, ◌<◌, ◌≤◌, ℕ, List, length, Option, Some, option_and_then, Ok, Err, IsTrue}
+use Rattle.std.specs.Prelude.{◌≡◌, ◌≢◌, ◌⊎◌, ◌<◌, ◌≤◌, ℕ, List, length, map, Option, Some, option_and_then, option_map, Ok, Err, IsTrue}
 use Rattle.tsig_port.specs.Tsig.{TsigKey}
 use Rattle.zone_model.specs.TransferText.{Mode}
 use Rattle.zone_devices.specs.Calls.{Rose}
@@ -16,6 +16,10 @@ use Rattle.zone_report.specs.declared.status.Status.TheVariants as ends
 -- the form of words that were read; others have none
 abbrev pub form_read : Option (List (List ℕ)) → Option Form
 form_read words = option_and_then form_of words
+
+-- the same of words of another type, by the octets of each
+abbrev pub read_by : {A : Type 0} → (A → List ℕ) → Option (List A) → Option Form
+read_by octets words = form_read (option_map (map octets) words)
 
 -- words that don't ask for a script's transfer without reader threads
 abbrev pub AsksNoScript : Option Form → Type 0

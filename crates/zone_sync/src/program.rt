@@ -19,7 +19,7 @@ ghost use Rattle.zone_script.specs.Script.{script_of};
 ghost use Rattle.tsig_port.specs.Tsig.{TsigKey};
 ghost use Rattle.zone_script.specs.ScriptReaders.{wire_readers};
 ghost use Rattle.zone_script.specs.Words.{form_of, Transfer, Generate};
-ghost use Rattle.zone_sync.specs.Statuses.{form_read};
+ghost use Rattle.zone_sync.specs.Statuses.{read_by};
 ghost use Rattle.xfr_client.specs.SoFar.{asks_with};
 ghost use Rattle.xfr_outcomes.specs.Modes.{mode_of};
 
@@ -126,30 +126,30 @@ pub fn run_words<R, S: Source, K: Sink, L: Link>(
     // other line; and where memory ran out nothing or that transfer.
     ensures wrote { Wrote
         (IsDueOf (λ p key at m. ⟦<Primary as Service<()>>⟧.Sends ((refuser, p), key) (request_at m at))
-        (form_read (option_map (map string_bytes) (option_copied words.entry))) (S.remaining src.old) (crossed (L.longest link.old) (L.lists link.old) (L.lists link.new)
+        (read_by string_bytes (option_copied words.entry)) (S.remaining src.old) (crossed (L.longest link.old) (L.lists link.old) (L.lists link.new)
         (L.faults link.old) (L.faults link.new)))
         (K.taken out.old) (K.taken out.new) result }
     // Other words are answered by status 2 alone, or by 5, and only for a script is anything read.
-    ensures by_words { TellsWords (form_read (option_map (map string_bytes) (option_copied words.entry))) result }
-    ensures unread { AsksNoScript (form_read (option_map (map string_bytes) (option_copied words.entry))) → src.new ≡ src.old }
+    ensures by_words { TellsWords (read_by string_bytes (option_copied words.entry)) result }
+    ensures unread { AsksNoScript (read_by string_bytes (option_copied words.entry)) → src.new ≡ src.old }
     // The statuses of faults come where a count of faults rose; only want of memory and a later fault hide one.
     ensures source_faults { TellsSource (S.faults src.old) (S.faults src.new) result }
     ensures sink_faults { TellsSink (K.faults out.old) (K.faults out.new) result }
     ensures link_faults { TellsLink (L.faults link.old) (L.faults link.new) result }
     // A script is too long only where it has more octets, and what one says decides the status.
     ensures long { result ≡ Status.TooLong → IfSome (S.remaining src.old) (λ xs. MOST_OCTETS < length xs) }
-    ensures by_script { (mode : Mode) (text : List ℕ) → form_read (option_map (map string_bytes) (option_copied words.entry)) ≡ Some (Transfer mode 0)
+    ensures by_script { (mode : Mode) (text : List ℕ) → read_by string_bytes (option_copied words.entry) ≡ Some (Transfer mode 0)
         → S.remaining src.old ≡ Some text
         → TellsScript mode text (S.faults src.old) (S.faults src.new) (K.faults out.old) (K.faults out.new)
         (crossed (L.longest link.old) (L.lists link.old) (L.lists link.new)
         (L.faults link.old) (L.faults link.new)) result }
     // A zone that numbers make is transferred well over any honest link that takes its request.
-    ensures by_numbers { (size seed : ℕ) → form_read (option_map (map string_bytes) (option_copied words.entry)) ≡ Some (Generate size seed)
+    ensures by_numbers { (size seed : ℕ) → read_by string_bytes (option_copied words.entry) ≡ Some (Generate size seed)
         → TellsNumbers (K.faults out.old) (K.faults out.new)
         (crossed (L.longest link.old) (L.lists link.old) (L.lists link.new)
         (L.faults link.old) (L.faults link.new)) result }
     // With a script's report or the number of a line, the source was read to its end.
-    ensures none_left { (mode : Mode) → form_read (option_map (map string_bytes) (option_copied words.entry)) ≡ Some (Transfer mode 0)
+    ensures none_left { (mode : Mode) → read_by string_bytes (option_copied words.entry) ≡ Some (Transfer mode 0)
         → IsTrue (is_read result) → S.remaining src.new ≡ emptied (S.remaining src.old) }
 {
     match words {
