@@ -7,12 +7,12 @@ use Rattle.dns_wire.specs.Parse.{questions_in}
 use Rattle.dns_wire.proofs.Questions.{few_questions, answer_refused, answer_built, answer_room, asked_fit, none_asked}
 use Rattle.dns_wire.proofs.builder.MessageBuilder.start_answer.Goals as goal
 
-pub returns-then-not : goal.returns-then-not
-returns-then-not c =
+pub returns-then-not-has_room : goal.returns-then-not-has_room
+returns-then-not-has_room c =
     let header = c.answer.ensures ∙ ap (λ (h : Header). answer_header h c.args.rcode) c.header.ensures in
     let begun = rw header at c.restarted-message.ensures in
     let len = c.questions_len.ensures.len ∙ ap (λ s. length (flat_map question_wire (filter_map (λ q. q) s.left))) c.question.ensures.value in
-    sym (answer_room c.args.request.now c.args.rcode c.args.self.limit _ c.restarted-message.result begun len) ∙ sym c.has_room.ensures ∙ c.if-not.true
+    sym (answer_room c.args.request.now c.args.rcode c.args.self.limit _ c.restarted-message.result begun len) ∙ sym c.has_room.ensures ∙ c.if-not-has_room.true
 
 pub push_questions-requires-clause-room : goal.push_questions-requires-clause-room
 push_questions-requires-clause-room c =
@@ -21,7 +21,7 @@ push_questions-requires-clause-room c =
     let len = c.questions_len.ensures.len ∙ ap (λ s. length (flat_map question_wire (filter_map (λ q. q) s.left))) c.question.ensures.value in
     let few : length (filter_map (λ q. q) c.question-2.result.left) < 2 ^ 16 = omega (arith, few_questions c.question-2.result.left, c.question-2.ensures.few) in
     let asked : filter_map (λ q. q) c.question-2.result.left ≡ questions_in c.args.request.now = ap (λ s. filter_map (λ q. q) s.left) c.question-2.ensures.value in
-    let room = sym (answer_room c.args.request.now c.args.rcode c.args.self.limit _ c.restarted-message.result begun len) ∙ sym c.has_room.ensures ∙ c.if-not.false in
+    let room = sym (answer_room c.args.request.now c.args.rcode c.args.self.limit _ c.restarted-message.result begun len) ∙ sym c.has_room.ensures ∙ c.if-not-has_room.false in
     asked_fit c.args.request.now c.args.rcode c.args.self.limit c.restarted-message.result (filter_map (λ q. q) c.question-2.result.left) begun asked few room
 
 pub push_questions-requires-clause-few : goal.push_questions-requires-clause-few

@@ -10,8 +10,8 @@ use Rattle.dns_wire.specs.Builds.{building}
 use Rattle.dns_wire.proofs.ErrorAnswers.{error_built, error_fits, error_refused}
 use Rattle.dns_wire.proofs.builder.MessageBuilder.start_error.Goals as goal
 
-pub push_fitting-all-requires-clause-few : goal.push_fitting-all-requires-clause-few
-push_fitting-all-requires-clause-few c =
+pub push_fitting-requires-clause-few : goal.push_fitting-requires-clause-few
+push_fitting-requires-clause-few c =
     omega (arith, none_asked _ _ _ c.restarted-message.ensures, few_questions c.question.result.left, c.question.ensures.few)
 
 pub returns-in_err-all : goal.returns-in_err-all
