@@ -26,6 +26,30 @@ impl<'e, T: fmt::Display + Drop> fmt::Display for Refusal<'e, T> {
     }
 }
 
+/// The refusals of a list as it prints them, one after another.
+#[derive(Drop)]
+struct Refusals<'e, T: Drop> {
+    errors: &'e [(StoredName, T)],
+}
+
+impl<'e, T: fmt::Display + Drop> fmt::Display for Refusals<'e, T> {
+    ghost use Rattle.zone_values.specs.Texts.{refusals_text};
+
+    ghost output = { λ r. refusals_text T.output r.errors.now };
+
+    /// Each refusal, with nothing between them.
+    fn fmt<W: fmt::Write>(&self, f: &mut fmt::Formatter<W>) -> fmt::Result {
+        for entry in self.errors {
+            let refusal = Refusal {
+                name: &entry.0,
+                error: &entry.1,
+            };
+            write!(f, "{refusal}")?;
+        }
+        Ok(())
+    }
+}
+
 /// Refusals in the order in which they were added, each with the name that it is about.
 #[derive(Drop)]
 pub struct ZoneErrors<T: Drop> {
@@ -130,21 +154,26 @@ impl<T: Drop> IntoIterator for ZoneErrors<T> {
 }
 
 impl<T: fmt::Display + Drop> fmt::Display for ZoneErrors<T> {
+    ghost use Rattle.zone_values.specs.Texts.{list_text};
+
+    ghost output = { λ e. list_text T.output e };
+
     /// Each refusal after its name in quotes, with a comma after it, in brackets.
     fn fmt<W: fmt::Write>(&self, f: &mut fmt::Formatter<W>) -> fmt::Result {
-        write!(f, "Zone file errors: [")?;
-        for entry in &self.errors {
-            let refusal = Refusal {
-                name: &entry.0,
-                error: &entry.1,
-            };
-            write!(f, "{refusal}")?;
-        }
-        write!(f, "]")
+        let refusals = Refusals {
+            errors: self.errors.as_slice(),
+        };
+        write!(f, "Zone file errors: [{refusals}]")
     }
 }
 
 impl<T: fmt::Display + Drop> fmt::Debug for ZoneErrors<T> {
+    ghost use Rattle.std.specs.Prelude.{Some, codes};
+    ghost use Rattle.std.specs.Fmt.{◌++?◌};
+    ghost use Rattle.zone_values.specs.Texts.{list_text};
+
+    ghost debug_output = { λ e. Some (codes "ZoneErrors(") ++? list_text T.output e ++? Some (codes ")") };
+
     /// `ZoneErrors(TEXT)`, the text as printed.
     fn fmt<W: fmt::Write>(&self, f: &mut fmt::Formatter<W>) -> fmt::Result {
         write!(f, "ZoneErrors({self})")
