@@ -72,8 +72,8 @@ no_room_for_more b xs ys none =
     not_fitting b.limit (message_with b xs).octets (message_with b (xs ++ ys)).octets (subst P (append_assoc b.answers xs ys) (longer b.header b.questions (b.answers ++ xs) ys)) none
 
 -- so where more of them have room, some have
-pub room_before : (b : Beginning) (xs ys : List Record) → has_room b (xs ++ ys) ≡ true → has_room b xs ≡ true
-room_before b xs ys room = by (has_room b xs) refl
+pub room_for_fewer : (b : Beginning) (xs ys : List Record) → has_room b (xs ++ ys) ≡ true → has_room b xs ≡ true
+room_for_fewer b xs ys room = by (has_room b xs) refl
   where
     by : (fit : Bool) → has_room b xs ≡ fit → has_room b xs ≡ true
     by true is = is

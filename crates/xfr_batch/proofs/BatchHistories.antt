@@ -14,7 +14,7 @@ use Rattle.xfr_batch.specs.BatchCalls.NotPushed.{NoRoom, NoMemory, Refused}
 use Rattle.xfr_batch.specs.BatchSteps.{Joins, Opens, Tries, HandedOn, TriesOnce, TriesAgain}
 use Rattle.xfr_batch.specs.declared.batcher.PushResult.{PushResult}
 use Rattle.xfr_batch.specs.declared.batcher.PushResult.TheVariants.{PushedAndReadyForMore, PushedAndLimitReached, NotPushedMessageFull, Retry}
-use Rattle.xfr_batch.proofs.BatchAdding.{room_before}
+use Rattle.xfr_batch.proofs.BatchAdding.{room_for_fewer}
 use Rattle.xfr_batch.proofs.BatchRooms.{not_nil, right_nil, joined_more, begun_none, gains}
 
 -- ---- lists
@@ -72,7 +72,7 @@ tries_next b f r begun m old kept new (Err ShortBuf) is none had j = absurd j
 tries_next b f r begun m old kept new (Err CountOverflow) is none had j = j
 tries_next b f r begun m old kept new (Err Memory) is none had j =
     let h = begun_some b f begun m old is had in
-    (j.1 ∙ ap (λ x. Some x) (sym h.1) ∙ sym is, (room_before b [] (begun ++ r ∷ []) j.0, λ some. j.0))
+    (j.1 ∙ ap (λ x. Some x) (sym h.1) ∙ sym is, (room_for_fewer b [] (begun ++ r ∷ []) j.0, λ some. j.0))
 
 tries_first_at : (b : Beginning) (f : Building → Bool) (r : Record) (old kept new : Option Building) (result : Result PushResult PushError)
     → old ≡ None → kept ≡ None → Opens b f r kept result new → Tries b f r [] old result new
