@@ -1,14 +1,35 @@
 // Replies without records.
+ghost use Rattle.dns_wire.specs.Wire.{message_wire};
+ghost use Rattle.dns_wire.specs.Builds.{Builds};
+ghost use Rattle.dns_wire.specs.Reply.{empty_answer};
 ghost use Rattle.xfr_services.specs.Items.{Makes};
 ghost use Rattle.xfr_services.specs.Replying.{error_reply, error_replies, truncated_reply};
 
 use crate::services::{Replies, ServiceError};
 use dns_numbers::Rcode;
-use dns_wire::{AdditionalBuilder, MessageBuf, MessageBuilder};
+use dns_wire::{AdditionalBuilder, AnswerBuilder, MessageBuf, MessageBuilder, PushError};
 use std::alloc::Global;
 
 /// The most octets of a message (RFC 1035, 4.2.2).
 const MAX_LEN: usize = 65535;
+
+/// An answer without records, of up to so many octets. `ShortBuf` where it has more, `Memory` only where it hasn't.
+fn start_reply(
+    alloc: Global,
+    request: &MessageBuf,
+    rcode: Rcode,
+) -> Result<AnswerBuilder, PushError>
+    ensures { Builds (message_wire (empty_answer request.now rcode)) 65535 result }
+{
+    let asked = request.as_message();
+    if !asked.answer_fits(MAX_LEN) {
+        return Err(PushError::ShortBuf);
+    }
+    let Ok(builder) = MessageBuilder::new(alloc) else {
+        return Err(PushError::Memory);
+    };
+    builder.start_answer(&asked, rcode)
+}
 
 /// A reply without records: the request's id, opcode, RD and questions, and an rcode (RFC 1035, 4.1.1).
 pub fn error_reply(
@@ -18,12 +39,7 @@ pub fn error_reply(
 ) -> Result<AdditionalBuilder, ServiceError>
     ensures { Makes (error_reply request.now rcode) result }
 {
-    let asked = request.as_message();
-    if !asked.answer_fits(MAX_LEN) {
-        return Err(ServiceError::InternalError);
-    }
-    let builder = MessageBuilder::new(alloc)?;
-    let answer = builder.start_answer(&asked, rcode)?;
+    let answer = start_reply(alloc, request, rcode)?;
     Ok(answer.additional())
 }
 
@@ -44,12 +60,7 @@ pub fn truncated_reply(
 ) -> Result<AdditionalBuilder, ServiceError>
     ensures { Makes (truncated_reply request.now) result }
 {
-    let asked = request.as_message();
-    if !asked.answer_fits(MAX_LEN) {
-        return Err(ServiceError::InternalError);
-    }
-    let builder = MessageBuilder::new(alloc)?;
-    let mut answer = builder.start_answer(&asked, Rcode::NOERROR)?;
+    let mut answer = start_reply(alloc, request, Rcode::NOERROR)?;
     let mut header = request.header().answer(Rcode::NOERROR);
     header.tc = true;
     answer.set_header(header);
