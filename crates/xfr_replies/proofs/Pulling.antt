@@ -16,15 +16,17 @@ use Rattle.xfr_batch.specs.XfrBatches.{has_reached, push_limit, transfer_begins,
 use Rattle.xfr_batch.specs.declared.batcher.PushResult.TheVariants.{PushedAndReadyForMore, PushedAndLimitReached, NotPushedMessageFull}
 use Rattle.xfr_batch.proofs.BatchRooms.{not_nil, begun_none}
 use Rattle.xfr_batch.proofs.XfrReady.{fewer, small_batch}
-use Rattle.xfr_services.specs.Items.{Sending, reply_item, feedback_item}
+use Rattle.xfr_services.specs.Items.{Sending, Makes, reply_item, feedback_item}
 use Rattle.xfr_services.specs.Replying.{error_reply}
 use Rattle.dns_numbers.specs.Codes.{servfail}
 use Rattle.std.specs.Option.{option_map_or}
 use Rattle.xfr_services.specs.Items.Sending.{Given, Failed}
+use Rattle.xfr_services.specs.declared.services.ServiceError.{ServiceError}
+use Rattle.xfr_services.specs.declared.services.ServiceError.TheVariants.{InternalError, Memory as NoMemory}
 use Rattle.xfr_services.specs.declared.services.ServiceFeedback.TheVariants.{BeginTransaction, EndTransaction}
 use Rattle.xfr_replies.specs.TransferPages.{page_message, page_room, has_page, sendable, EndsBefore, FirstPage}
 use Rattle.xfr_replies.specs.PagedReplies.{SendsRest, TransferSends, page_sent, end_sent, servfail_sent}
-use Rattle.xfr_replies.specs.PulledStreams.{Continues, StageLeft, LacksMemory, NeedsMemory, begun_left, messages_left}
+use Rattle.xfr_replies.specs.PulledStreams.{Continues, StageLeft, LacksMemory, NeedsMemory, OnNoMemory, begun_left, messages_left}
 use Rattle.xfr_replies.specs.declared.transfer_replies.Stage.{Stage}
 use Rattle.xfr_replies.specs.declared.transfer_replies.Stage.TheVariants.{Records}
 use Rattle.xfr_replies.proofs.PageRooms.{room_is, message_is, error_made}
@@ -263,8 +265,10 @@ servfail_item q made = at (error_reply q servfail) made
     at None none = absurd (true≢false (sym none))
     at (Some reply) some = refl
 
-pub servfail_needs : (q : List ℕ) (items : List Sending) → items ≡ servfail_sent q ∷ [] → IsSome (error_reply q servfail) → NeedsMemory items
-servfail_needs q items is made = subst NeedsMemory (sym is) (servfail_item q made)
+pub servfail_told : (q : List ℕ) (items : List Sending) (e : ServiceError) → items ≡ servfail_sent q ∷ [] → Makes {A = Building} (error_reply q servfail) (Err e)
+    → OnNoMemory (Some (Err e)) (NeedsMemory items)
+servfail_told q items InternalError is none = tt
+servfail_told q items NoMemory is made = subst NeedsMemory (sym is) (servfail_item q made)
 
 first_unpaged : (room : ℕ) (r : Record) (rest : List Record) → [] ≡ sendable room (r ∷ rest) → list_all (has_page room) (r ∷ rest) ≡ false
 first_unpaged room r rest none = by (has_page room r) refl

@@ -1,5 +1,5 @@
 -- Which items a stream of a transfer's replies still gives.
-use Rattle.std.specs.Prelude.{◌≡◌, ℕ, ◌+◌, ◌*◌, ◌<◌, Bool, List, [], ◌∷◌, ◌++◌, length, Option, Some, None, IsSome, if◌then◌else◌}
+use Rattle.std.specs.Prelude.{◌≡◌, ℕ, ◌+◌, ◌*◌, ◌<◌, Bool, List, [], ◌∷◌, ◌++◌, length, Option, Some, None, IsSome, Result, Ok, Err, if◌then◌else◌}
 use Rattle.dns_rdata.specs.Records.{Record}
 use Rattle.dns_wire.specs.Wire.{Building}
 use Rattle.xfr_batch.specs.Batches.{Batching, IsBegun}
@@ -8,6 +8,9 @@ use Rattle.xfr_batch.specs.ReadyMessages.{Kept}
 use Rattle.xfr_batch.specs.XfrBatches.{transfer_begins, transfer_is_full}
 use Rattle.xfr_services.specs.Items.{Sending, reply_item, feedback_item}
 use Rattle.xfr_services.specs.Items.Sending.{Given, Failed}
+use Rattle.xfr_services.specs.declared.services.CallResult.{CallResult}
+use Rattle.xfr_services.specs.declared.services.ServiceError.{ServiceError}
+use Rattle.xfr_services.specs.declared.services.ServiceError.TheVariants.{InternalError, Memory}
 use Rattle.xfr_services.specs.declared.services.ServiceFeedback.TheVariants.{BeginTransaction, EndTransaction}
 use Rattle.xfr_replies.specs.PagedReplies.{SendsRest, TransferSends, servfail_sent}
 use Rattle.xfr_replies.specs.declared.transfer_replies.Stage.{Stage}
@@ -82,6 +85,13 @@ abbrev pub NeedsMemory : List Sending → Type 0
 NeedsMemory [] = ⊥
 NeedsMemory (Failed ∷ rest) = ⊥
 NeedsMemory (Given item ∷ rest) = IsSome item.response
+
+-- this holds where want of memory is told
+abbrev pub OnNoMemory : Option (Result CallResult ServiceError) → Type 0 → Type 0
+OnNoMemory None P = Unit {0}
+OnNoMemory (Some (Ok item)) P = Unit {0}
+OnNoMemory (Some (Err InternalError)) P = Unit {0}
+OnNoMemory (Some (Err Memory)) P = P
 
 -- what is sent in answer to a request, where it is a transfer's text
 abbrev pub SendsText : List ℕ → ℕ → Bool → List Record → Option (List Sending) → Type 0

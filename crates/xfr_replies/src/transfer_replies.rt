@@ -1,9 +1,8 @@
 // The stream of one transfer's replies.
-ghost use Rattle.std.specs.Prelude.{◌≡◌, ◌<◌, List, Some, None, Err, if◌then◌else◌};
+ghost use Rattle.std.specs.Prelude.{◌≡◌, ◌<◌, List, Some, None, if◌then◌else◌};
 ghost use Rattle.xfr_services.specs.Items.{Sending, Gives, NextOf};
-ghost use Rattle.xfr_replies.specs.PulledStreams.{Continues, PulledLeft, Pulls, PullsFewer, SendsText, NeedsMemory, messages_left, pulled_left};
+ghost use Rattle.xfr_replies.specs.PulledStreams.{Continues, PulledLeft, Pulls, PullsFewer, SendsText, NeedsMemory, OnNoMemory, messages_left, pulled_left};
 ghost use Rattle.xfr_replies.specs.declared.transfer_replies.Stage.TheVariants.{Records};
-ghost use Rattle.xfr_services.specs.declared.services.ServiceError.TheVariants.{Memory};
 
 use crate::text::TransferText;
 use dns_numbers::Rcode;
@@ -73,7 +72,7 @@ impl TransferReplies {
             → NextOf (PulledLeft self.new) items (Some result) }
         ensures progress { self.old.stage ≡ Records → pulled_left self.new < pulled_left self.old }
         ensures memory { self.old.stage ≡ Records → (items : List Sending) → PulledLeft self.old items
-            → result ≡ Err Memory → NeedsMemory items }
+            → OnNoMemory (Some result) (NeedsMemory items) }
     {
         match pull(&mut self.batcher, &mut self.text) {
             Pulled::Page(answer) => Ok(CallResult::new(answer.additional())),
@@ -99,10 +98,9 @@ impl TransferReplies {
 }
 
 impl ReplyStream for TransferReplies {
-    ghost use Rattle.std.specs.Prelude.{◌≡◌, ◌<◌, List, Some, Err, OnSome};
+    ghost use Rattle.std.specs.Prelude.{◌<◌, List, OnSome};
     ghost use Rattle.xfr_services.specs.Items.{Sending, NextOf};
-    ghost use Rattle.xfr_services.specs.declared.services.ServiceError.TheVariants.{Memory};
-    ghost use Rattle.xfr_replies.specs.PulledStreams.{pulled_left, PulledLeft, NeedsMemory};
+    ghost use Rattle.xfr_replies.specs.PulledStreams.{pulled_left, PulledLeft, NeedsMemory, OnNoMemory};
 
     ghost remaining = { pulled_left };
 
@@ -112,7 +110,7 @@ impl ReplyStream for TransferReplies {
     fn next_item(&mut self) -> Option<Result<CallResult, ServiceError>>
         ensures progress { OnSome result (pulled_left self.new < pulled_left self.old) }
         ensures item { (items : List Sending) → PulledLeft self.old items → NextOf (PulledLeft self.new) items result }
-        ensures memory { (items : List Sending) → PulledLeft self.old items → result ≡ Some (Err Memory) → NeedsMemory items }
+        ensures memory { (items : List Sending) → PulledLeft self.old items → OnNoMemory result (NeedsMemory items) }
     {
         match self.stage {
             Stage::Begin => {

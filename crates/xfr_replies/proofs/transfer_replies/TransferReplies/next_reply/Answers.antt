@@ -1,6 +1,15 @@
 use Rattle.std.proofs.Common.{refl}
-use Rattle.xfr_replies.proofs.Pulling.{continued, some_left, needs}
+use Rattle.std.proofs.lemmas.Result.{err_from_is_err_and}
+use Rattle.xfr_replies.proofs.Pulling.{continued, some_left, needs, servfail_told}
 use Rattle.xfr_replies.proofs.transfer_replies.TransferReplies.next_reply.Goals as goal
+
+pub returns-in_err-reply-clause-memory : goal.returns-in_err-reply-clause-memory
+returns-in_err-reply-clause-memory c = λ stage items left.
+    let a = c.args.self.now in
+    let from = err_from_is_err_and c.from_residual.result c.from_residual.ensures.1 in
+    let is = c.in-TooLong.ensures.item items (continued a.stage a.batcher a.text.records items stage left) in
+    let made = rw c.request.ensures at c.in_err-reply.ensures in
+    rw (from.1, from.2) (servfail_told c.pull.new.batcher.request items _ is made)
 
 pub returns-in-NoMemory-clause-item : goal.returns-in-NoMemory-clause-item
 returns-in-NoMemory-clause-item c = λ stage items left.
@@ -9,6 +18,6 @@ returns-in-NoMemory-clause-item c = λ stage items left.
     (some_left _ _ items lacks.left, refl)
 
 pub returns-in-NoMemory-clause-memory : goal.returns-in-NoMemory-clause-memory
-returns-in-NoMemory-clause-memory c = λ stage items left error.
+returns-in-NoMemory-clause-memory c = λ stage items left.
     let a = c.args.self.now in
     needs _ _ items (c.in-NoMemory.ensures.item items (continued a.stage a.batcher a.text.records items stage left))
