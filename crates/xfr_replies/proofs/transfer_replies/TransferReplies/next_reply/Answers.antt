@@ -3,12 +3,12 @@ use Rattle.std.proofs.lemmas.Result.{err_from_is_err_and}
 use Rattle.xfr_replies.proofs.Pulling.{continued, some_left, needs, servfail_told}
 use Rattle.xfr_replies.proofs.transfer_replies.TransferReplies.next_reply.Goals as goal
 
-pub returns-in_err-reply-clause-memory : goal.returns-in_err-reply-clause-memory
-returns-in_err-reply-clause-memory c = λ stage items left.
+pub returns-in_err-reply-in-TooLong-clause-memory : goal.returns-in_err-reply-in-TooLong-clause-memory
+returns-in_err-reply-in-TooLong-clause-memory c = λ stage items left.
     let a = c.args.self.now in
     let from = err_from_is_err_and c.from_residual.result c.from_residual.ensures.1 in
     let is = c.in-TooLong.ensures.item items (continued a.stage a.batcher a.text.records items stage left) in
-    let made = rw c.request.ensures at c.in_err-reply.ensures in
+    let made = rw c.request.ensures at c.in_err-reply-in-TooLong.ensures in
     rw (from.1, from.2) (servfail_told c.pull.new.batcher.request items _ is made)
 
 pub returns-in-NoMemory-clause-item : goal.returns-in-NoMemory-clause-item
