@@ -2,3 +2,4 @@ pub mod Modes
 pub mod Requests
 pub mod Items
 pub mod Replying
+pub mod LongReplies

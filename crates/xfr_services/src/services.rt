@@ -23,7 +23,7 @@ pub enum ServiceFeedback {
 /// Why a service can't reply.
 #[derive(Clone, Copy, Debug, PartialEq, Eq, Error)]
 pub enum ServiceError {
-    /// Even the request's questions and one signature pass 65,535 octets.
+    /// Even the request's questions and one signature may pass 65,535 octets.
     #[error("the reply can't be made")]
     InternalError,
     /// Memory ran out.
@@ -130,6 +130,7 @@ pub trait ReplyStream: Drop {
 pub trait Service<M> {
     ghost use Rattle.std.specs.Prelude.{Option, List};
     ghost use Rattle.xfr_services.specs.Items.{Sending, Calls};
+    ghost use Rattle.xfr_services.specs.LongReplies.{FailsOnlyWhereLong};
     ghost use Rattle.xfr_services.specs.declared.requests.Request.{Request as RequestOf};
 
     /// The replies.
@@ -145,7 +146,10 @@ pub trait Service<M> {
         alloc: Global,
         request: Request<M>,
     ) -> Result<Self::Stream, ServiceError>
-        ensures { Calls (Sends self.now request) Self.Stream.LeftOf result };
+        ensures calls { Calls (Sends self.now request) Self.Stream.LeftOf result }
+        // No reply can be made, then or in the stream, only where even one with the request's questions, a TSIG and no other record may
+        // pass 65,535 octets.
+        ensures failing { Calls (FailsOnlyWhereLong request.message) Self.Stream.LeftOf result };
 }
 
 /// Replies that were made beforehand. Contracts see the items that are left.
@@ -219,14 +223,17 @@ pub struct RefuseSvc;
 impl<M: Drop> Service<M> for RefuseSvc {
     ghost use Rattle.std.specs.Prelude.{◌≡◌};
     ghost use Rattle.xfr_services.specs.Items.{Calls, all_given};
+    ghost use Rattle.xfr_services.specs.LongReplies.{FailsOnlyWhereLong};
     ghost use Rattle.xfr_services.specs.Replying.{refused, error_sends};
 
     type Stream = Replies;
 
     ghost Sends = { λ s request sent. sent ≡ error_sends request.message refused };
 
+    #[tactic(auto, using(crate::proofs::LongReplies::refusals_fail))]
     fn call<R>(&self, _rt: &R, alloc: Global, request: Request<M>) -> Result<Replies, ServiceError>
-        ensures { Calls (λ sent. sent ≡ error_sends request.message refused) (λ s items. items ≡ all_given s) result }
+        ensures calls { Calls (λ sent. sent ≡ error_sends request.message refused) (λ s items. items ≡ all_given s) result }
+        ensures failing { Calls (FailsOnlyWhereLong request.message) (λ s items. items ≡ all_given s) result }
     {
         replies::refuse(alloc, &request.message, Rcode::REFUSED)
     }
