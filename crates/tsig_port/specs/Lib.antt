@@ -10,5 +10,7 @@ pub mod OneByOne
 pub mod Exchange
 pub mod ServerCheck
 pub mod States
+pub mod OneKey
 pub mod Transactions
 pub mod ExchangeRows
+pub mod OneKeyRows
