@@ -1,4 +1,4 @@
-use Rattle.std.proofs.Common.{◌≡◌, ◌&&◌, ◌∙◌, sym}
+use Rattle.std.proofs.Common.{◌&&◌, ◌∙◌, sym}
 use Rattle.dns_rdata.specs.ZoneData.{data_fields}
 use Rattle.zone_model.specs.Version.{same_items}
 use Rattle.zone_reads.proofs.Walks.{all_among}
@@ -14,5 +14,5 @@ pub returns : goal.returns
 returns c =
     let ones = c.args.one.now.contents.items in
     let others = c.args.other.now.contents.items in
-      (λ i. c.are_among-there.ensures i && c.are_among-back.ensures i)
-      ∙ (λ i. all_among data_fields c.data-items.result.now others ones c.data-items.ensures.fields i && all_among data_fields c.data-others.result.now ones others c.data-others.ensures.fields i)
+    (λ i. c.are_among-there.ensures i && c.are_among-back.ensures i)
+    ∙ (λ i. all_among data_fields c.data-items.result.now others ones c.data-items.ensures.fields i && all_among data_fields c.data-others.result.now ones others c.data-others.ensures.fields i)
