@@ -15,10 +15,10 @@ as_carried [] = refl
 as_carried (m ∷ ms) = ap (λ l. built_checked m ∷ l) (as_carried ms)
 
 pub honest_succeeds : HonestSucceeds
-honest_succeeds e key request at now fudge m more gave_up g p sent =
-    let h = signed_handed key request at fudge now (m ∷ more) gave_up in
+honest_succeeds e client server request at now fudge m more gave_up g p sent =
+    let h = signed_handed client server request at fudge now (m ∷ more) gave_up in
     let c : Course = course_of h e.base e.number in
-    let j = signed_are_the_course key request (m ∷ more) at now fudge e.number e.base gave_up sent.is_key sent.early sent.small sent.near sent.can sent.have sent.few in
+    let j = signed_are_the_course client server request (m ∷ more) at now fudge e.number e.base gave_up sent.signs sent.one_key sent.early sent.small sent.near sent.can sent.have sent.few in
     let same : c ≡ sent_course e (id_in request) (carrier_of m ∷ map carrier_of more) gave_up =
     ap (λ (x : Mode). record { mode = x; id = id_in request; question = request_question request; base = e.base; number = e.number; checked = c.checked; stop = c.stop }) sent.mode
     ∙ ap (λ (q : Question). record { mode = e.mode; id = id_in request; question = q; base = e.base; number = e.number; checked = c.checked; stop = c.stop }) sent.question

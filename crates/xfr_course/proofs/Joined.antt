@@ -8,24 +8,25 @@ use Rattle.std.proofs.lemmas.List.{take_all}
 use Rattle.std.proofs.lemmas.List.Sums.{take_while-cons}
 use Rattle.dns_rdata.specs.Records.{record_wire}
 use Rattle.dns_wire.specs.Wire.{Message, message_wire}
-use Rattle.tsig_port.specs.Tsig.{TsigKey, tsig_record, mac_in, signed_from, signed_answers}
+use Rattle.tsig_port.specs.Tsig.{TsigKey, tsig_record, mac_in, answer_tsig, signed_answer, signed_from, signed_answers}
 use Rattle.tsig_port.specs.Checked.{checked, check_fault, taken_message}
-use Rattle.tsig_port.specs.Signing.{IsKey, CanSign}
-use Rattle.tsig_port.proofs.SignedAnswers.{sent, tsig, sequence, taken_is, signed_pass, signed_faultless}
+use Rattle.tsig_port.specs.Signing.{CanSign}
+use Rattle.tsig_port.specs.OneKey.{IsSigner}
+use Rattle.tsig_port.proofs.OneKeys.{answer_left, one_checked, one_faultless}
 use Rattle.xfr_model.specs.Messages.{HaveData, read_of}
 use Rattle.xfr_model.proofs.ReadingBuilt.{built_is_read}
 use Rattle.xfr_course.specs.Courses.{has_header, most_replies, replies_taken, unreadable_message, read_message, checked_message, stop_after}
 use Rattle.xfr_course.specs.Joining.{built_checked, SignedAreTheCourse}
 
-module _ (key : TsigKey) (request_mac : List ℕ) (at now fudge : ℕ) (ok : IsKey key) (early : at < 2 ^ 48) (small : fudge < 2 ^ 16) (near : abs_diff at now ≤ fudge) where
+module _ (key : TsigKey) (request_mac : List ℕ) (at now fudge : ℕ) (is_signer : IsSigner key) (early : at < 2 ^ 48) (small : fudge < 2 ^ 16) (near : abs_diff at now ≤ fudge) where
   abbrev pub one : Option (List ℕ) → Message → List ℕ
-  one prior m = sent key request_mac at now fudge ok early small near prior m
+  one prior m = signed_answer key request_mac prior (message_wire m) at fudge
 
   abbrev pub mac : Option (List ℕ) → Message → List ℕ
-  mac prior m = (tsig key request_mac at now fudge ok early small near prior m).mac
+  mac prior m = (answer_tsig key request_mac prior (message_wire m) at fudge).mac
 
   abbrev pub all : Option (List ℕ) → List Message → List (List ℕ)
-  all prior ms = sequence key request_mac at now fudge ok early small near prior ms
+  all prior ms = signed_from key request_mac at fudge prior (map message_wire ms)
 
   -- a signed message is longer than its header
   header_there : (prior : Option (List ℕ)) (m : Message) → has_header (one prior m) ≡ true
@@ -56,8 +57,8 @@ module _ (key : TsigKey) (request_mac : List ℕ) (at now fudge : ℕ) (ok : IsK
   -- one that was taken is read as what it was built of
   read_again : (prior : Option (List ℕ)) (m : Message) → CanSign key m → HaveData m.answers → checked_message (one prior m) ≡ built_checked m
   read_again prior m can is =
-      let r = record_wire (tsig_record key.name (tsig key request_mac at now fudge ok early small near prior m)) in
-      let taken : taken_message (one prior m) ≡ message_wire m ++ r = taken_is key request_mac at now fudge ok early small near prior m can in
+      let r = record_wire (tsig_record key.name (answer_tsig key request_mac prior (message_wire m) at fudge)) in
+      let taken : taken_message (one prior m) ≡ message_wire m ++ r = answer_left key is_signer m at fudge early small can request_mac now near prior in
       let read : read_message (message_wire m ++ r) ≡ read_of m = ap (λ o. unwrap_or o (unreadable_message (message_wire m ++ r))) (built_is_read m r can.message is) in
       let message : read_message (taken_message (one prior m)) ≡ read_of m = ap read_message taken ∙ read in
       ap (λ x. record { message = x }) message
@@ -70,16 +71,16 @@ module _ (key : TsigKey) (request_mac : List ℕ) (at now fudge : ℕ) (ok : IsK
       ap (λ k. k ∷ map checked_message (all (Some (mac prior m)) ms)) (read_again prior m can.0 is.0) ∙ ap (λ ks. built_checked m ∷ ks) (all_again (Some (mac prior m)) ms can.1 is.1)
 
 pub signed_are_the_course : SignedAreTheCourse
-signed_are_the_course key request ms at now fudge number base gave_up ok early small near can is few =
-    let xs = signed_answers key (mac_in request) at fudge (map message_wire ms) in
-    let count : length xs ≡ length ms = as_many key (mac_in request) at now fudge ok early small near None ms in
+signed_are_the_course client server request ms at now fudge number base gave_up signs one early small near can is few =
+    let xs = signed_answers server (mac_in request) at fudge (map message_wire ms) in
+    let count : length xs ≡ length ms = as_many server (mac_in request) at now fudge signs early small near None ms in
     let whole : take most_replies xs ≡ xs = take_all most_replies xs (omega (arith, count, few)) in
-    let taken : replies_taken xs ≡ xs = ap (λ l. take_while has_header l) whole ∙ none_short key (mac_in request) at now fudge ok early small near None ms in
-    let passed : checked key request now (replies_taken xs) ≡ xs = ap (λ l. checked key request now l) taken ∙ signed_pass key request ms at now fudge ok early small near can in
-    let sound : check_fault key request now (replies_taken xs) ≡ None = ap (λ l. check_fault key request now l) taken ∙ signed_faultless key request ms at now fudge ok early small near can in
-    let headed : list_all has_header (take most_replies xs) ≡ true = ap (λ l. list_all has_header l) whole ∙ headers_there key (mac_in request) at now fudge ok early small near None ms in
+    let taken : replies_taken xs ≡ xs = ap (λ l. take_while has_header l) whole ∙ none_short server (mac_in request) at now fudge signs early small near None ms in
+    let passed : checked client request now (replies_taken xs) ≡ xs = ap (λ l. checked client request now l) taken ∙ one_checked client server request ms at now fudge signs one early small near can in
+    let sound : check_fault client request now (replies_taken xs) ≡ None = ap (λ l. check_fault client request now l) taken ∙ one_faultless client server request ms at now fudge signs one early small near can in
+    let headed : list_all has_header (take most_replies xs) ≡ true = ap (λ l. list_all has_header l) whole ∙ headers_there server (mac_in request) at now fudge signs early small near None ms in
     let not_most : nat_le most_replies (length xs) ≡ false = lt-leb most_replies (length xs) (omega (arith, count, few)) in
     record {
-      checked = ap (λ l. map checked_message l) passed ∙ all_again key (mac_in request) at now fudge ok early small near None ms can is;
+      checked = ap (λ l. map checked_message l) passed ∙ all_again server (mac_in request) at now fudge signs early small near None ms can is;
       stop = ap (λ f. stop_after gave_up xs f) sound ∙ rw (headed, not_most) refl;
     }

@@ -4,7 +4,8 @@ use Rattle.std.specs.Int.{abs_diff}
 use Rattle.std.specs.List.{AllByRecursion}
 use Rattle.dns_wire.specs.Wire.{Message, id_in}
 use Rattle.tsig_port.specs.Tsig.{TsigKey}
-use Rattle.tsig_port.specs.Signing.{IsKey, CanSign}
+use Rattle.tsig_port.specs.Signing.{CanSign}
+use Rattle.tsig_port.specs.OneKey.{IsSigner, AreOneKey}
 use Rattle.xfr_model.specs.Messages.{HaveData, read_of}
 use Rattle.zone_model.specs.TransferLaws.{IsPublished}
 use Rattle.xfr_model.specs.Carried.{Carrier}
@@ -19,12 +20,13 @@ abbrev pub carrier_of : Message → Carrier
 carrier_of m = record { message = read_of m; page = m.answers }
 
 -- built answers to a request, as one end signs them and the other takes them
-pub record AreSent (e : Ends) (key : TsigKey) (request : List ℕ) (at now fudge : ℕ) (m : Message) (more : List Message) : Type 0 where
-  pub is_key : IsKey key
+pub record AreSent (e : Ends) (client server : TsigKey) (request : List ℕ) (at now fudge : ℕ) (m : Message) (more : List Message) : Type 0 where
+  pub signs : IsSigner server
+  pub one_key : AreOneKey client server
   pub early : at < 2 ^ 48
   pub small : fudge < 2 ^ 16
   pub near : abs_diff at now ≤ fudge
-  pub can : AllByRecursion (CanSign key) (m ∷ more)
+  pub can : AllByRecursion (CanSign server) (m ∷ more)
   pub have : AllByRecursion (λ x. HaveData x.answers) (m ∷ more)
   pub few : length (m ∷ more) < most_replies
   -- the request asks what the ends say
@@ -33,6 +35,6 @@ pub record AreSent (e : Ends) (key : TsigKey) (request : List ℕ) (at now fudge
   pub carry : CarrySent e (id_in request) (carrier_of m) (map carrier_of more)
 
 abbrev pub HonestSucceeds : Type 0
-HonestSucceeds = (e : Ends) (key : TsigKey) (request : List ℕ) (at now fudge : ℕ) (m : Message) (more : List Message) (gave_up : Outcome)
-    → IsGranting e → AllByRecursion (IsPublished e.base.apex) e.history → AreSent e key request at now fudge m more
-    → Succeeds (course_of (signed_handed key request at fudge now (m ∷ more) gave_up) e.base e.number) e.offer.version
+HonestSucceeds = (e : Ends) (client server : TsigKey) (request : List ℕ) (at now fudge : ℕ) (m : Message) (more : List Message) (gave_up : Outcome)
+    → IsGranting e → AllByRecursion (IsPublished e.base.apex) e.history → AreSent e client server request at now fudge m more
+    → Succeeds (course_of (signed_handed client server request at fudge now (m ∷ more) gave_up) e.base e.number) e.offer.version

@@ -21,6 +21,7 @@ ghost use Rattle.dns_rdata.specs.RecordRows as data_rows;
 ghost use Rattle.dns_wire.specs.Wire.{message_wire};
 ghost use Rattle.dns_wire.specs.MessageRows.{ixfr_query, reply};
 ghost use Rattle.tsig_port.specs.ExchangeRows.{row_key, row_request, first_reply, bare_reply};
+ghost use Rattle.tsig_port.specs.OneKeyRows.{client_key, server_key, client_request};
 ghost use Rattle.xfr_course.specs.Joining.{signed_handed, built_checked};
 ghost use Rattle.xfr_course.specs.Honest.{carrier_of};
 ghost use Rattle.xfr_course.specs.Success.{CarrySent, Succeeds, sent_course};
@@ -178,11 +179,13 @@ pub fn success_row()
     ensures number { (sent_course (record examples.small_ends { number = 7 }) 1000 [] outcomes.Ended).number ≡ 7 }
 {}
 
-/// Answers, signed and handed, are a course of them, whenever they are taken.
+/// Answers, signed and handed, are a course of them, whenever they are taken, and so they are where the client spells the key otherwise and
+/// signs with half MACs.
 #[tactic(auto, unfolding(crate::proofs::OnLiterals::course_on_literals))]
 pub fn joined_row()
-    ensures checked { (courses.course_of (signed_handed row_key row_request 1000 300 1300 examples.two_answers outcomes.Ended) rows.empty_zone 0).checked ≡ map built_checked examples.two_answers }
-    ensures stop { (courses.course_of (signed_handed row_key row_request 1000 300 1301 examples.two_answers outcomes.Ended) rows.empty_zone 0).stop ≡ outcomes.Tsig ValidationError.BadTime }
+    ensures checked { (courses.course_of (signed_handed row_key row_key row_request 1000 300 1300 examples.two_answers outcomes.Ended) rows.empty_zone 0).checked ≡ map built_checked examples.two_answers }
+    ensures stop { (courses.course_of (signed_handed row_key row_key row_request 1000 300 1301 examples.two_answers outcomes.Ended) rows.empty_zone 0).stop ≡ outcomes.Tsig ValidationError.BadTime }
+    ensures one_key { (courses.course_of (signed_handed client_key server_key client_request 1000 300 1300 examples.two_answers outcomes.Ended) rows.empty_zone 0).checked ≡ map built_checked examples.two_answers }
     ensures page { length (carrier_of (reply (data_rows.soa 1 ∷ data_rows.ns_record ∷ []))).page ≡ 2 }
 {}
 
