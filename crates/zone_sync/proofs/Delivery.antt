@@ -129,7 +129,7 @@ hands_on old new taken handed h w = record {
 
 module _ (Sends : List ℕ → Option (List Sending) → Type 0) (a : Asking) (at longest : ℕ) (v : Version) (grant : IsGranted Sends a at longest v) where
   abbrev pub all : List (List ℕ)
-  all = sent_pages a at grant.fits.records_fit.pages
+  all = sent_pages a grant.server at grant.fits.records_fit.pages
 
   same_items : (x y : List Sending) → Some x ≡ Some y → x ≡ y
   same_items x y h = ap (λ o. unwrap_or o []) h
@@ -239,7 +239,7 @@ module _ (Sends : List ℕ → Option (List Sending) → Type 0) (a : Asking) (a
     replies_are answer k q =
         let r = hands_on o.replies n.replies k.sent k.replies h.replies k.link.replies in
         let p = came Sends a at longest v grant k.heard k.sent k.replies answer headed (heard_is answer k q) k.served (record { rest = r.rest; joined = r.part }) in
-        record { front = p; part = part_of a at grant.offer grant.fits (given_up answer) k.replies p.rest p.joined }
+        record { front = p; part = part_of a grant.server at grant.offer grant.fits (given_up answer) k.replies p.rest p.joined }
 
     -- the link didn't fail
     no_rise : Rose f g → ⊥

@@ -55,13 +55,13 @@ good_status v s (Err why.VersionsExhausted) d = absurd d
 
 -- the law of the program's primary
 abbrev pub Granting : (Provider → TsigKey → ℕ → List ℕ → Option (List Sending) → Type 0) → Type 0
-Granting SendsOf = (p : Provider) (key : TsigKey) (a : Asking) (at longest : ℕ) → a.key ≡ key → is_granted p.grants (Some (key_id key)) ≡ true → Fits a at (history_offer p a) → length (asked_octets a) ≤ min longest 65535 → IsGranted (SendsOf p key at) a at longest p.kept
+Granting SendsOf = (p : Provider) (key : TsigKey) (a : Asking) (at longest : ℕ) → is_granted p.grants (Some (key_id key)) ≡ true → Fits a key at (history_offer p a) → length (asked_octets a) ≤ min longest 65535 → IsGranted (SendsOf p key at) a at longest p.kept
 
 -- the request of a script is granted, where its parts fit each other and the link
 pub script_granted : (SendsOf : Provider → TsigKey → ℕ → List ℕ → Option (List Sending) → Type 0) → Granting SendsOf → (mode : Mode) (text : List ℕ) (t : scripts.Script TsigKey) (key : TsigKey) (longest : ℕ)
     → script_of wire_readers text ≡ Ok t → FitsLink mode t key longest → IsGranted (SendsOf (provider_in t key) key t.at_primary) (asking_in mode t key) t.at_primary longest (provider_in t key).kept
 script_granted SendsOf grants mode text t key longest spelt fit =
-    grants (provider_in t key) key (asking_in mode t key) t.at_primary longest refl (granted_in t key) (script_fits mode text t key longest spelt fit) fit.request_fits
+    grants (provider_in t key) key (asking_in mode t key) t.at_primary longest (granted_in t key) (script_fits mode text t key longest spelt fit) fit.request_fits
 
 module _ (SendsOf : Provider → TsigKey → ℕ → List ℕ → Option (List Sending) → Type 0) (grants : Granting SendsOf) (mode : Mode)
     (text : List ℕ) (t : scripts.Script TsigKey) (key : TsigKey) (link : Crossed) (taken_old taken_new : Option (List ℕ)) (spelt : script_of wire_readers text ≡ Ok t) (fits : FitsLink mode t key link.longest) (honest : WasHonest link.lists_old link.lists_new link.faults_old link.faults_new) where

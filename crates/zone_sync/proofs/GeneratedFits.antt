@@ -11,7 +11,7 @@ use Rattle.dns_rdata.specs.Records.{Record, record_wire}
 use Rattle.dns_wire.specs.Wire.{message_wire}
 use Rattle.dns_wire.specs.Written.{IsRecord}
 use Rattle.tsig_port.specs.Tsig.{compose_len}
-use Rattle.tsig_port.specs.Signing.{IsKey}
+use Rattle.tsig_port.specs.OneKey.{IsSigner, AreOneKey}
 use Rattle.zone_model.specs.Version.{Version}
 use Rattle.zone_model.specs.TransferText.{Axfr}
 use Rattle.zone_model.specs.TransferLaws.{IsPublished}
@@ -98,10 +98,13 @@ each_data (r ∷ text) a = (a.0.pieces, each_data text a.1)
 
 -- ---- the whole
 
-is_key : IsKey generated.key
-is_key = record { name = refl; signing = refl; taken = lit≤ tt }
+signs : IsSigner generated.key
+signs = record { name = refl; signing = refl }
 
-wide : 200 ≤ answer_room generated_asking
+one_key : AreOneKey generated.key generated.key
+one_key = record { name = refl; algorithm = refl; secret = refl; client_taken = lit≤ tt; server_taken = lit≤ tt }
+
+wide : 200 ≤ answer_room generated_asking generated.key
 wide = lit≤ tt
 
 few_pages : (n text : ℕ) → n + n ≤ text + 1 → text ≤ 100004 → n ≤ 65536
@@ -111,19 +114,21 @@ numbered : (n : ℕ) → n ≡ 1 → 0 + n < 2 ^ 64
 numbered n e = omega (arith, e)
 
 module _ (v : Version) (published : IsPublished zone_name v) (short : AllByRecursion IsShort (whole_text v)) (few : length (whole_text v) ≤ 100004) (same_apex : IsTrue (same_name zone_name v.apex)) (same_class : 1 ≡ v.class) where
-  cut : (pages : List (List Record)) × IsCutInto (answer_room generated_asking) false (whole_text v) pages
-  cut = has_cut (answer_room generated_asking) (whole_text v) (each_has_page (answer_room generated_asking) wide (whole_text v) short)
+  cut : (pages : List (List Record)) × IsCutInto (answer_room generated_asking generated.key) false (whole_text v) pages
+  cut = has_cut (answer_room generated_asking generated.key) (whole_text v) (each_has_page (answer_room generated_asking generated.key) wide (whole_text v) short)
 
   page_count : length cut.0 ≤ 65536
   page_count =
       let all : AllByRecursion IsShort (joined cut.0) = subst (AllByRecursion IsShort) (sym cut.1.joined) short in
-      let count = pages_few (answer_room generated_asking) wide cut.0 cut.1.filled all in
+      let count = pages_few (answer_room generated_asking generated.key) wide cut.0 cut.1.filled all in
       let records = ap length cut.1.joined in
       few_pages (length cut.0) (length (joined cut.0)) count (omega (arith, records, few))
 
-  pub version_fits : Fits generated_asking 0 (history_offer (provider_of v [] generated.key) generated_asking)
+  pub version_fits : Fits generated_asking generated.key 0 (history_offer (provider_of v [] generated.key) generated_asking)
   version_fits = record {
-    one_key = is_key;
+    client_signs = signs;
+    server_signs = signs;
+    one_key = one_key;
     close_moments = record { primary = lit< tt; secondary = lit< tt; near = lit≤ tt };
     one_soa = record { history = v ∷ []; told = record { ends = refl; tells = refl; newer = refl; distinct = refl }; each = (published, tt) };
     records_fit = record {
@@ -142,7 +147,7 @@ module _ (v : Version) (published : IsPublished zone_name v) (short : AllByRecur
     room = numbered (length (spelling Axfr (whole_text v) generated.empty).versions) (ap (λ s. length s.versions) (whole_spells Axfr v generated.empty published.valid published.one_soa same_apex tt).0);
   }
 
-pub generated_fits : (size seed : ℕ) → 1 ≤ size → size ≤ 100000 → Fits generated_asking 0 (history_offer (generating_provider size seed) generated_asking)
+pub generated_fits : (size seed : ℕ) → 1 ≤ size → size ≤ 100000 → Fits generated_asking generated.key 0 (history_offer (generating_provider size seed) generated_asking)
 generated_fits size seed some small =
     let v = generated.generated size seed in
     let below : size < 2 ^ 32 = omega (arith, small) in

@@ -3,7 +3,7 @@ use Rattle.std.proofs.Common.{ℕ, ◌≤◌, List, [], ◌∷◌, length, min, 
 use Rattle.dns_wire.specs.Wire.{message_wire}
 use Rattle.dns_wire.specs.Written.{IsRecord}
 use Rattle.tsig_port.specs.Tsig.{compose_len}
-use Rattle.tsig_port.specs.Signing.{IsKey}
+use Rattle.tsig_port.specs.OneKey.{IsSigner, AreOneKey}
 use Rattle.zone_model.specs.Version.{Version}
 use Rattle.zone_model.specs.Difference.{Difference}
 use Rattle.zone_model.specs.TransferText.{Mode, Axfr, Ixfr}
@@ -12,11 +12,15 @@ use Rattle.zone_model.specs.ZoneRows as rows
 use Rattle.zone_model.proofs.Published.{published_by_test}
 use Rattle.xfr_client.specs.SoFar.{asked_octets, request_message}
 use Rattle.zone_sync.specs.Fitting.{Fits}
+use Rattle.zone_sync.specs.Grants.{history_offer}
 use Rattle.zone_sync.specs.GrantRows as grants
 use Rattle.zone_sync.proofs.Lengths.{asked_length}
 
-is_key : IsKey grants.key
-is_key = record { name = refl; signing = refl; taken = lit≤ tt }
+signs : IsSigner grants.key
+signs = record { name = refl; signing = refl }
+
+one_key : AreOneKey grants.key grants.key
+one_key = record { name = refl; algorithm = refl; secret = refl; client_taken = lit≤ tt; server_taken = lit≤ tt }
 
 first : IsPublished rows.e rows.history_1
 first = published_by_test rows.e rows.history_1 refl
@@ -43,9 +47,11 @@ host_is n = record { owner = refl; rtype = lit< tt; class = lit< tt; ttl = lit< 
 server_is : IsRecord (rows.ns rows.e rows.ns_host)
 server_is = record { owner = refl; rtype = lit< tt; class = lit< tt; ttl = lit< tt; len = lit< tt }
 
-pub whole_fits_with : (differences : List Difference) → Fits (grants.asks Axfr rows.empty_zone) 1000 (grants.with_differences differences)
+pub whole_fits_with : (differences : List Difference) → Fits (grants.asks Axfr rows.empty_zone) grants.key 1000 (grants.with_differences differences)
 whole_fits_with differences = record {
-  one_key = is_key;
+  client_signs = signs;
+  server_signs = signs;
+  one_key = one_key;
   close_moments = record { primary = lit< tt; secondary = lit< tt; near = lit≤ tt };
   one_soa = record { history = rows.history_3 ∷ []; told = record { ends = refl; tells = refl; newer = refl; distinct = refl }; each = (third, tt) };
   records_fit = record {
@@ -64,12 +70,47 @@ whole_fits_with differences = record {
   room = lit< tt;
 }
 
-pub whole_fits : Fits (grants.asks Axfr rows.empty_zone) 1000 (grants.offered Axfr rows.empty_zone)
+-- one key with two spellings and lengths
+half_signs : IsSigner grants.half_key
+half_signs = record { name = refl; signing = refl }
+
+lenient_signs : IsSigner grants.lenient_key
+lenient_signs = record { name = refl; signing = refl }
+
+one_spelt : AreOneKey grants.half_key grants.lenient_key
+one_spelt = record { name = refl; algorithm = refl; secret = refl; client_taken = lit≤ tt; server_taken = lit≤ tt }
+
+pub half_fits : Fits grants.half_asks grants.lenient_key 1000 (history_offer grants.provider grants.half_asks)
+half_fits = record {
+  client_signs = half_signs;
+  server_signs = lenient_signs;
+  one_key = one_spelt;
+  close_moments = record { primary = lit< tt; secondary = lit< tt; near = lit≤ tt };
+  one_soa = record { history = rows.history_3 ∷ []; told = record { ends = refl; tells = refl; newer = refl; distinct = refl }; each = (third, tt) };
+  records_fit = record {
+    asked = tt;
+    asked_data = tt;
+    sent = (soa_is 3, (server_is, (jain_is 2, (jain_is 3, (host_is 1, (soa_is 3, tt))))));
+    sent_data = (refl, (refl, (refl, (refl, (refl, (refl, tt))))));
+    pages = grants.whole ∷ [];
+    cut = record { joined = refl; filled = refl };
+    few = lit≤ tt;
+    together = tt;
+    more = tt;
+  };
+  base_matches = tt;
+  same_zone = record { apex = refl; class = refl };
+  room = lit< tt;
+}
+
+pub whole_fits : Fits (grants.asks Axfr rows.empty_zone) grants.key 1000 (grants.offered Axfr rows.empty_zone)
 whole_fits = whole_fits_with []
 
-pub changes_fit : Fits (grants.asks Ixfr rows.history_1) 1300 (grants.offered Ixfr rows.history_1)
+pub changes_fit : Fits (grants.asks Ixfr rows.history_1) grants.key 1300 (grants.offered Ixfr rows.history_1)
 changes_fit = record {
-  one_key = is_key;
+  client_signs = signs;
+  server_signs = signs;
+  one_key = one_key;
   close_moments = record { primary = lit< tt; secondary = lit< tt; near = lit≤ tt };
   one_soa = record { history = rows.history_1 ∷ rows.history_2 ∷ rows.history_3 ∷ []; told = record { ends = refl; tells = refl; newer = refl; distinct = refl }; each = (first, (second, (third, tt))) };
   records_fit = record {
@@ -88,9 +129,11 @@ changes_fit = record {
   room = lit< tt;
 }
 
-pub caught_up_fits : Fits (grants.asks Ixfr rows.history_3) 700 (grants.offered Ixfr rows.history_3)
+pub caught_up_fits : Fits (grants.asks Ixfr rows.history_3) grants.key 700 (grants.offered Ixfr rows.history_3)
 caught_up_fits = record {
-  one_key = is_key;
+  client_signs = signs;
+  server_signs = signs;
+  one_key = one_key;
   close_moments = record { primary = lit< tt; secondary = lit< tt; near = lit≤ tt };
   one_soa = record { history = rows.history_3 ∷ []; told = record { ends = refl; tells = refl; newer = refl; distinct = refl }; each = (third, tt) };
   records_fit = record {
@@ -124,6 +167,15 @@ short_signature = lit≤ tt
 
 within : (mode : Mode) (base : Version) → length (message_wire (request_message (grants.asks mode base))) ≤ 1000 → length (asked_octets (grants.asks mode base)) ≤ min 65535 65535
 within mode base short = omega (arith, asked_length (grants.asks mode base) refl, short, short_signature)
+
+short_half : length (message_wire (request_message grants.half_asks)) ≤ 1000
+short_half = lit≤ tt
+
+short_half_signature : compose_len grants.half_key ≤ 1000
+short_half_signature = lit≤ tt
+
+pub half_short : length (asked_octets grants.half_asks) ≤ min 65535 65535
+half_short = omega (arith, asked_length grants.half_asks refl, short_half, short_half_signature)
 
 pub whole_short : length (asked_octets (grants.asks Axfr rows.empty_zone)) ≤ min 65535 65535
 whole_short = within Axfr rows.empty_zone short_whole

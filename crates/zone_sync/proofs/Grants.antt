@@ -13,16 +13,16 @@ use Rattle.tsig_port.specs.Tsig.{TsigKey, compose_len}
 use Rattle.tsig_port.specs.ServerCheck.{Keys, verdict}
 use Rattle.tsig_port.specs.ServerCheck.Verdict.{Accepted}
 use Rattle.tsig_port.specs.Keys.{same_algorithm, own_key}
+use Rattle.tsig_port.specs.OneKey.{AreOneKey}
 use Rattle.tsig_port.specs.Checked.{taken_message}
 use Rattle.tsig_keys.specs.declared.algorithms.Algorithm.{Algorithm}
 use Rattle.tsig_keys.specs.declared.algorithms.Algorithm.TheVariants.{Sha1, Sha256, Sha384, Sha512}
-use Rattle.tsig_port.proofs.SignedExchange.{request_accepted}
+use Rattle.tsig_port.proofs.OneKeys.{one_name, one_accepted}
 use Rattle.dns_rdata.specs.Soa.{serial_of}
 use Rattle.zone_model.specs.Version.{has_one_apex_soa, apex_soa}
 use Rattle.zone_model.specs.Difference.{zone_serial}
 use Rattle.zone_model.specs.TransferText.{Mode, Axfr, Ixfr, OnIxfr}
 use Rattle.zone_model.specs.Offer.{Offer, Provider, IsCutInto, is_granted, offer_of, text_of}
-use Rattle.zone_model.proofs.Folded.{same_name-Decides}
 use Rattle.xfr_model.specs.Messages.{HaveData}
 use Rattle.xfr_replies.specs.TransferPages.{page_room}
 use Rattle.xfr_server.specs.GrantedTransfers.{IsGrantedTransfer}
@@ -43,15 +43,15 @@ use Rattle.zone_sync.proofs.HonestRequests.{kind_of, mode_again}
 use Rattle.zone_sync.proofs.HonestRequests as requests
 use Rattle.zone_sync.proofs.HonestReplies.{published, one_apex_soa, apex_is_name, small_class, room_is}
 
-module _ (a : Asking) (at : ℕ) (offer : Offer) (f : Fits a at offer) where
+module _ (a : Asking) (server : TsigKey) (at : ℕ) (offer : Offer) (f : Fits a server at offer) where
   near : abs_diff a.at at ≤ 300
   near = let n = f.close_moments.near in omega (arith, n)
 
   abbrev name : is_name a.base.version.apex ≡ true
-  name = apex_is_name a at offer f
+  name = apex_is_name a server at offer f
 
   abbrev class : a.base.version.class < 2 ^ 16
-  class = small_class a at offer f
+  class = small_class a server at offer f
 
   abbrev soa : AllByRecursion IsRecord (asked_authority a)
   soa = f.records_fit.asked
@@ -59,21 +59,21 @@ module _ (a : Asking) (at : ℕ) (offer : Offer) (f : Fits a at offer) where
   abbrev pieces : HaveData (asked_authority a)
   pieces = f.records_fit.asked_data
 
-  pub accepted : (keys : Keys) → keys (fold a.key.name) a.key.algorithm ≡ Some a.key → verdict keys at (asked_octets a) ≡ Accepted a.key
+  pub accepted : (keys : Keys) → keys (fold a.key.name) a.key.algorithm ≡ Some server → verdict keys at (asked_octets a) ≡ Accepted server
   accepted keys known =
       ap (verdict keys at) (sym (octets_are a))
-      ∙ request_accepted a.key keys (request_message a) a.at at 300 f.one_key f.close_moments.secondary (lit< tt) near
-      (requests.can_sign a f.one_key f.close_moments.secondary name class soa pieces) known
+      ∙ one_accepted a.key server keys (request_message a) a.at at 300 f.client_signs f.one_key f.close_moments.secondary (lit< tt) near
+      (requests.can_sign a f.client_signs f.close_moments.secondary name class soa pieces) known
 
   pub asks : transfer_mode (taken_message (asked_octets a)) ≡ Some (kind_of a.mode)
-  asks = requests.taken_mode a f.one_key f.close_moments.secondary name class soa pieces
+  asks = requests.taken_mode a f.client_signs f.close_moments.secondary name class soa pieces
 
   pub question : sole_question_in (taken_message (asked_octets a)) ≡ Some (asked_question a)
-  question = requests.taken_question a f.one_key f.close_moments.secondary name class soa pieces
+  question = requests.taken_question a f.client_signs f.close_moments.secondary name class soa pieces
 
   -- the serial that an incremental request names is that of the base's apex SOA
   pub names : OnIxfr a.mode (asked_serial (taken_message (asked_octets a)) ≡ Some (zone_serial a.base.version))
-  names = requests.taken_serial a f.one_key f.close_moments.secondary name class soa pieces (on_one a.mode f.base_matches)
+  names = requests.taken_serial a f.client_signs f.close_moments.secondary name class soa pieces (on_one a.mode f.base_matches)
     where
       on_one : (m : Mode) → OnIxfr m (BaseMatches a.base.version offer f.one_soa.history) → OnIxfr m (has_one_apex_soa a.base.version ≡ true)
       on_one Axfr b = tt
@@ -87,8 +87,12 @@ module _ (a : Asking) (at : ℕ) (offer : Offer) (f : Fits a at offer) where
   named = by a.mode refl names
     where
       by : (m : Mode) → a.mode ≡ m → OnIxfr m (asked_serial (taken_message (asked_octets a)) ≡ Some (zone_serial a.base.version)) → unwrap_or (asked_serial (taken_message (asked_octets a))) 0 ≡ unwrap_or (so_far.told_serial m a.base.version) 0
-      by Axfr e n = ap (λ o. unwrap_or o 0) (requests.taken_none a f.one_key f.close_moments.secondary name class soa pieces e)
+      by Axfr e n = ap (λ o. unwrap_or o 0) (requests.taken_none a f.client_signs f.close_moments.secondary name class soa pieces e)
       by Ixfr e n = ap (λ o. unwrap_or o 0) n ∙ own_serial (apex_soa a.base.version)
+
+-- the primary has its key under the key's own name and algorithm too
+known_again : (keys : Keys) (client server : TsigKey) → AreOneKey client server → keys (fold client.name) client.algorithm ≡ Some server → keys (fold server.name) server.algorithm ≡ Some server
+known_again keys client server one known = ap (λ n. keys n server.algorithm) (sym (one_name client server one)) ∙ ap (λ x. keys (fold client.name) x) (sym one.algorithm) ∙ known
 
 -- both sides mean the same by a mode
 pub cut_served : (offer : Offer) (n room : ℕ) (pages : List (List Record)) (mode : Mode) → IsCutInto room (in_singles mode offer.compatibility) (text_of offer mode n) pages
@@ -97,23 +101,23 @@ cut_served offer n room pages Axfr c = c
 cut_served offer n room pages Ixfr c = c
 
 -- such a primary grants the request
-abbrev pub granted : {K : Type 0} (the_key : K → TsigKey) (keys : Keys) (told : List ℕ → Option K → Option ℕ → Result Offer XfrDataProviderError) (a : Asking) (at : ℕ) (offer : Offer)
-    → Offers the_key keys told a offer → Fits a at offer → IsGrantedTransfer the_key keys told (request_at (asked_octets a) at) a.key (kind_of a.mode) (zone_serial a.base.version) offer
-granted the_key keys told a at offer o f =
+abbrev pub granted : {K : Type 0} (the_key : K → TsigKey) (keys : Keys) (told : List ℕ → Option K → Option ℕ → Result Offer XfrDataProviderError) (a : Asking) (server : TsigKey) (at : ℕ) (offer : Offer)
+    → Offers the_key keys told a server offer → Fits a server at offer → IsGrantedTransfer the_key keys told (request_at (asked_octets a) at) server (kind_of a.mode) (zone_serial a.base.version) offer
+granted the_key keys told a server at offer o f =
     record {
-      accepted = accepted a at offer f keys o.known;
-      known = o.known;
-      macs = f.one_key.signing;
-      asks = asks a at offer f;
-      names = subst (λ m. OnIxfr m (asked_serial (taken_message (asked_octets a)) ≡ Some (zone_serial a.base.version))) (sym (mode_again a.mode)) (names a at offer f);
+      accepted = accepted a server at offer f keys o.known;
+      known = known_again keys a.key server f.one_key o.known;
+      macs = f.server_signs.signing;
+      asks = asks a server at offer f;
+      names = subst (λ m. OnIxfr m (asked_serial (taken_message (asked_octets a)) ≡ Some (zone_serial a.base.version))) (sym (mode_again a.mode)) (names a server at offer f);
       stream = refl;
       fresh = refl;
       granted = o.offered;
-      apex = ap (λ (q : Option Question). asks_for_apex q offer.version) (question a at offer f) ∙ (published a at offer f).same_apex;
-      one_soa = one_apex_soa a at offer f;
+      apex = ap (λ (q : Option Question). asks_for_apex q offer.version) (question a server at offer f) ∙ (published a server at offer f).same_apex;
+      one_soa = one_apex_soa a server at offer f;
       pages = f.records_fit.pages;
-      cut = cut_served offer (zone_serial a.base.version) (page_room (taken_message (asked_octets a)) (65535 - compose_len a.key)) f.records_fit.pages a.mode
-          (subst (λ n. IsCutInto n (in_singles a.mode offer.compatibility) (sent_text a offer) f.records_fit.pages) (sym (room_is a at offer f)) f.records_fit.cut);
+      cut = cut_served offer (zone_serial a.base.version) (page_room (taken_message (asked_octets a)) (65535 - compose_len server)) f.records_fit.pages a.mode
+          (subst (λ n. IsCutInto n (in_singles a.mode offer.compatibility) (sent_text a offer) f.records_fit.pages) (sym (room_is a server at offer f)) f.records_fit.cut);
     }
 
 -- ---- a store of one key, and a provider that keeps one version
@@ -124,14 +128,14 @@ own_algorithm Sha256 = refl
 own_algorithm Sha384 = refl
 own_algorithm Sha512 = refl
 
-own_known : (key : TsigKey) → own_key key (fold key.name) key.algorithm ≡ Some key
-own_known key = rw (own_algorithm key.algorithm, (same_name-Decides key.name key.name).1 refl) refl
+own_known : (client server : TsigKey) → AreOneKey client server → own_key server (fold client.name) client.algorithm ≡ Some server
+own_known client server one = rw (one.algorithm, own_algorithm server.algorithm, one.name) refl
 
 -- what the provider tells one who signs with a key
 abbrev pub kept_told : Provider → List ℕ → Option TsigKey → Option ℕ → Result Offer XfrDataProviderError
 kept_told p message key asked = answer_to p (sole_question_in message) (option_map key_id key) asked
 
-module _ (a : Asking) (at : ℕ) (p : Provider) (f : Fits a at (history_offer p a)) where
+module _ (a : Asking) (server : TsigKey) (at : ℕ) (p : Provider) (f : Fits a server at (history_offer p a)) where
   same_class : (a.base.version.class == p.kept.class) ≡ true
   same_class = eq-eqb _ _ f.same_zone.class
 
@@ -142,15 +146,15 @@ module _ (a : Asking) (at : ℕ) (p : Provider) (f : Fits a at (history_offer p 
       → answer_to p (sole_question_in (taken_message (asked_octets a))) (Some (key_id key)) (asked_serial (taken_message (asked_octets a))) ≡ Ok (history_offer p a)
   kept_offered key grants =
       let serial = asked_serial (taken_message (asked_octets a)) in
-      ap (λ o. answer_to p o (Some (key_id key)) serial) (question a at (history_offer p a) f)
+      ap (λ o. answer_to p o (Some (key_id key)) serial) (question a server at (history_offer p a) f)
       ∙ history_grants p (asked_question a) (key_id key) serial kept_asked grants
-      ∙ ap (λ n. Ok (offer_of p.kept p.differences p.compatibility n)) (named a at (history_offer p a) f)
+      ∙ ap (λ n. Ok (offer_of p.kept p.differences p.compatibility n)) (named a server at (history_offer p a) f)
 
-pub history_offers : (p : Provider) (key : TsigKey) (a : Asking) (at : ℕ) → a.key ≡ key → is_granted p.grants (Some (key_id key)) ≡ true → Fits a at (history_offer p a)
-    → Offers (λ (k : TsigKey). k) (own_key key) (kept_told p) a (history_offer p a)
-history_offers p key a at is grants f = record {
-  known = ap (λ k. own_key k (fold a.key.name) a.key.algorithm) (sym is) ∙ own_known a.key;
+pub history_offers : (p : Provider) (server : TsigKey) (a : Asking) (at : ℕ) → is_granted p.grants (Some (key_id server)) ≡ true → Fits a server at (history_offer p a)
+    → Offers (λ (k : TsigKey). k) (own_key server) (kept_told p) a server (history_offer p a)
+history_offers p server a at grants f = record {
+  known = own_known a.key server f.one_key;
   offered = λ k e.
-      ap (λ x. answer_to p (sole_question_in (taken_message (asked_octets a))) (Some (key_id x)) (asked_serial (taken_message (asked_octets a)))) (e ∙ is)
-      ∙ kept_offered a at p f key grants;
+      ap (λ x. answer_to p (sole_question_in (taken_message (asked_octets a))) (Some (key_id x)) (asked_serial (taken_message (asked_octets a)))) e
+      ∙ kept_offered a server at p f server grants;
 }

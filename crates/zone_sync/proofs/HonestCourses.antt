@@ -9,7 +9,7 @@ use Rattle.dns_name.specs.Names.{Name, is_name}
 use Rattle.dns_numbers.specs.Serial.{serial_lt}
 use Rattle.dns_rdata.specs.Records.{Record}
 use Rattle.dns_wire.specs.Wire.{Question, id_in}
-use Rattle.tsig_port.specs.Tsig.{compose_len}
+use Rattle.tsig_port.specs.Tsig.{TsigKey, compose_len}
 use Rattle.zone_model.specs.Version.{Version, has_one_soa, has_one_apex_soa}
 use Rattle.zone_model.specs.Difference.{zone_serial}
 use Rattle.zone_model.specs.TransferText.{Mode, Axfr, Ixfr, OnIxfr}
@@ -60,8 +60,8 @@ both b c h k = rw (h, k) refl
 
 -- ---- the two ends, so far as the course depends on them
 
-abbrev pub ends : Asking → ℕ → Offer → List Version → Ends
-ends a at offer history = record {
+abbrev pub ends : Asking → TsigKey → ℕ → Offer → List Version → Ends
+ends a server at offer history = record {
   offer = told_offer a.mode offer;
   history = history;
   mode = a.mode;
@@ -70,9 +70,9 @@ ends a at offer history = record {
   question = asked_question a;
   request_len = 0;
   max_len = 0;
-  signature_len = compose_len a.key;
-  primary_signs = a.key.signing_len;
-  primary_wants = a.key.min_mac_len;
+  signature_len = compose_len server;
+  primary_signs = server.signing_len;
+  primary_wants = server.min_mac_len;
   secondary_signs = a.key.signing_len;
   secondary_wants = a.key.min_mac_len;
   at_primary = at;
@@ -88,9 +88,9 @@ same_text : (offer : Offer) (m : Mode) (n : ℕ) → text_of (told_offer m offer
 same_text offer Axfr n = refl
 same_text offer Ixfr n = refl
 
-module _ (a : Asking) (at : ℕ) (offer : Offer) (f : Fits a at offer) where
+module _ (a : Asking) (server : TsigKey) (at : ℕ) (offer : Offer) (f : Fits a server at offer) where
   abbrev e : Ends
-  e = ends a at offer f.one_soa.history
+  e = ends a server at offer f.one_soa.history
 
   abbrev text : List Record
   text = sent_text a offer
@@ -108,13 +108,13 @@ module _ (a : Asking) (at : ℕ) (offer : Offer) (f : Fits a at offer) where
   q = asked_question a
 
   abbrev request : List ℕ
-  request = replies.request a at offer f
+  request = replies.request a server at offer f
 
   abbrev name : is_name a.base.version.apex ≡ true
-  name = replies.apex_is_name a at offer f
+  name = replies.apex_is_name a server at offer f
 
   abbrev class : a.base.version.class < 2 ^ 16
-  class = replies.small_class a at offer f
+  class = replies.small_class a server at offer f
 
   same : text_of e.offer a.mode (zone_serial a.base.version) ≡ text
   same = same_text offer a.mode (zone_serial a.base.version)
@@ -125,15 +125,15 @@ module _ (a : Asking) (at : ℕ) (offer : Offer) (f : Fits a at offer) where
   granting : IsGranting e
   granting = record {
     offered = f.one_soa.told;
-    primary_accepts = f.one_key.taken;
-    secondary_accepts = f.one_key.taken;
+    primary_accepts = f.one_key.client_taken;
+    secondary_accepts = f.one_key.server_taken;
     primary_clock = omega (arith, near);
     secondary_clock = omega (arith, near);
     one_soa = all_one_soa a.base.version.apex f.one_soa.history f.one_soa.each;
     pages = pages;
-    cut = subst (λ (l : List Record). IsCutInto (answer_room a) singles l pages) (sym same) f.records_fit.cut;
+    cut = subst (λ (l : List Record). IsCutInto (answer_room a server) singles l pages) (sym same) f.records_fit.cut;
     few = f.records_fit.few;
-    together = subst (λ (l : List Record). OnIxfr a.mode (IsTrue (begins_together (answer_room a) l && has_more l))) (sym same) (on_both a.mode (both (begins_together (answer_room a) text) (has_more text)) f.records_fit.together f.records_fit.more);
+    together = subst (λ (l : List Record). OnIxfr a.mode (IsTrue (begins_together (answer_room a server) l && has_more l))) (sym same) (on_both a.mode (both (begins_together (answer_room a server) text) (has_more text)) f.records_fit.together f.records_fit.more);
     asks = on_map a.mode (λ (m : BaseMatches a.base.version offer f.one_soa.history). both (has_one_apex_soa a.base.version) (not (serial_lt (zone_serial offer.version) (zone_serial a.base.version))) m.one_apex_soa m.not_ahead) f.base_matches;
     caught_up = on_map a.mode (λ (m : BaseMatches a.base.version offer f.one_soa.history). m.caught_up) f.base_matches;
     starts = on_map a.mode (λ (m : BaseMatches a.base.version offer f.one_soa.history). m.starts) f.base_matches;
@@ -146,9 +146,9 @@ module _ (a : Asking) (at : ℕ) (offer : Offer) (f : Fits a at offer) where
   -- ---- what the messages carry
 
   taken_id : id_in request ≡ id
-  taken_id = requests.taken_id a f.one_key f.close_moments.secondary name class f.records_fit.asked f.records_fit.asked_data
+  taken_id = requests.taken_id a f.client_signs f.close_moments.secondary name class f.records_fit.asked f.records_fit.asked_data
 
-  carry_later : (pages : List (List Record)) → AllByRecursion (IsPage (answer_room a)) pages → AllByRecursion (λ page. request_fault (id_in request) q false (read_of (page_answer request page)) ≡ None) pages
+  carry_later : (pages : List (List Record)) → AllByRecursion (IsPage (answer_room a server)) pages → AllByRecursion (λ page. request_fault (id_in request) q false (read_of (page_answer request page)) ≡ None) pages
       → AllByRecursion (Carries (request_fault id q) false) (map carrier_of (page_answers a pages))
   carry_later [] each sound = tt
   carry_later (page ∷ more) each sound =
@@ -161,38 +161,38 @@ module _ (a : Asking) (at : ℕ) (offer : Offer) (f : Fits a at offer) where
   -- ---- the course of all of them
 
   abbrev w : List (List ℕ)
-  w = sent_pages a at pages
+  w = sent_pages a server at pages
 
   few_sent : length w ≤ most_replies
-  few_sent = omega (arith, replies.sends_each a at pages, f.records_fit.few)
+  few_sent = omega (arith, replies.sends_each a server at pages, f.records_fit.few)
 
   passed : Passed (fault_so_far a) w
-  passed = replies.front_passed a at offer f w [] (sym (append-nil w))
+  passed = replies.front_passed a server at offer f w [] (sym (append-nil w))
 
   course_is : (gave : Outcome) → course_so_far a w gave ≡ sent_course e id (map carrier_of (page_answers a pages)) (stop_after gave w None)
   course_is gave =
       let stop = stop_after gave w None in
-      passed_course a w gave passed few_sent ∙ ap (λ ks. asked_course a ks stop) (replies.sent_checked a at offer f)
+      passed_course a w gave passed few_sent ∙ ap (λ ks. asked_course a ks stop) (replies.sent_checked a server at offer f)
 
   -- the second record comes in the first message
-  first_page : (page : List Record) (more : List (List Record)) → IsCutInto (answer_room a) singles text (page ∷ more) → OnIxfr a.mode (IsTrue (nat_le (length text) 1 || nat_le 2 (length page)))
+  first_page : (page : List Record) (more : List (List Record)) → IsCutInto (answer_room a server) singles text (page ∷ more) → OnIxfr a.mode (IsTrue (nat_le (length text) 1 || nat_le 2 (length page)))
   first_page page more cut = by a.mode (in_singles a.mode offer.compatibility) refl cut f.records_fit.together
     where
-      by : (m : Mode) (s : Bool) → in_singles m offer.compatibility ≡ s → IsCutInto (answer_room a) s text (page ∷ more) → OnIxfr m (IsTrue (begins_together (answer_room a) text)) → OnIxfr m (IsTrue (nat_le (length text) 1 || nat_le 2 (length page)))
+      by : (m : Mode) (s : Bool) → in_singles m offer.compatibility ≡ s → IsCutInto (answer_room a server) s text (page ∷ more) → OnIxfr m (IsTrue (begins_together (answer_room a server) text)) → OnIxfr m (IsTrue (nat_le (length text) 1 || nat_le 2 (length page)))
       by Axfr s is c h = tt
       by Ixfr true is c h = absurd (true≢false (sym is))
-      by Ixfr false is c h = replies.two_together (answer_room a) text page more c h
+      by Ixfr false is c h = replies.two_together (answer_room a server) text page more c h
 
-  carried : (pages : List (List Record)) (stop : Outcome) → IsCutInto (answer_room a) singles text pages → Succeeds (sent_course e id (map carrier_of (page_answers a pages)) stop) offer.version
-  carried [] stop cut = absurd (cc (cut.joined ∙ (replies.begins a at offer f).is))
+  carried : (pages : List (List Record)) (stop : Outcome) → IsCutInto (answer_room a server) singles text pages → Succeeds (sent_course e id (map carrier_of (page_answers a pages)) stop) offer.version
+  carried [] stop cut = absurd (cc (cut.joined ∙ (replies.begins a server at offer f).is))
   carried (page ∷ more) stop cut =
       let soa = f.records_fit.asked in
       let pieces = f.records_fit.asked_data in
       let early = f.close_moments.secondary in
-      let begins = replies.begins a at offer f in
+      let begins = replies.begins a server at offer f in
       let begun : begins_with_soa text ≡ true = ap begins_with_soa begins.is ∙ begins.typed in
-      let taken = whole_is_taken request q (kind_of a.mode) text (answer_room a) singles page more (requests.taken_mode a f.one_key early name class soa pieces) (requests.taken_question a f.one_key early name class soa pieces) begun cut in
-      let each = each_page (answer_room a) singles (page ∷ more) cut.filled in
+      let taken = whole_is_taken request q (kind_of a.mode) text (answer_room a server) singles page more (requests.taken_mode a f.client_signs early name class soa pieces) (requests.taken_question a f.client_signs early name class soa pieces) begun cut in
+      let each = each_page (answer_room a server) singles (page ∷ more) cut.filled in
       let carry : CarrySent e id (carrier_of (page_answer request page)) (map carrier_of (page_answers a more)) = record {
         first = record { sound = ap (λ n. request_fault n q true (read_of (page_answer request page))) (sym taken_id) ∙ taken.0; answers = refl; full = is_full (length page) each.0.0 };
         later = carry_later more each.1 taken.1;
@@ -206,7 +206,7 @@ module _ (a : Asking) (at : ℕ) (offer : Offer) (f : Fits a at offer) where
 
 -- the law of granted transfers
 pub granted_succeed : GrantedSucceed
-granted_succeed a at offer gave f = succeeds a at offer f gave
+granted_succeed a server at offer gave f = succeeds a server at offer f gave
 
 -- ---- a first part of what was sent
 
@@ -223,19 +223,19 @@ same_how : (x y : Outcome) → x ≡ y → (y ≡ Updated) ⊎ (y ≡ UpToDate) 
 same_how x y e (inl h) = inl (e ∙ h)
 same_how x y e (inr h) = inr (e ∙ h)
 
-module _ (a : Asking) (at : ℕ) (offer : Offer) (f : Fits a at offer) (gave : Outcome) where
+module _ (a : Asking) (server : TsigKey) (at : ℕ) (offer : Offer) (f : Fits a server at offer) (gave : Outcome) where
   abbrev v : Version
   v = offer.version
 
   abbrev all : List (List ℕ)
-  all = sent_pages a at f.records_fit.pages
+  all = sent_pages a server at f.records_fit.pages
 
   -- it passed
   passes : (xs rest : List (List ℕ)) → all ≡ xs ++ rest → Passed (fault_so_far a) xs
-  passes xs rest joined = replies.front_passed a at offer f xs rest joined
+  passes xs rest joined = replies.front_passed a server at offer f xs rest joined
 
   few : (xs rest : List (List ℕ)) → all ≡ xs ++ rest → length xs + length rest ≤ most_replies
-  few xs rest joined = omega (arith, replies.sends_each a at f.records_fit.pages, f.records_fit.few, ap length joined, length-append xs rest)
+  few xs rest joined = omega (arith, replies.sends_each a server at f.records_fit.pages, f.records_fit.few, ap length joined, length-append xs rest)
 
   abbrev checked_course : List (List ℕ) → Outcome → Course
   checked_course xs stop = asked_course a (map checked_so_far xs) stop
@@ -247,7 +247,7 @@ module _ (a : Asking) (at : ℕ) (offer : Offer) (f : Fits a at offer) (gave : O
   all_is xs rest joined =
       let none = sym (append-nil (xs ++ rest)) in
       subst (λ (k : Course). Succeeds k v)
-      (ap (λ l. course_so_far a l gave) joined ∙ front_is (xs ++ rest) [] (joined ∙ none) ∙ ap (λ ks. asked_course a ks (stop_after gave (xs ++ rest) None)) (map-append checked_so_far xs rest)) (succeeds a at offer f gave)
+      (ap (λ l. course_so_far a l gave) joined ∙ front_is (xs ++ rest) [] (joined ∙ none) ∙ ap (λ ks. asked_course a ks (stop_after gave (xs ++ rest) None)) (map-append checked_so_far xs rest)) (succeeds a server at offer f gave)
 
   -- it met the outcome of all
   has_met : (xs rest : List (List ℕ)) (o : Outcome) → all ≡ xs ++ rest → (client_so_far a xs).met ≡ Some o → Succeeds (course_so_far a xs gave) v
@@ -282,5 +282,5 @@ module _ (a : Asking) (at : ℕ) (offer : Offer) (f : Fits a at offer) (gave : O
     where
       by : (more : List (List ℕ)) (m : Option Outcome) → all ≡ xs ++ more → (client_so_far a xs).met ≡ m → IsPart a v xs more gave
       by more (Some o) j h = inl (has_met xs more o j h)
-      by [] None j h = inl (subst (λ (l : List (List ℕ)). Succeeds (course_so_far a l gave) v) (j ∙ append-nil xs) (succeeds a at offer f gave))
+      by [] None j h = inl (subst (λ (l : List (List ℕ)). Succeeds (course_so_far a l gave) v) (j ∙ append-nil xs) (succeeds a server at offer f gave))
       by (r ∷ more) None j h = inr (waits xs r more j h)

@@ -18,7 +18,7 @@ use Rattle.dns_wire.specs.Written.{IsMessage, IsRecord}
 use Rattle.tsig_port.specs.Tsig.{TsigKey, compose_len, mac_in, tsig_record, answer_tsig, signed_answer, signed_from}
 use Rattle.tsig_port.specs.Checked.{answer_fault, taken_message, prior_mac}
 use Rattle.tsig_port.specs.Signing.{CanSign}
-use Rattle.tsig_port.proofs.SignedAnswers as answers
+use Rattle.tsig_port.proofs.OneKeys.{one_passes, answer_then, answer_left}
 use Rattle.zone_model.specs.Version.{Version, has_one_apex_soa}
 use Rattle.zone_model.specs.Answer.{apex_soa_record}
 use Rattle.zone_model.specs.Walk.{records_of_version}
@@ -189,31 +189,31 @@ last_of apex v [] e all = absurd (true≢false (sym (ap is_some e)))
 last_of apex v (w ∷ more) e all = last_published (IsPublished apex) w more v e all
 
 -- the offered version may be published
-pub published : (a : Asking) (at : ℕ) (offer : Offer) → Fits a at offer → IsPublished a.base.version.apex offer.version
-published a at offer f = last_of a.base.version.apex offer.version f.one_soa.history f.one_soa.told.ends f.one_soa.each
+pub published : (a : Asking) (server : TsigKey) (at : ℕ) (offer : Offer) → Fits a server at offer → IsPublished a.base.version.apex offer.version
+published a server at offer f = last_of a.base.version.apex offer.version f.one_soa.history f.one_soa.told.ends f.one_soa.each
 
-pub one_apex_soa : (a : Asking) (at : ℕ) (offer : Offer) → Fits a at offer → has_one_apex_soa offer.version ≡ true
-one_apex_soa a at offer f = first_so (has_one_apex_soa offer.version) _ (published a at offer f).one_soa
+pub one_apex_soa : (a : Asking) (server : TsigKey) (at : ℕ) (offer : Offer) → Fits a server at offer → has_one_apex_soa offer.version ≡ true
+one_apex_soa a server at offer f = first_so (has_one_apex_soa offer.version) _ (published a server at offer f).one_soa
 
-pub begins : (a : Asking) (at : ℕ) (offer : Offer) → Fits a at offer → Begins offer.version (sent_text a offer)
-begins a at offer f = text_begins offer a.mode (zone_serial a.base.version) (one_apex_soa a at offer f)
+pub begins : (a : Asking) (server : TsigKey) (at : ℕ) (offer : Offer) → Fits a server at offer → Begins offer.version (sent_text a offer)
+begins a server at offer f = text_begins offer a.mode (zone_serial a.base.version) (one_apex_soa a server at offer f)
 
 -- the SOA record has a wire form, and so has the question
-soa_is_record : (a : Asking) (at : ℕ) (offer : Offer) (f : Fits a at offer) → IsRecord (begins a at offer f).soa
-soa_is_record a at offer f =
-    let b = begins a at offer f in
+soa_is_record : (a : Asking) (server : TsigKey) (at : ℕ) (offer : Offer) (f : Fits a server at offer) → IsRecord (begins a server at offer f).soa
+soa_is_record a server at offer f =
+    let b = begins a server at offer f in
     let all : AllByRecursion IsRecord (b.soa ∷ b.rest) = subst (AllByRecursion IsRecord) b.is f.records_fit.sent in
     all.0
 
-pub apex_is_name : (a : Asking) (at : ℕ) (offer : Offer) → Fits a at offer → is_name a.base.version.apex ≡ true
-apex_is_name a at offer f =
-    same_is_name offer.version.apex a.base.version.apex (published a at offer f).same_apex (subst (λ n. is_name n ≡ true) (begins a at offer f).owned (soa_is_record a at offer f).owner)
+pub apex_is_name : (a : Asking) (server : TsigKey) (at : ℕ) (offer : Offer) → Fits a server at offer → is_name a.base.version.apex ≡ true
+apex_is_name a server at offer f =
+    same_is_name offer.version.apex a.base.version.apex (published a server at offer f).same_apex (subst (λ n. is_name n ≡ true) (begins a server at offer f).owned (soa_is_record a server at offer f).owner)
 
-pub small_class : (a : Asking) (at : ℕ) (offer : Offer) → Fits a at offer → a.base.version.class < 2 ^ 16
-small_class a at offer f =
+pub small_class : (a : Asking) (server : TsigKey) (at : ℕ) (offer : Offer) → Fits a server at offer → a.base.version.class < 2 ^ 16
+small_class a server at offer f =
     let same = f.same_zone.class in
-    let classed = (begins a at offer f).classed in
-    let small = (soa_is_record a at offer f).class in
+    let classed = (begins a server at offer f).classed in
+    let small = (soa_is_record a server at offer f).class in
     omega (arith, same, classed, small)
 
 -- ---- what is sent
@@ -224,9 +224,9 @@ as_many key mac at fudge prior [] = refl
 as_many key mac at fudge prior (m ∷ ms) = ap suc (as_many key mac at fudge (Some (answer_tsig key mac prior m at fudge).mac) ms)
 
 pub sends_each : SendsEach
-sends_each a at pages =
+sends_each a server at pages =
     let ms = page_answers a pages in
-    as_many a.key (mac_in (asked_octets a)) at 300 None (map message_wire ms) ∙ length-map ms message_wire ∙ length-map pages (page_answer (taken_message (asked_octets a)))
+    as_many server (mac_in (asked_octets a)) at 300 None (map message_wire ms) ∙ length-map ms message_wire ∙ length-map pages (page_answer (taken_message (asked_octets a)))
 
 pub signed_header : (key : TsigKey) (mac : List ℕ) (prior : Option (List ℕ)) (m : Message) (at fudge : ℕ) → has_header (signed_answer key mac prior (message_wire m) at fudge) ≡ true
 signed_header key mac prior m at fudge =
@@ -236,12 +236,12 @@ signed_header key mac prior m at fudge =
 
 -- ---- as it is taken
 
-module _ (a : Asking) (at : ℕ) (offer : Offer) (f : Fits a at offer) where
+module _ (a : Asking) (server : TsigKey) (at : ℕ) (offer : Offer) (f : Fits a server at offer) where
   abbrev name : is_name a.base.version.apex ≡ true
-  name = apex_is_name a at offer f
+  name = apex_is_name a server at offer f
 
   abbrev class : a.base.version.class < 2 ^ 16
-  class = small_class a at offer f
+  class = small_class a server at offer f
 
   abbrev soa : AllByRecursion IsRecord (asked_authority a)
   soa = f.records_fit.asked
@@ -262,7 +262,7 @@ module _ (a : Asking) (at : ℕ) (offer : Offer) (f : Fits a at offer) where
   h = axfr_header (header_in request)
 
   pub asked_alone : questions_in request ≡ q ∷ []
-  asked_alone = requests.taken_questions a f.one_key f.close_moments.secondary name class soa pieces
+  asked_alone = requests.taken_questions a f.client_signs f.close_moments.secondary name class soa pieces
 
   -- how long a page's message is
   asked_length : length (flat_map question_wire (questions_in request)) ≡ length (question_wire q)
@@ -271,27 +271,27 @@ module _ (a : Asking) (at : ℕ) (offer : Offer) (f : Fits a at offer) where
   pub page_length : (page : List Record) → length (message_wire (page_answer request page)) ≡ 12 + (length (question_wire q) + room_of page)
   page_length page = omega (arith, wire_length h (questions_in request) page, asked_length, length-flat_map record_wire page)
 
-  pub room_is : page_room request (65535 - compose_len a.key) ≡ answer_room a
+  pub room_is : page_room request (65535 - compose_len server) ≡ answer_room a server
   room_is = omega (arith, page_length [])
 
   -- so few records fit into one
-  few_records : (page : List Record) → IsPage (answer_room a) page → length page < 2 ^ 16
-  few_records page is = omega (arith, long_records page, leb-true (room_of page) (answer_room a) is.1)
+  few_records : (page : List Record) → IsPage (answer_room a server) page → length page < 2 ^ 16
+  few_records page is = omega (arith, long_records page, leb-true (room_of page) (answer_room a server) is.1)
 
-  page_is_message : (page : List Record) → IsPage (answer_room a) page → AllByRecursion IsRecord page → IsMessage (page_answer request page)
+  page_is_message : (page : List Record) → IsPage (answer_room a server) page → AllByRecursion IsRecord page → IsMessage (page_answer request page)
   page_is_message page is records =
-      transfer_is_message request (request_message a) page (requests.taken_header a f.one_key f.close_moments.secondary name class soa pieces) (requests.is_message a f.one_key f.close_moments.secondary name class soa pieces)
-      (requests.taken_parses a f.one_key f.close_moments.secondary name class soa pieces) records (few_records page is)
+      transfer_is_message request (request_message a) page (requests.taken_header a f.client_signs f.close_moments.secondary name class soa pieces) (requests.is_message a f.client_signs f.close_moments.secondary name class soa pieces)
+      (requests.taken_parses a f.client_signs f.close_moments.secondary name class soa pieces) records (few_records page is)
 
-  can_sign : (page : List Record) → IsPage (answer_room a) page → AllByRecursion IsRecord page → CanSign a.key (page_answer request page)
+  can_sign : (page : List Record) → IsPage (answer_room a server) page → AllByRecursion IsRecord page → CanSign server (page_answer request page)
   can_sign page is records = record {
     message = page_is_message page is records;
     unsigned = tt;
     count = lit< tt;
-    room = omega (arith, page_length page, long_records page, is.0, leb-true (room_of page) (answer_room a) is.1);
+    room = omega (arith, page_length page, long_records page, is.0, leb-true (room_of page) (answer_room a server) is.1);
   }
 
-  all_can_sign : (pages : List (List Record)) → AllByRecursion (IsPage (answer_room a)) pages → AllByRecursion (λ page. AllByRecursion IsRecord page) pages → AllByRecursion (CanSign a.key) (page_answers a pages)
+  all_can_sign : (pages : List (List Record)) → AllByRecursion (IsPage (answer_room a server)) pages → AllByRecursion (λ page. AllByRecursion IsRecord page) pages → AllByRecursion (CanSign server) (page_answers a pages)
   all_can_sign [] each records = tt
   all_can_sign (page ∷ more) each records = (can_sign page each.0 records.0, all_can_sign more each.1 records.1)
 
@@ -302,14 +302,14 @@ module _ (a : Asking) (at : ℕ) (offer : Offer) (f : Fits a at offer) where
   abbrev pub pages : List (List Record)
   pages = f.records_fit.pages
 
-  abbrev cut : IsCutInto (answer_room a) singles (sent_text a offer) pages
+  abbrev cut : IsCutInto (answer_room a server) singles (sent_text a offer) pages
   cut = f.records_fit.cut
 
-  pub signable : AllByRecursion (CanSign a.key) (page_answers a pages)
-  signable = all_can_sign pages (each_page (answer_room a) singles pages cut.filled) (in_pages IsRecord (answer_room a) singles (sent_text a offer) pages cut f.records_fit.sent)
+  pub signable : AllByRecursion (CanSign server) (page_answers a pages)
+  signable = all_can_sign pages (each_page (answer_room a server) singles pages cut.filled) (in_pages IsRecord (answer_room a server) singles (sent_text a offer) pages cut f.records_fit.sent)
 
   pub readable : AllByRecursion (λ (m : Message). HaveData m.answers) (page_answers a pages)
-  readable = all_have pages (in_pages (λ r. IsTrue (is_data r.rtype r.fields)) (answer_room a) singles (sent_text a offer) pages cut f.records_fit.sent_data)
+  readable = all_have pages (in_pages (λ r. IsTrue (is_data r.rtype r.fields)) (answer_room a server) singles (sent_text a offer) pages cut f.records_fit.sent_data)
 
   -- ---- in sequence
 
@@ -317,23 +317,23 @@ module _ (a : Asking) (at : ℕ) (offer : Offer) (f : Fits a at offer) where
   mac = mac_in (asked_octets a)
 
   abbrev pub signed : Option (List ℕ) → Message → List ℕ
-  signed prior m = signed_answer a.key mac prior (message_wire m) at 300
+  signed prior m = signed_answer server mac prior (message_wire m) at 300
 
   abbrev next : Option (List ℕ) → Message → Option (List ℕ)
-  next prior m = Some (answer_tsig a.key mac prior (message_wire m) at 300).mac
+  next prior m = Some (answer_tsig server mac prior (message_wire m) at 300).mac
 
   abbrev pub sequence : Option (List ℕ) → List Message → List (List ℕ)
-  sequence prior ms = signed_from a.key mac at 300 prior (map message_wire ms)
+  sequence prior ms = signed_from server mac at 300 prior (map message_wire ms)
 
   -- each passes after those before it
-  faultless : (taken : List (List ℕ)) (prior : Option (List ℕ)) (m : Message) → CanSign a.key m → prior_mac taken ≡ prior → fault_so_far a taken (signed prior m) ≡ None
+  faultless : (taken : List (List ℕ)) (prior : Option (List ℕ)) (m : Message) → CanSign server m → prior_mac taken ≡ prior → fault_so_far a taken (signed prior m) ≡ None
   unfolding fault_so_far
   faultless taken prior m can is_prior =
-      ap (λ x. answer_fault a.key x a.at taken (signed prior m)) (sym (requests.mac_read_is a f.one_key f.close_moments.secondary name class soa pieces))
-      ∙ answers.passes a.key mac at a.at 300 f.one_key f.close_moments.primary (lit< tt) f.close_moments.near taken prior m can is_prior
+      ap (λ x. answer_fault a.key x a.at taken (signed prior m)) (sym (requests.mac_read_is a f.client_signs f.close_moments.secondary name class soa pieces))
+      ∙ one_passes a.key server f.one_key mac at a.at 300 f.server_signs f.close_moments.primary (lit< tt) f.close_moments.near taken prior m can is_prior
 
   -- .. and so do all of a first part
-  part_passed : (taken : List (List ℕ)) (prior : Option (List ℕ)) (ms : List Message) (xs rest : List (List ℕ)) → AllByRecursion (CanSign a.key) ms → prior_mac taken ≡ prior
+  part_passed : (taken : List (List ℕ)) (prior : Option (List ℕ)) (ms : List Message) (xs rest : List (List ℕ)) → AllByRecursion (CanSign server) ms → prior_mac taken ≡ prior
       → sequence prior ms ≡ xs ++ rest → Passed (fault_so_far a) taken → Passed (fault_so_far a) (taken ++ xs)
   unfolding signed_from
   part_passed taken prior ms [] rest can is_prior e p = subst (Passed (fault_so_far a)) (sym (append-nil taken)) p
@@ -342,24 +342,24 @@ module _ (a : Asking) (at : ℕ) (offer : Offer) (f : Fits a at offer) where
       let s = signed prior m in
       let first : s ≡ x = cc in
       let behind : sequence (next prior m) ms ≡ xs ++ rest = cc in
-      let one : Passed (fault_so_far a) (taken ++ s ∷ []) = one_passed (fault_so_far a) taken s p (faultless taken prior m can.0 is_prior) (signed_header a.key mac prior m at 300) in
-      let all = part_passed (taken ++ s ∷ []) (next prior m) ms xs rest can.1 (answers.prior_then a.key mac at a.at 300 f.one_key f.close_moments.primary (lit< tt) f.close_moments.near taken prior m can.0) behind one in
+      let one : Passed (fault_so_far a) (taken ++ s ∷ []) = one_passed (fault_so_far a) taken s p (faultless taken prior m can.0 is_prior) (signed_header server mac prior m at 300) in
+      let all = part_passed (taken ++ s ∷ []) (next prior m) ms xs rest can.1 (answer_then server f.server_signs m at 300 f.close_moments.primary (lit< tt) can.0 mac a.at f.close_moments.near prior taken) behind one in
       subst (Passed (fault_so_far a)) (append_assoc taken (s ∷ []) xs ∙ ap (λ y. taken ++ y ∷ xs) first) all
 
-  pub front_passed : (xs rest : List (List ℕ)) → sent_pages a at pages ≡ xs ++ rest → Passed (fault_so_far a) xs
+  pub front_passed : (xs rest : List (List ℕ)) → sent_pages a server at pages ≡ xs ++ rest → Passed (fault_so_far a) xs
   front_passed xs rest e = part_passed [] None (page_answers a pages) xs rest signable refl e (none_passed (fault_so_far a))
 
   -- each says what it was built of
-  checked_is : (prior : Option (List ℕ)) (m : Message) → CanSign a.key m → HaveData m.answers → checked_so_far (signed prior m) ≡ signed_checked (carrier_of m)
+  checked_is : (prior : Option (List ℕ)) (m : Message) → CanSign server m → HaveData m.answers → checked_so_far (signed prior m) ≡ signed_checked (carrier_of m)
   unfolding checked_so_far
   checked_is prior m can have =
       let w = signed prior m in
-      let r = record_wire (tsig_record a.key.name (answer_tsig a.key mac prior (message_wire m) at 300)) in
-      let taken : taken_message w ≡ message_wire m ++ r = answers.taken_is a.key mac at a.at 300 f.one_key f.close_moments.primary (lit< tt) f.close_moments.near prior m can in
+      let r = record_wire (tsig_record server.name (answer_tsig server mac prior (message_wire m) at 300)) in
+      let taken : taken_message w ≡ message_wire m ++ r = answer_left server f.server_signs m at 300 f.close_moments.primary (lit< tt) can mac a.at f.close_moments.near prior in
       let read : message_so_far (taken_message w) ≡ read_of m = ap message_so_far taken ∙ read_so_far (message_wire m ++ r) (read_of m) (built_is_read m r can.message have) in
       ap (λ x. record { message = x }) read
 
-  all_checked : (prior : Option (List ℕ)) (ms : List Message) → AllByRecursion (CanSign a.key) ms → AllByRecursion (λ (m : Message). HaveData m.answers) ms
+  all_checked : (prior : Option (List ℕ)) (ms : List Message) → AllByRecursion (CanSign server) ms → AllByRecursion (λ (m : Message). HaveData m.answers) ms
       → map checked_so_far (sequence prior ms) ≡ map signed_checked (map carrier_of ms)
   unfolding signed_from
   all_checked prior [] can have = refl
@@ -367,5 +367,5 @@ module _ (a : Asking) (at : ℕ) (offer : Offer) (f : Fits a at offer) where
       ap (λ (k : Checked). k ∷ map checked_so_far (sequence (next prior m) ms)) (checked_is prior m can.0 have.0)
       ∙ ap (λ (ks : List Checked). signed_checked (carrier_of m) ∷ ks) (all_checked (next prior m) ms can.1 have.1)
 
-  pub sent_checked : map checked_so_far (sent_pages a at pages) ≡ map signed_checked (map carrier_of (page_answers a pages))
+  pub sent_checked : map checked_so_far (sent_pages a server at pages) ≡ map signed_checked (map carrier_of (page_answers a pages))
   sent_checked = all_checked None (page_answers a pages) signable readable

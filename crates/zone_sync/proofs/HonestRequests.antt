@@ -20,15 +20,16 @@ use Rattle.dns_wire.specs.Written.{IsMessage, IsRecord, head_at, heads_from, par
 use Rattle.dns_wire.proofs.ItemWriting.{question_read, parsed-message_wire}
 use Rattle.dns_wire.proofs.DataWriting.{readable_again}
 use Rattle.dns_wire.proofs.Parsing.{unread, reads}
-use Rattle.tsig_port.specs.Tsig.{TsigKey, Tsig, signature_of, compose_len, mac_in, tsig_record, algorithm_name, blank_tsig, request_input, request_tsig, signed_request}
+use Rattle.tsig_port.specs.Tsig.{TsigKey, Tsig, signature_of, compose_len, mac_in, tsig_record, algorithm_name, request_tsig, signed_request}
 use Rattle.tsig_port.specs.Tsig.Signature.{Signed}
 use Rattle.tsig_port.specs.Hmac.{native_len}
 use Rattle.tsig_port.specs.Checked.{taken_message, taken_by}
-use Rattle.tsig_port.specs.Signing.{IsKey, CanSign}
+use Rattle.tsig_port.specs.Signing.{CanSign}
+use Rattle.tsig_port.specs.OneKey.{IsSigner}
 use Rattle.tsig_keys.specs.declared.algorithms.Algorithm.{Algorithm}
 use Rattle.tsig_keys.specs.declared.algorithms.Algorithm.TheVariants.{Sha1, Sha256, Sha384, Sha512}
-use Rattle.tsig_port.proofs.SignatureReading.{signature_written}
-use Rattle.tsig_port.proofs.SignedExchange.{signer_tsig, signer_short, without_again, mac_read}
+use Rattle.tsig_port.proofs.SignedExchange.{without_again}
+use Rattle.tsig_port.proofs.OneKeys.{request_read, request_mac_read}
 use Rattle.xfr_model.specs.Messages.{HaveData, type_of}
 use Rattle.zone_model.specs.Version.{RecordSet, Version, set_at, first_or_none, has_one_apex_soa}
 use Rattle.zone_model.specs.Answer.{apex_soa_record, records_of_option, first_only}
@@ -72,7 +73,7 @@ small_type : (mode : Mode) → type_of mode < 2 ^ 16
 small_type Axfr = lit< tt
 small_type Ixfr = lit< tt
 
-short_key : (key : TsigKey) → IsKey key → compose_len key ≤ 358
+short_key : (key : TsigKey) → IsSigner key → compose_len key ≤ 358
 short_key key ok =
     let parts = and_parts (nat_le 10 key.signing_len && nat_le (native_len key.algorithm) (2 * key.signing_len)) (nat_le key.signing_len (native_len key.algorithm)) ok.signing in
     omega (arith, leb-true key.signing_len (native_len key.algorithm) parts.1, short_macs key.algorithm, short_names key.algorithm, name_short key.name ok.name)
@@ -219,7 +220,7 @@ authority_read message p (Some end) header is whole =
 
 -- ---- what is left of the request once it was taken
 
-module _ (a : Asking) (ok : IsKey a.key) (early : a.at < 2 ^ 48) (name : is_name a.base.version.apex ≡ true) (class : a.base.version.class < 2 ^ 16)
+module _ (a : Asking) (ok : IsSigner a.key) (early : a.at < 2 ^ 48) (name : is_name a.base.version.apex ≡ true) (class : a.base.version.class < 2 ^ 16)
     (soa : AllByRecursion IsRecord (asked_authority a)) (pieces : HaveData (asked_authority a)) where
   abbrev q : Question
   q = asked_question a
@@ -259,10 +260,7 @@ module _ (a : Asking) (ok : IsKey a.key) (early : a.at < 2 ^ 48) (name : is_name
   }
 
   signature : signature_of (signed_request a.key M a.at 300) ≡ Signed (length M) a.key.name t
-  signature =
-      let input = request_input M a.key.name (blank_tsig a.key a.at 300 (id_in M) 0 []) in
-      signature_written (request_message a) a.key.name t is_message tt (lit< tt) ok.name
-      (signer_tsig a.key (request_message a) a.at 300 input ok early (lit< tt) can_sign) (signer_short a.key (request_message a) a.at 300 input ok can_sign)
+  signature = request_read a.key ok (request_message a) a.at 300 early (lit< tt) can_sign
 
   -- the octets: the message, and after its last counted item the TSIG
   pub taken_is : taken_message (asked_octets a) ≡ M ++ r
@@ -276,7 +274,7 @@ module _ (a : Asking) (ok : IsKey a.key) (early : a.at < 2 ^ 48) (name : is_name
 
   -- its MAC
   pub mac_read_is : mac_in (asked_octets a) ≡ asked_mac a
-  mac_read_is = ap mac_in (sym (octets_are a)) ∙ mac_read a.key (request_message a) a.at 300 ok early (lit< tt) can_sign ∙ mac_is a
+  mac_read_is = ap mac_in (sym (octets_are a)) ∙ request_mac_read a.key ok (request_message a) a.at 300 early (lit< tt) can_sign ∙ mac_is a
 
   pub taken_header : 12 ≤ length (taken_message (asked_octets a))
   taken_header =

@@ -15,6 +15,7 @@ use Rattle.tsig_keys.specs.Hmac.{native_len}
 use Rattle.tsig_keys.specs.declared.errors.NewKeyError.{NewKeyError}
 use Rattle.tsig_keys.specs.declared.algorithms.Algorithm.{Algorithm}
 use Rattle.tsig_port.specs.Tsig.{TsigKey, new_key, is_mac_len}
+use Rattle.tsig_port.specs.OneKey.{IsSigner}
 use Rattle.zone_model.specs.Version.{Sets, Version}
 use Rattle.zone_model.specs.Edits.{Refusal, with_sets, has_data, second_alias, close}
 use Rattle.zone_model.specs.Classify.{ZoneFile, RecordVerdict, Accepted, Rejected, classify, opened, opened_with}
@@ -74,10 +75,6 @@ self_holds (Some x) = refl
 
 -- ---- a key
 
--- a name, and MACs of a length that the algorithm allows
-abbrev pub IsSigner : TsigKey → Type 0
-IsSigner k = IsTrue (is_name k.name) × IsTrue (is_mac_len k.algorithm k.signing_len)
-
 abbrev AreOctets : List ℕ → Type 0
 AreOctets xs = IsTrue (list_all (λ c. nat_lt c 256) xs)
 
@@ -110,7 +107,7 @@ made_by true true k x y h = h refl
 
 made_holds : (a : Algorithm) (secret : List ℕ) (n : Name) (least signing : Option ℕ) → IsName n → Holds IsSigner (result_ok (new_key a secret n least signing))
 made_holds a secret n least signing is =
-    made_by (is_mac_len a (unwrap_or least (native_len a))) (is_mac_len a (unwrap_or signing (native_len a))) _ _ _ (λ e. (is, e))
+    made_by (is_mac_len a (unwrap_or least (native_len a))) (is_mac_len a (unwrap_or signing (native_len a))) _ _ _ (λ e. record { name = is; signing = e })
 
 key_holds : (fields : List (List ℕ)) → Holds IsSigner (key_of fields)
 key_holds [] = tt
@@ -286,14 +283,16 @@ kept_in s key =
 none_before : (n m : ℕ) → n < m → 0 + n < m
 none_before n m h = omega (arith, h)
 
-pub script_fits : (mode : Mode) (text : List ℕ) (s : scripts.Script TsigKey) (key : TsigKey) (longest : ℕ) → script_of wire_readers text ≡ Ok s → FitsLink mode s key longest → Fits (asking_in mode s key) s.at_primary (offer_in mode s key)
+pub script_fits : (mode : Mode) (text : List ℕ) (s : scripts.Script TsigKey) (key : TsigKey) (longest : ℕ) → script_of wire_readers text ≡ Ok s → FitsLink mode s key longest → Fits (asking_in mode s key) key s.at_primary (offer_in mode s key)
 script_fits mode text s key longest spelt f =
     let sound = script_sound text s spelt in
     let signs = sound.key key f.keyed in
     let kept = kept_in s key in
     let base = opened_of s.secondary in
     record {
-      one_key = record { name = signs.0; signing = signs.1; taken = f.lengths };
+      client_signs = signs;
+      server_signs = signs;
+      one_key = record { name = (same_name-Decides key.name key.name).1 refl; algorithm = refl; secret = refl; client_taken = f.lengths; server_taken = f.lengths };
       close_moments = f.close_moments;
       one_soa = f.one_soa;
       records_fit = f.records_fit;

@@ -1,5 +1,6 @@
 -- A transfer over an honest link to a granting primary: when it has to end well, and what it leaves (RFC 5936, 2 and 6).
 use Rattle.std.specs.Prelude.{◌≡◌, ℕ, ◌<◌, ◌≤◌, ◌-◌, ◌^◌, List, length, min, Option, Some, Result, Ok, Err}
+use Rattle.tsig_port.specs.Tsig.{TsigKey}
 use Rattle.zone_model.specs.Version.{Version, Same}
 use Rattle.zone_model.specs.Offer.{Offer}
 use Rattle.zone_model.specs.Commits.{Commit}
@@ -20,13 +21,14 @@ abbrev pub WasHonest : Option LinkLists → Option LinkLists → ℕ → ℕ →
 WasHonest (Some old) (Some new) faults_old faults_new = IsHonest old new faults_old faults_new × (faults_old < 2 ^ 64 - 1)
 WasHonest _ _ faults_old faults_new = ⊥
 
--- The premises: a primary makes an offer of a version that fits the secondary, and grants it: to the secondary's request it sends the pages of the offer's
--- text, signed in sequence; and the request fits the link.
+-- The premises: a primary makes an offer of a version that fits the secondary, by a key that is one with the secondary's, and grants it: to the secondary's
+-- request it sends the pages of the offer's text, signed in sequence with that key; and the request fits the link.
 pub record IsGranted (Sends : List ℕ → Option (List Sending) → Type 0) (a : Asking) (at longest : ℕ) (v : Version) : Type 0 where
+  pub server : TsigKey
   pub offer : Offer
   pub offered : offer.version ≡ v
-  pub fits : Fits a at offer
-  pub grants : (sent : Option (List Sending)) → Sends (asked_octets a) sent → IsSentWhole (request_at (asked_octets a) at) a.key fits.records_fit.pages sent
+  pub fits : Fits a server at offer
+  pub grants : (sent : Option (List Sending)) → Sends (asked_octets a) sent → IsSentWhole (request_at (asked_octets a) at) server fits.records_fit.pages sent
   pub request_fits : length (asked_octets a) ≤ min longest 65535
 
 -- the secondary's current version is the primary's, or memory ran out

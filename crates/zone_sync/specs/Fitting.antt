@@ -7,9 +7,9 @@ use Rattle.dns_numbers.specs.Serial.{serial_lt}
 use Rattle.dns_rdata.specs.Records.{Record}
 use Rattle.dns_wire.specs.Wire.{Message, message_wire, question_wire}
 use Rattle.dns_wire.specs.Written.{IsRecord}
-use Rattle.tsig_port.specs.Tsig.{mac_in, compose_len, signed_answers}
+use Rattle.tsig_port.specs.Tsig.{TsigKey, mac_in, compose_len, signed_answers}
 use Rattle.tsig_port.specs.Checked.{taken_message}
-use Rattle.tsig_port.specs.Signing.{IsKey}
+use Rattle.tsig_port.specs.OneKey.{IsSigner, AreOneKey}
 use Rattle.zone_model.specs.Version.{Version, Same, has_one_apex_soa}
 use Rattle.zone_model.specs.Difference.{Difference, zone_serial}
 use Rattle.zone_model.specs.TransferText.{Mode, Axfr, Ixfr, OnIxfr}
@@ -26,9 +26,9 @@ use Rattle.xfr_client.specs.SoFar.{Asking, asked_octets, asked_question, asked_a
 
 -- ---- what is sent
 
--- how many octets of records a message has room for that answers the request, beside header, question and signature
-abbrev pub answer_room : Asking → ℕ
-answer_room a = 65535 - 12 - length (question_wire (asked_question a)) - compose_len a.key
+-- how many octets of records a message has room for that answers the request, beside header, question and signature by the primary's key
+abbrev pub answer_room : Asking → TsigKey → ℕ
+answer_room a server = 65535 - 12 - length (question_wire (asked_question a)) - compose_len server
 
 -- the text of an offer in answer to the request
 abbrev pub sent_text : Asking → Offer → List Record
@@ -38,9 +38,9 @@ sent_text a offer = text_of offer a.mode (zone_serial a.base.version)
 abbrev pub page_answers : Asking → List (List Record) → List Message
 page_answers a pages = map (page_answer (taken_message (asked_octets a))) pages
 
--- what a granting primary sends at a moment: these messages, signed in sequence
-abbrev pub sent_pages : Asking → ℕ → List (List Record) → List (List ℕ)
-sent_pages a at pages = signed_answers a.key (mac_in (asked_octets a)) at 300 (map message_wire (page_answers a pages))
+-- what a granting primary sends at a moment: these messages, signed in sequence with its key
+abbrev pub sent_pages : Asking → TsigKey → ℕ → List (List Record) → List (List ℕ)
+sent_pages a server at pages = signed_answers server (mac_in (asked_octets a)) at 300 (map message_wire (page_answers a pages))
 
 -- ---- the premises
 
@@ -73,16 +73,16 @@ abbrev pub has_more : List Record → Bool
 has_more text = not (length text == 2)
 
 -- the records of request and text have wire forms; the text is cut into pages that fill signed messages, no more than a secondary takes
-pub record RecordsFit (a : Asking) (offer : Offer) : Type 0 where
+pub record RecordsFit (a : Asking) (server : TsigKey) (offer : Offer) : Type 0 where
   pub asked : AllByRecursion IsRecord (asked_authority a)
   pub asked_data : HaveData (asked_authority a)
   pub sent : AllByRecursion IsRecord (sent_text a offer)
   pub sent_data : HaveData (sent_text a offer)
   pub pages : List (List Record)
   -- one record a message only for AXFR, where the offer says so (RFC 5936, 7)
-  pub cut : IsCutInto (answer_room a) (in_singles a.mode offer.compatibility) (sent_text a offer) pages
+  pub cut : IsCutInto (answer_room a server) (in_singles a.mode offer.compatibility) (sent_text a offer) pages
   pub few : length pages ≤ most_replies
-  pub together : OnIxfr a.mode (IsTrue (begins_together (answer_room a) (sent_text a offer)))
+  pub together : OnIxfr a.mode (IsTrue (begins_together (answer_room a server) (sent_text a offer)))
   pub more : OnIxfr a.mode (IsTrue (has_more (sent_text a offer)))
 
 -- a version from which an incremental request may ask: it has one apex SOA, whose serial isn't greater than the offered one (at distance 2^31 neither is);
@@ -98,12 +98,14 @@ pub record AreOfOneZone (v w : Version) : Type 0 where
   pub apex : IsTrue (same_name v.apex w.apex)
   pub class : v.class ≡ w.class
 
--- a secondary that asks, and the moment and the offer of a primary, which fit each other
-pub record Fits (a : Asking) (at : ℕ) (offer : Offer) : Type 0 where
-  pub one_key : IsKey a.key
+-- a secondary that asks, and the key, the moment and the offer of a primary, which fit each other
+pub record Fits (a : Asking) (server : TsigKey) (at : ℕ) (offer : Offer) : Type 0 where
+  pub client_signs : IsSigner a.key
+  pub server_signs : IsSigner server
+  pub one_key : AreOneKey a.key server
   pub close_moments : AreClose at a.at
   pub one_soa : ArePublished a.mode a.base.version.apex offer
-  pub records_fit : RecordsFit a offer
+  pub records_fit : RecordsFit a server offer
   pub base_matches : OnIxfr a.mode (BaseMatches a.base.version offer one_soa.history)
   pub same_zone : AreOfOneZone a.base.version offer.version
   -- there are numbers left for the versions that are spelt
@@ -113,11 +115,12 @@ pub record Fits (a : Asking) (at : ℕ) (offer : Offer) : Type 0 where
 
 -- the law of granted transfers: what such a primary sends makes a course that succeeds, whatever comes in place of a further reply
 abbrev pub GrantedSucceed : Type 0
-GrantedSucceed = (a : Asking) (at : ℕ) (offer : Offer) (gave : Outcome) → (f : Fits a at offer) → Succeeds (course_so_far a (sent_pages a at f.records_fit.pages) gave) offer.version
+GrantedSucceed = (a : Asking) (server : TsigKey) (at : ℕ) (offer : Offer) (gave : Outcome) → (f : Fits a server at offer)
+    → Succeeds (course_so_far a (sent_pages a server at f.records_fit.pages) gave) offer.version
 
 -- what is sent is a message for each page
 abbrev pub SendsEach : Type 0
-SendsEach = (a : Asking) (at : ℕ) (pages : List (List Record)) → length (sent_pages a at pages) ≡ length pages
+SendsEach = (a : Asking) (server : TsigKey) (at : ℕ) (pages : List (List Record)) → length (sent_pages a server at pages) ≡ length pages
 
 -- the signed request is at least a header
 abbrev pub RequestHasHeader : Type 0

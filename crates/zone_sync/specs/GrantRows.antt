@@ -28,6 +28,16 @@ asks mode base = asks_with key mode 1000 (record { number = 7; version = base })
 abbrev pub asks_last : Asking
 asks_last = asks_with key Axfr 1000 (record { number = 18446744073709551615; version = rows.empty_zone })
 
+-- the same key with MACs of 16 octets, under the name in capitals, and who asks with that; and as a primary has it that takes such, and signs with 32
+abbrev pub half_key : TsigKey
+half_key = record key { name = codes "KEY" ∷ []; min_mac_len = 16; signing_len = 16 }
+
+abbrev pub half_asks : Asking
+half_asks = asks_with half_key Axfr 1000 (record { number = 7; version = rows.empty_zone })
+
+abbrev pub lenient_key : TsigKey
+lenient_key = record key { min_mac_len = 16 }
+
 abbrev pub offered : Mode → Version → Offer
 offered mode base = history_offer provider (asks mode base)
 

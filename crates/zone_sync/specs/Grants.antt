@@ -13,7 +13,7 @@ use Rattle.xfr_client.specs.SoFar.{Asking, asked_serial, asked_octets}
 abbrev pub history_offer : Provider → Asking → Offer
 history_offer p a = offer_of p.kept p.differences p.compatibility (unwrap_or (asked_serial a) 0)
 
--- the primary knows the secondary's key, and its provider makes that offer to one who signs with it
-pub record Offers {K : Type 0} (the_key : K → TsigKey) (keys : Keys) (told : List ℕ → Option K → Option ℕ → Result Offer XfrDataProviderError) (a : Asking) (offer : Offer) : Type 0 where
-  pub known : keys (fold a.key.name) a.key.algorithm ≡ Some a.key
-  pub offered : (k : K) → the_key k ≡ a.key → told (taken_message (asked_octets a)) (Some k) (served.asked_serial (taken_message (asked_octets a))) ≡ Ok offer
+-- the primary has this key under the name, in any case, and algorithm of the secondary's, and its provider makes that offer to one who signs with it
+pub record Offers {K : Type 0} (the_key : K → TsigKey) (keys : Keys) (told : List ℕ → Option K → Option ℕ → Result Offer XfrDataProviderError) (a : Asking) (server : TsigKey) (offer : Offer) : Type 0 where
+  pub known : keys (fold a.key.name) a.key.algorithm ≡ Some server
+  pub offered : (k : K) → the_key k ≡ server → told (taken_message (asked_octets a)) (Some k) (served.asked_serial (taken_message (asked_octets a))) ≡ Ok offer

@@ -147,7 +147,7 @@ pub record FitsLink (mode : Mode) (script : Script TsigKey) (key : TsigKey) (lon
   pub lengths : key.min_mac_len ≤ key.signing_len
   pub close_moments : AreClose script.at_primary script.at_secondary
   pub one_soa : ArePublished mode (asking_in mode script key).base.version.apex (offer_in mode script key)
-  pub records_fit : RecordsFit (asking_in mode script key) (offer_in mode script key)
+  pub records_fit : RecordsFit (asking_in mode script key) key (offer_in mode script key)
   pub base_matches : OnIxfr mode (BaseMatches (secondary_version script) (offer_in mode script key) one_soa.history)
   pub room : length (spelling mode (sent_text (asking_in mode script key) (offer_in mode script key)) (secondary_version script)).versions < 2 ^ 64
   pub request_fits : length (asked_octets (asking_in mode script key)) ≤ min longest 65535

@@ -19,7 +19,7 @@ use xfr_server::{HistoryProvider, PrimaryStack, RefuseSvc, Service};
 pub fn scripts_fit()
     ensures { (mode : Mode) (text : List ℕ) (script : Script TsigKey) (key : TsigKey) (longest : ℕ)
         → script_of wire_readers text ≡ Ok script → FitsLink mode script key longest
-        → Fits (asking_in mode script key) script.at_primary (offer_in mode script key) }
+        → Fits (asking_in mode script key) key script.at_primary (offer_in mode script key) }
 {}
 
 /// .. and the program's primary, which keeps the versions of the script and grants the last of them to its key, grants the request.

@@ -10,4 +10,4 @@ pub returns-clause-fits : goal.returns-clause-fits
 returns-clause-fits c = caught_up_fits
 
 pub returns-clause-granted : goal.returns-clause-granted
-returns-clause-granted c = c.history_primaries_grant.ensures refuser grants.provider grants.key (grants.asks Ixfr rows.history_3) 700 65535 refl refl caught_up_fits caught_up_short
+returns-clause-granted c = c.history_primaries_grant.ensures refuser grants.provider grants.key (grants.asks Ixfr rows.history_3) 700 65535 refl caught_up_fits caught_up_short

@@ -10,4 +10,4 @@ pub returns-clause-fits : goal.returns-clause-fits
 returns-clause-fits c = changes_fit
 
 pub returns-clause-granted : goal.returns-clause-granted
-returns-clause-granted c = c.history_primaries_grant.ensures refuser grants.provider grants.key (grants.asks Ixfr rows.history_1) 1300 65535 refl refl changes_fit changes_short
+returns-clause-granted c = c.history_primaries_grant.ensures refuser grants.provider grants.key (grants.asks Ixfr rows.history_1) 1300 65535 refl changes_fit changes_short

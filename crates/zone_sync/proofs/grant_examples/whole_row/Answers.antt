@@ -13,4 +13,4 @@ pub returns-clause-fits : goal.returns-clause-fits
 returns-clause-fits c = whole_fits
 
 pub returns-clause-granted : goal.returns-clause-granted
-returns-clause-granted c = c.history_primaries_grant.ensures refuser grants.provider grants.key (grants.asks Axfr rows.empty_zone) 1000 65535 refl refl whole_fits whole_short
+returns-clause-granted c = c.history_primaries_grant.ensures refuser grants.provider grants.key (grants.asks Axfr rows.empty_zone) 1000 65535 refl whole_fits whole_short

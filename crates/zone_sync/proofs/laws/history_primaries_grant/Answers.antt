@@ -10,12 +10,13 @@ use Rattle.zone_sync.proofs.HonestRequests.{kind_of}
 use Rattle.zone_sync.proofs.laws.history_primaries_grant.Goals as goal
 
 pub returns : goal.returns
-returns c = λ next provider key a at longest is grants f short. record {
+returns c = λ next provider server a at longest grants f short. record {
+  server = server;
   offer = history_offer provider a;
   offered = refl;
   fits = f;
   grants = λ sent.
-      c.granted_transfers_are_sent.ensures next provider key (request_at (asked_octets a) at) a.key (kind_of a.mode) (zone_serial a.base.version) (history_offer provider a) sent
-      (granted (λ (k : TsigKey). k) (own_key key) (kept_told provider) a at (history_offer provider a) (history_offers provider key a at is grants f) f);
+      c.granted_transfers_are_sent.ensures next provider server (request_at (asked_octets a) at) server (kind_of a.mode) (zone_serial a.base.version) (history_offer provider a) sent
+      (granted (λ (k : TsigKey). k) (own_key server) (kept_told provider) a server at (history_offer provider a) (history_offers provider server a at grants f) f);
   request_fits = short;
 }

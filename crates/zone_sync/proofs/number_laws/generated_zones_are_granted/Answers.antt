@@ -7,4 +7,4 @@ use Rattle.zone_sync.proofs.number_laws.generated_zones_are_granted.Goals as goa
 
 pub returns : goal.returns
 returns c size seed longest some small wide =
-    c.history_primaries_grant.ensures refuser (generating_provider size seed) generated.key generated_asking 0 longest refl refl (generated_fits size seed some small) (request_fits longest wide)
+    c.history_primaries_grant.ensures refuser (generating_provider size seed) generated.key generated_asking 0 longest refl (generated_fits size seed some small) (request_fits longest wide)
