@@ -51,6 +51,18 @@ key 036b657900 hmac-sha256 000102 - -
 p 056f74686572000006000100000e10001600000000000100000000000000000000000000000000
 ";
 
+/// A primary's zone with serial 1 and one address, whose key `key.` signs with 32 octets and takes 16 ..
+const LENIENT: &str = "zone 076578616d706c6500 1
+key 036b657900 hmac-sha256 000102 32 16
+p 076578616d706c65000006000100000e10001600000000000100000000000000000000000000000000
+p 076578616d706c65000001000100000e100004c0000201
+";
+
+/// .. and a secondary that has it as `KEY.` and signs with 16 octets.
+const SHORTER: &str = "zone 076578616d706c6500 1
+key 034b455900 hmac-sha256 000102 16 16
+";
+
 /// The replies of a script's primary to the requests of a stream.
 pub(crate) fn served<R: Abort>(
     rt: &R,
@@ -190,6 +202,26 @@ rr 0 076578616d706c65000006000100000e1000160000000000010000000000000000000000000
         XfrMode::Axfr,
         ADDRESSES,
         ADDRESSES,
+        1,
+        Status::Done,
+        wanted,
+    );
+}
+
+/// Both have one key, with a spelling and lengths of its own on each side.
+#[test]
+fn one_key_spelt_in_two_ways(rt: HostRuntime) {
+    let wanted = "updated 1
+rr 0 076578616d706c65000001000100000e100004c0000201
+rr 0 076578616d706c65000006000100000e10001600000000000100000000000000000000000000000000
+";
+    let alloc = rt.alloc();
+    ends(
+        &rt,
+        alloc,
+        XfrMode::Axfr,
+        SHORTER,
+        LENIENT,
         1,
         Status::Done,
         wanted,
