@@ -175,7 +175,11 @@ fn texts_for_debugging(rt: HostRuntime) {
     let name = stored(&rt, rt.alloc(), NS_EXAMPLE);
     let read = name_at(&rt, 27);
     let text = format!(in rt.alloc(); "{name:?} {read:?}").expect(&rt, "memory");
-    is(&rt, text.as_str(), "Name(ns.example) ParsedName(ns.example)");
+    is(
+        &rt,
+        text.as_str(),
+        "Name(ns.example) ParsedName(ns.example)",
+    );
     drop(text);
     drop(name);
 }

@@ -7,7 +7,7 @@ use std::alloc::Global;
 use std::process::Abort;
 use zone_file::FileError;
 use zone_store::{
-    HandleError, CommitError, EditError, InsertError, NodeError, QueryError, UpdateError,
+    CommitError, EditError, HandleError, InsertError, NodeError, QueryError, UpdateError,
 };
 use zone_types::{
     CnameError, ContextError, OutOfZone, RecordError, WriteApexError, ZoneCutError, ZoneDiffError,
