@@ -64,12 +64,7 @@ key 034b455900 hmac-sha256 000102 16 16
 ";
 
 /// The replies of a script's primary to the requests of a stream.
-pub(crate) fn served<R: Abort>(
-    rt: &R,
-    alloc: Global,
-    script: &str,
-    requests: &[u8],
-) -> Vec<u8> {
+pub(crate) fn served<R: Abort>(rt: &R, alloc: Global, script: &str, requests: &[u8]) -> Vec<u8> {
     let mut file = source(rt, alloc, script.as_bytes(), script.len(), Vec::new(alloc));
     let mut src = source(rt, alloc, requests, requests.len(), Vec::new(alloc));
     let mut out = sink(alloc);

@@ -113,7 +113,7 @@ pub record TellsScript (text : List ℕ) (status : Status) : Type 0 where
   -- the first bad line of others is told, up to faults, and only that
   pub bad_line : (n : ℕ) → length text ≤ 16777216 → script_of wire_readers text ≡ Err n → (status ≡ ends.Script) ⊎ IsTrue (is_fault status)
   pub good : (script : scripts.Script TsigKey) → length text ≤ 16777216 → script_of wire_readers text ≡ Ok script
-    → (status ≢ ends.Script) × (status ≢ ends.TooLong)
+      → (status ≢ ends.Script) × (status ≢ ends.TooLong)
 
 -- ---- a run
 
