@@ -1,9 +1,7 @@
 -- Where no reply can be made.
 use Rattle.std.proofs.Common.{◌≡◌, ◌⊎◌, inl, inr, ℕ, ◌+◌, ◌≤◌, ◌<◌, Bool, true, false, ◌&&◌, not, cond, List, [], ◌∷◌, length, Option, Some, None, refl, sym, ap, ◌∙◌, arith}
-use Rattle.std.specs.Prelude.{◌==◌, ◌↔◌, option_map}
-use Rattle.std.proofs.lemmas.Bool.Decides.{nat_tests}
-use Rattle.dns_wire.specs.Wire.{Building, message_wire, arcount_in, fits}
-use Rattle.dns_wire.specs.Reply.{empty_answer}
+use Rattle.std.specs.Prelude.{◌==◌, option_map}
+use Rattle.dns_wire.specs.Wire.{Building, arcount_in, fits}
 use Rattle.tsig_port.specs.Tsig.{TsigKey, compose_len}
 use Rattle.tsig_port.specs.ServerCheck.{Keys, Verdict, verdict, reply_to}
 use Rattle.tsig_port.specs.ServerCheck.Verdict.{NoTsig, Accepted, Refused, BadTime}
@@ -12,20 +10,19 @@ use Rattle.xfr_services.specs.Items.Sending.{Given, Failed}
 use Rattle.xfr_services.specs.Requests.{with_metadata}
 use Rattle.xfr_signing.specs.Signing.{Signer, begun, is_due, step_item, step_reply, signed_step, as_it_is, signed_items, signed_reply, can_be_signed, short_reply, short_to_sign, to_sign}
 use Rattle.xfr_signing.specs.SignedServing.{SendsSigned, SendsBy, SendsChecked, signer_for, accepted_request, refusal_sends}
-use Rattle.xfr_signing.specs.Failing.{fails, bare_len, FailsWhereLong, IsTooLong, RepliesFailWhereLong}
+use Rattle.xfr_signing.specs.Failing.{fails, bare_len, FailsWhereLong, IsTooLong}
 use Rattle.xfr_services.specs.declared.requests.Request.{Request}
 use Rattle.xfr_services.specs.declared.services.ServiceFeedback.{ServiceFeedback}
 use Rattle.xfr_signing.specs.declared.signing.Signing.{Signing}
 use Rattle.xfr_signing.specs.declared.signing.Signing.TheVariants.{First}
+use Rattle.xfr_services.proofs.LongReplies.{too_long}
+pub use Rattle.xfr_services.proofs.LongReplies.{errors_fail}
 use Rattle.xfr_signing.proofs.Room.{signed_length-le}
-
-too_long : (octets : List ℕ) → fits 65535 octets ≡ false → 65535 < length octets
-too_long octets e = grind (arith, nat_tests)
 
 -- ---- the truncated reply that stands for one without room
 
 -- the truncated reply of a request with its TSIG passes 65,535 octets
-abbrev Long : Signer → Type 0
+abbrev pub Long : Signer → Type 0
 Long s = 65535 < bare_len s.received + compose_len s.key
 
 header_there : (s : Signer) → 12 ≤ length (short_reply s)
@@ -92,7 +89,7 @@ signed_fail s signing prior (Given item ∷ more) e =
     by Failed is e later = inr (reply_fails s (begun signing item.feedback) prior item.feedback item.response is)
     by (Given signed) is e later = later e
 
-sends_fail : (s : Signer) (given : Option (List Sending)) → fails (option_map (signed_items s First None) given) ≡ true → (fails given ≡ true) ⊎ Long s
+pub sends_fail : (s : Signer) (given : Option (List Sending)) → fails (option_map (signed_items s First None) given) ≡ true → (fails given ≡ true) ⊎ Long s
 sends_fail s None e = inl refl
 sends_fail s (Some given) e = signed_fail s First None given e
 
@@ -124,16 +121,3 @@ module _ {M K : Type 0} (the_key : K → TsigKey) (keys : Keys) (Next : Request 
 
   pub checked_fails : SendsChecked the_key keys Next r sent → fails sent ≡ true → IsTooLong r (verdict keys r.at r.message)
   checked_fails g e = found_fails (verdict keys r.at r.message) g e
-
--- ---- a reply without records
-
-not_long : (octets : List ℕ) → fits 65535 octets ≡ true → 65535 < length octets → false ≡ true
-not_long octets e long = absurd (grind (arith, nat_tests))
-
-error_by : (octets : List ℕ) (fit : Bool) → fits 65535 octets ≡ fit
-    → (fails (option_map all_given (option_map one_reply (cond fit (Some (record { octets = octets; limit = 65535 })) None))) ≡ true) ↔ (65535 < length octets)
-error_by octets true is = (λ e. cc, λ long. not_long octets is long)
-error_by octets false is = (λ e. too_long octets is, λ long. refl)
-
-pub errors_fail : RepliesFailWhereLong
-errors_fail request rcode = error_by (message_wire (empty_answer request rcode)) (fits 65535 (message_wire (empty_answer request rcode))) refl

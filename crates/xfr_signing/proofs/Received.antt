@@ -12,7 +12,7 @@ drop_front [] ys = refl
 drop_front (x ∷ xs) ys = drop_front xs ys
 
 -- behind a header with another id and another ARCOUNT
-behind_header : (m : List ℕ) (signature : Signature) → 12 ≤ length m → drop 12 (taken_by m signature) ≡ drop 12 m
+pub behind_header : (m : List ℕ) (signature : Signature) → 12 ≤ length m → drop 12 (taken_by m signature) ≡ drop 12 m
 behind_header m Malformed long = refl
 behind_header m Unsigned long = refl
 behind_header m (Signed start owner t) long =

@@ -1,5 +1,5 @@
 -- How many octets a signature takes at most.
-use Rattle.std.proofs.Common.{◌≡◌, ℕ, ◌+◌, ◌≤◌, List, [], length, take, arith, length-take}
+use Rattle.std.proofs.Common.{ℕ, ◌+◌, ◌≤◌, List, [], length, take, arith, length-take}
 use Rattle.std.specs.Prelude.{Option}
 use Rattle.dns_rdata.specs.Records.{record_wire}
 use Rattle.dns_wire.specs.Wire.{id_in}
@@ -7,7 +7,7 @@ use Rattle.dns_wire.proofs.Questions.{item_length}
 use Rattle.tsig_port.specs.Tsig.{TsigKey, compose_len, tsig_record, answer_tsig, answer_input, blank_tsig, signed_answer, mac_of}
 use Rattle.tsig_port.proofs.ErrorReplies.{tsig_length}
 
-few_taken : (n : ℕ) (xs : List ℕ) → length (take n xs) ≤ n
+pub few_taken : (n : ℕ) (xs : List ℕ) → length (take n xs) ≤ n
 few_taken n xs = omega (arith, length-take n xs)
 
 -- an answer grows by no more than its key's TSIG can take

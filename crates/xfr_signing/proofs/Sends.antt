@@ -5,7 +5,7 @@ use Rattle.dns_name.specs.Names.{fold}
 use Rattle.tsig_port.specs.Tsig.{TsigKey, mac_in}
 use Rattle.tsig_port.specs.ServerCheck.{Keys}
 use Rattle.tsig_port.specs.States.{ServerStands}
-use Rattle.xfr_services.specs.Items.{Sending, NextOf, Gives}
+use Rattle.xfr_services.specs.Items.{Sending, NextOf, Gives, Calls}
 use Rattle.xfr_services.specs.Items.Sending.{Given, Failed}
 use Rattle.xfr_signing.specs.Signing.{Signer, Signs, StepsTo, begun, step_item, signed_items}
 use Rattle.xfr_signing.specs.SignedStreams.{GivesSigned, SignedLeft}
@@ -88,7 +88,7 @@ next_failed LeftOf the_key Memory old new state items g next =
 -- ---- the call
 
 -- the state that signs the replies to a request
-begins : {M K : Type 0} (the_key : K → TsigKey) (r : Request M) (state : PostprocessingState K) → ServerStands the_key state.sequence (mac_in r.message) []
+pub begins : {M K : Type 0} (the_key : K → TsigKey) (r : Request M) (state : PostprocessingState K) → ServerStands the_key state.sequence (mac_in r.message) []
     → state.received ≡ r.message → state.now ≡ r.at → state.signing ≡ First → Signs the_key state (signer_for r (the_key state.sequence.key)) First None
 begins the_key r state stands received at which =
     record { macs = []; stands = stands; last = refl; key = refl; received = received; at = at; which = which }
@@ -107,6 +107,14 @@ call_gives the_key keys Next LeftOf r known state stream stands received at whic
       sent = record { known = known; is_known = is_known; given = Some g.items; next = g.sent; signed = refl };
       left = record { given = g.items; signer = signer; signing = First; prior = None; left = g.left; signs = begins the_key r state stands received at which; signed = refl };
     }
+
+-- .. or where it can't reply
+pub call_fails : {M S T K : Type 0} (the_key : K → TsigKey) (keys : Keys) (Next : Request (Option K) → Option (List Sending) → Type 0) (LeftOf : S → List Sending → Type 0) (Left : T → List Sending → Type 0)
+    (r : Request M) (key : TsigKey) (known : Option K) (e : ServiceError) → option_map the_key known ≡ keys (fold key.name) key.algorithm
+    → Calls (Next (accepted_request r key known)) LeftOf (Err e) → Calls (SendsSigned the_key keys Next r key) Left (Err e)
+call_fails the_key keys Next LeftOf Left r key known InternalError is_known none =
+    record { known = known; is_known = is_known; given = None; next = none; signed = refl }
+call_fails the_key keys Next LeftOf Left r key known Memory is_known u = tt
 
 -- a request with these fields
 pub request_is : {T : Type 0} (q : Request T) (message : List ℕ) (transport : TransportSpecificContext) (at : ℕ) (metadata : T) (reserved : ℕ)

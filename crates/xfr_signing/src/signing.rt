@@ -4,12 +4,13 @@ ghost use Rattle.tsig_port.specs.Tsig.{mac_in};
 ghost use Rattle.tsig_port.specs.Checked.{taken_message};
 ghost use Rattle.tsig_port.specs.States.{ServerStands};
 ghost use Rattle.xfr_services.specs.Items.{Makes, Calls};
+ghost use Rattle.xfr_services.specs.LongReplies.{FailsOnlyWhereLong};
 ghost use Rattle.xfr_signing.specs.SignedServing.{SendsSigned, as_received};
 ghost use Rattle.xfr_signing.specs.SignedStreams.{signed_items_left, SignedLeft};
 ghost use Rattle.xfr_signing.specs.Signing as signed;
 ghost use Rattle.xfr_signing.specs.declared.signing.Signing.{Signing as SigningOf};
 
-use crate::refusing::refusal_reply;
+use crate::refusing::{refusal_reply, tell_short};
 use dns_wire::{AdditionalBuilder, MessageBuf, PushError};
 use std::alloc::Global;
 use std::marker::Model;
@@ -260,7 +261,8 @@ where
         alloc: Global,
         request: Request<()>,
     ) -> Result<TsigStream<S::Stream, KS::Key>, ServiceError>
-        ensures { Calls (SendsChecked KS.Key.the_key (KS.key_of self.now.1) (S.Sends self.now.0) request) (SignedLeft S.Stream.LeftOf KS.Key.the_key) result }
+        ensures calls { Calls (SendsChecked KS.Key.the_key (KS.key_of self.now.1) (S.Sends self.now.0) request) (SignedLeft S.Stream.LeftOf KS.Key.the_key) result }
+        ensures failing { Calls (FailsOnlyWhereLong request.message) (SignedLeft S.Stream.LeftOf KS.Key.the_key) result }
     {
         let mut request = request;
         let header = header_octets(&request.message);
@@ -297,10 +299,14 @@ where
     ) -> Result<TsigStream<S::Stream, KS::Key>, ServiceError>
         requires stands { ServerStands KS.Key.the_key sequence (mac_in received) [] }
         requires taken { request.message ≡ taken_message received }
-        ensures { Calls (SendsSigned KS.Key.the_key (KS.key_of self.now.1) (S.Sends self.now.0) (as_received request received) (KS.Key.the_key sequence.key)) (SignedLeft S.Stream.LeftOf KS.Key.the_key) result }
+        ensures calls { Calls (SendsSigned KS.Key.the_key (KS.key_of self.now.1) (S.Sends self.now.0) (as_received request received) (KS.Key.the_key sequence.key)) (SignedLeft S.Stream.LeftOf KS.Key.the_key) result }
+        ensures failing { Calls (FailsOnlyWhereLong received) (SignedLeft S.Stream.LeftOf KS.Key.the_key) result }
     {
         let now = request.at;
         let key = sequence.key();
+        // For the proof: a TSIG of the key is no longer than one can be, and what was received has a header.
+        tell_short(key);
+        let _len = received.as_slice().len();
         let known = self.keys.get_key(key.name(), key.algorithm());
         let reserved = key.compose_len();
         let request = handed_on(request, known, reserved);
