@@ -91,7 +91,7 @@ module _ (a : Asking) (server : TsigKey) (at : ℕ) (offer : Offer) (f : Fits a 
       by Ixfr e n = ap (λ o. unwrap_or o 0) n ∙ own_serial (apex_soa a.base.version)
 
 -- the primary has its key under the key's own name and algorithm too
-known_again : (keys : Keys) (client server : TsigKey) → AreOneKey client server → keys (fold client.name) client.algorithm ≡ Some server → keys (fold server.name) server.algorithm ≡ Some server
+pub known_again : (keys : Keys) (client server : TsigKey) → AreOneKey client server → keys (fold client.name) client.algorithm ≡ Some server → keys (fold server.name) server.algorithm ≡ Some server
 known_again keys client server one known = ap (λ n. keys n server.algorithm) (sym (one_name client server one)) ∙ ap (λ x. keys (fold client.name) x) (sym one.algorithm) ∙ known
 
 -- both sides mean the same by a mode
