@@ -9,7 +9,6 @@ use Rattle.std.proofs.lemmas.List.Sums.{sum_by-cons}
 use Rattle.dns_name.specs.Names.{same_name}
 use Rattle.dns_rdata.specs.Records.{Record, record_wire}
 use Rattle.dns_wire.specs.Wire.{message_wire}
-use Rattle.dns_wire.specs.Written.{IsRecord}
 use Rattle.tsig_port.specs.Tsig.{compose_len}
 use Rattle.tsig_port.specs.OneKey.{IsSigner, AreOneKey}
 use Rattle.zone_model.specs.Version.{Version}
@@ -18,7 +17,6 @@ use Rattle.zone_model.specs.TransferLaws.{IsPublished}
 use Rattle.zone_model.specs.Spells.{spelling}
 use Rattle.zone_model.specs.Offer.{whole_text, room_of, is_filled, are_pages, IsCutInto}
 use Rattle.zone_model.proofs.WholeText.{whole_spells}
-use Rattle.xfr_model.specs.Messages.{HaveData}
 use Rattle.xfr_replies.specs.TransferPages.{has_page}
 use Rattle.xfr_replies.proofs.Cutting.{some_page, pages_behind, has_cut}
 use Rattle.zone_generated.specs.Generated as generated
@@ -27,6 +25,7 @@ use Rattle.zone_generated.specs.ShortTexts.{IsShort}
 use Rattle.zone_generated.proofs.Content.{generated_is, generated_published}
 use Rattle.zone_generated.proofs.ShortTexts.{generated_short, generated_few}
 use Rattle.xfr_client.specs.SoFar.{asked_octets, request_message}
+use Rattle.zone_sync.specs.Forms.{HaveForms}
 use Rattle.zone_sync.specs.Fitting.{Fits, answer_room}
 use Rattle.zone_sync.specs.Grants.{history_offer}
 use Rattle.zone_sync.specs.Reported.{provider_of, generating_provider, generated_asking}
@@ -88,13 +87,9 @@ each_has_page : (room : ℕ) → 200 ≤ room → (text : List Record) → AllBy
 each_has_page room wide [] a = refl
 each_has_page room wide (r ∷ text) a = both_true (le-leb (length (record_wire r)) room (omega (arith, a.0.short, wide))) (each_has_page room wide text a.1)
 
-each_record : (text : List Record) → AllByRecursion IsShort text → AllByRecursion IsRecord text
+each_record : (text : List Record) → AllByRecursion IsShort text → HaveForms text
 each_record [] a = tt
-each_record (r ∷ text) a = (record { owner = a.0.owner; rtype = a.0.rtype; class = a.0.class; ttl = a.0.ttl; len = a.0.len }, each_record text a.1)
-
-each_data : (text : List Record) → AllByRecursion IsShort text → HaveData text
-each_data [] a = tt
-each_data (r ∷ text) a = (a.0.pieces, each_data text a.1)
+each_record (r ∷ text) a = ((record { owner = a.0.owner; rtype = a.0.rtype; class = a.0.class; ttl = a.0.ttl; len = a.0.len }, a.0.pieces), each_record text a.1)
 
 -- ---- the whole
 
@@ -132,16 +127,14 @@ module _ (v : Version) (published : IsPublished zone_name v) (short : AllByRecur
     close_moments = record { primary = lit< tt; secondary = lit< tt; near = lit≤ tt };
     one_soa = record { history = v ∷ []; told = record { ends = refl; tells = refl; newer = refl; distinct = refl }; each = (published, tt) };
     records_fit = record {
-      asked = tt;
-      asked_data = tt;
-      sent = each_record (whole_text v) short;
-      sent_data = each_data (whole_text v) short;
       pages = cut.0;
       cut = cut.1;
       few = page_count;
       together = tt;
       more = tt;
     };
+    asked = tt;
+    sent = each_record (whole_text v) short;
     base_matches = tt;
     same_zone = record { apex = same_apex; class = same_class };
     room = numbered (length (spelling Axfr (whole_text v) generated.empty).versions) (ap (λ s. length s.versions) (whole_spells Axfr v generated.empty published.valid published.one_soa same_apex tt).0);

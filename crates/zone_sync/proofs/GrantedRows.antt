@@ -1,7 +1,6 @@
 -- The worked transfers meet their premises.
 use Rattle.std.proofs.Common.{ℕ, ◌≤◌, List, [], ◌∷◌, length, min, refl, arith, lit<, lit≤}
 use Rattle.dns_wire.specs.Wire.{message_wire}
-use Rattle.dns_wire.specs.Written.{IsRecord}
 use Rattle.tsig_port.specs.Tsig.{compose_len}
 use Rattle.tsig_port.specs.OneKey.{IsSigner, AreOneKey}
 use Rattle.zone_model.specs.Version.{Version}
@@ -11,6 +10,7 @@ use Rattle.zone_model.specs.TransferLaws.{IsPublished}
 use Rattle.zone_model.specs.ZoneRows as rows
 use Rattle.zone_model.proofs.Published.{published_by_test}
 use Rattle.xfr_client.specs.SoFar.{asked_octets, request_message}
+use Rattle.zone_sync.specs.Forms.{HasForm}
 use Rattle.zone_sync.specs.Fitting.{Fits}
 use Rattle.zone_sync.specs.Grants.{history_offer}
 use Rattle.zone_sync.specs.GrantRows as grants
@@ -32,20 +32,20 @@ third : IsPublished rows.e rows.history_3
 third = published_by_test rows.e rows.history_3 refl
 
 -- records with a wire form
-soa_is : (n : ℕ) → IsRecord (rows.soa n)
-soa_is n = record { owner = refl; rtype = lit< tt; class = lit< tt; ttl = lit< tt; len = lit< tt }
+soa_is : (n : ℕ) → HasForm (rows.soa n)
+soa_is n = (record { owner = refl; rtype = lit< tt; class = lit< tt; ttl = lit< tt; len = lit< tt }, refl)
 
-nezu_is : (n : ℕ) → IsRecord (rows.address rows.nezu n)
-nezu_is n = record { owner = refl; rtype = lit< tt; class = lit< tt; ttl = lit< tt; len = lit< tt }
+nezu_is : (n : ℕ) → HasForm (rows.address rows.nezu n)
+nezu_is n = (record { owner = refl; rtype = lit< tt; class = lit< tt; ttl = lit< tt; len = lit< tt }, refl)
 
-jain_is : (n : ℕ) → IsRecord (rows.address rows.jain n)
-jain_is n = record { owner = refl; rtype = lit< tt; class = lit< tt; ttl = lit< tt; len = lit< tt }
+jain_is : (n : ℕ) → HasForm (rows.address rows.jain n)
+jain_is n = (record { owner = refl; rtype = lit< tt; class = lit< tt; ttl = lit< tt; len = lit< tt }, refl)
 
-host_is : (n : ℕ) → IsRecord (rows.address rows.ns_host n)
-host_is n = record { owner = refl; rtype = lit< tt; class = lit< tt; ttl = lit< tt; len = lit< tt }
+host_is : (n : ℕ) → HasForm (rows.address rows.ns_host n)
+host_is n = (record { owner = refl; rtype = lit< tt; class = lit< tt; ttl = lit< tt; len = lit< tt }, refl)
 
-server_is : IsRecord (rows.ns rows.e rows.ns_host)
-server_is = record { owner = refl; rtype = lit< tt; class = lit< tt; ttl = lit< tt; len = lit< tt }
+server_is : HasForm (rows.ns rows.e rows.ns_host)
+server_is = (record { owner = refl; rtype = lit< tt; class = lit< tt; ttl = lit< tt; len = lit< tt }, refl)
 
 pub whole_fits_with : (differences : List Difference) → Fits (grants.asks Axfr rows.empty_zone) grants.key 1000 (grants.with_differences differences)
 whole_fits_with differences = record {
@@ -55,16 +55,14 @@ whole_fits_with differences = record {
   close_moments = record { primary = lit< tt; secondary = lit< tt; near = lit≤ tt };
   one_soa = record { history = rows.history_3 ∷ []; told = record { ends = refl; tells = refl; newer = refl; distinct = refl }; each = (third, tt) };
   records_fit = record {
-    asked = tt;
-    asked_data = tt;
-    sent = (soa_is 3, (server_is, (jain_is 2, (jain_is 3, (host_is 1, (soa_is 3, tt))))));
-    sent_data = (refl, (refl, (refl, (refl, (refl, (refl, tt))))));
     pages = grants.whole ∷ [];
     cut = record { joined = refl; filled = refl };
     few = lit≤ tt;
     together = tt;
     more = tt;
   };
+  asked = tt;
+  sent = (soa_is 3, (server_is, (jain_is 2, (jain_is 3, (host_is 1, (soa_is 3, tt))))));
   base_matches = tt;
   same_zone = record { apex = refl; class = refl };
   room = lit< tt;
@@ -114,16 +112,14 @@ changes_fit = record {
   close_moments = record { primary = lit< tt; secondary = lit< tt; near = lit≤ tt };
   one_soa = record { history = rows.history_1 ∷ rows.history_2 ∷ rows.history_3 ∷ []; told = record { ends = refl; tells = refl; newer = refl; distinct = refl }; each = (first, (second, (third, tt))) };
   records_fit = record {
-    asked = (soa_is 1, tt);
-    asked_data = (refl, tt);
-    sent = (soa_is 3, (soa_is 1, (nezu_is 5, (soa_is 2, (jain_is 4, (jain_is 2, (soa_is 2, (jain_is 4, (soa_is 3, (jain_is 3, (soa_is 3, tt)))))))))));
-    sent_data = (refl, (refl, (refl, (refl, (refl, (refl, (refl, (refl, (refl, (refl, (refl, tt)))))))))));
     pages = rows.history_text ∷ [];
     cut = record { joined = refl; filled = refl };
     few = lit≤ tt;
     together = refl;
     more = refl;
   };
+  asked = (soa_is 1, tt);
+  sent = (soa_is 3, (soa_is 1, (nezu_is 5, (soa_is 2, (jain_is 4, (jain_is 2, (soa_is 2, (jain_is 4, (soa_is 3, (jain_is 3, (soa_is 3, tt)))))))))));
   base_matches = record { one_apex_soa = refl; not_ahead = refl; caught_up = λ e. cc; starts = refl };
   same_zone = record { apex = refl; class = refl };
   room = lit< tt;
@@ -137,16 +133,14 @@ caught_up_fits = record {
   close_moments = record { primary = lit< tt; secondary = lit< tt; near = lit≤ tt };
   one_soa = record { history = rows.history_3 ∷ []; told = record { ends = refl; tells = refl; newer = refl; distinct = refl }; each = (third, tt) };
   records_fit = record {
-    asked = (soa_is 3, tt);
-    asked_data = (refl, tt);
-    sent = (soa_is 3, tt);
-    sent_data = (refl, tt);
     pages = (rows.soa 3 ∷ []) ∷ [];
     cut = record { joined = refl; filled = refl };
     few = lit≤ tt;
     together = refl;
     more = refl;
   };
+  asked = (soa_is 3, tt);
+  sent = (soa_is 3, tt);
   base_matches = record { one_apex_soa = refl; not_ahead = refl; caught_up = λ e. refl; starts = refl };
   same_zone = record { apex = refl; class = refl };
   room = lit< tt;

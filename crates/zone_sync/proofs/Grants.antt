@@ -41,6 +41,7 @@ use Rattle.zone_sync.specs.Grants.{Offers, history_offer}
 use Rattle.xfr_client.proofs.Requests.{octets_are}
 use Rattle.zone_sync.proofs.HonestRequests.{kind_of, mode_again}
 use Rattle.zone_sync.proofs.HonestRequests as requests
+use Rattle.zone_sync.proofs.WritableVersions.{forms_written, forms_data}
 use Rattle.zone_sync.proofs.HonestReplies.{published, one_apex_soa, apex_is_name, small_class, room_is}
 
 module _ (a : Asking) (server : TsigKey) (at : ℕ) (offer : Offer) (f : Fits a server at offer) where
@@ -54,10 +55,10 @@ module _ (a : Asking) (server : TsigKey) (at : ℕ) (offer : Offer) (f : Fits a 
   class = small_class a server at offer f
 
   abbrev soa : AllByRecursion IsRecord (asked_authority a)
-  soa = f.records_fit.asked
+  soa = forms_written (asked_authority a) f.asked
 
   abbrev pieces : HaveData (asked_authority a)
-  pieces = f.records_fit.asked_data
+  pieces = forms_data (asked_authority a) f.asked
 
   pub accepted : (keys : Keys) → keys (fold a.key.name) a.key.algorithm ≡ Some server → verdict keys at (asked_octets a) ≡ Accepted server
   accepted keys known =

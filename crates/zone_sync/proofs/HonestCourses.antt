@@ -30,13 +30,14 @@ use Rattle.xfr_course.specs.Honest.{carrier_of}
 use Rattle.xfr_course.specs.Success.{sent_course, CarrySent, Succeeds}
 use Rattle.xfr_course.proofs.Clients.{met_decides}
 use Rattle.xfr_course.proofs.Succeeding.{granted_succeeds}
-use Rattle.xfr_client.specs.SoFar.{Asking, asked_id, asked_question, asked_course, course_so_far, checked_so_far, fault_so_far, client_so_far}
+use Rattle.xfr_client.specs.SoFar.{Asking, asked_id, asked_question, asked_authority, asked_course, course_so_far, checked_so_far, fault_so_far, client_so_far}
 use Rattle.xfr_client.specs.Standing.{Passed}
 use Rattle.zone_sync.specs.Fitting.{answer_room, told_offer, sent_text, page_answers, sent_pages, begins_together, has_more, BaseMatches, Fits, GrantedSucceed}
 use Rattle.xfr_client.proofs.Outcomes.{comes, passed_course, stop_few}
 use Rattle.xfr_client.proofs.Replying.{so_far}
 use Rattle.zone_sync.proofs.HonestRequests.{kind_of}
 use Rattle.zone_sync.proofs.HonestRequests as requests
+use Rattle.zone_sync.proofs.WritableVersions.{forms_written, forms_data}
 use Rattle.zone_sync.proofs.HonestReplies as replies
 
 no_empty : (n : ℕ) → not (suc n == 0) ≡ true
@@ -146,7 +147,7 @@ module _ (a : Asking) (server : TsigKey) (at : ℕ) (offer : Offer) (f : Fits a 
   -- ---- what the messages carry
 
   taken_id : id_in request ≡ id
-  taken_id = requests.taken_id a f.client_signs f.close_moments.secondary name class f.records_fit.asked f.records_fit.asked_data
+  taken_id = requests.taken_id a f.client_signs f.close_moments.secondary name class (forms_written (asked_authority a) f.asked) (forms_data (asked_authority a) f.asked)
 
   carry_later : (pages : List (List Record)) → AllByRecursion (IsPage (answer_room a server)) pages → AllByRecursion (λ page. request_fault (id_in request) q false (read_of (page_answer request page)) ≡ None) pages
       → AllByRecursion (Carries (request_fault id q) false) (map carrier_of (page_answers a pages))
@@ -186,8 +187,8 @@ module _ (a : Asking) (server : TsigKey) (at : ℕ) (offer : Offer) (f : Fits a 
   carried : (pages : List (List Record)) (stop : Outcome) → IsCutInto (answer_room a server) singles text pages → Succeeds (sent_course e id (map carrier_of (page_answers a pages)) stop) offer.version
   carried [] stop cut = absurd (cc (cut.joined ∙ (replies.begins a server at offer f).is))
   carried (page ∷ more) stop cut =
-      let soa = f.records_fit.asked in
-      let pieces = f.records_fit.asked_data in
+      let soa = forms_written (asked_authority a) f.asked in
+      let pieces = forms_data (asked_authority a) f.asked in
       let early = f.close_moments.secondary in
       let begins = replies.begins a server at offer f in
       let begun : begins_with_soa text ≡ true = ap begins_with_soa begins.is ∙ begins.typed in

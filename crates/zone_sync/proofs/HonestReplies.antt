@@ -45,6 +45,7 @@ use Rattle.zone_sync.specs.Fitting.{answer_room, sent_text, page_answers, sent_p
 use Rattle.xfr_client.proofs.Standings.{none_passed, one_passed}
 use Rattle.zone_sync.proofs.HonestNames.{same_is_name}
 use Rattle.zone_sync.proofs.HonestRequests as requests
+use Rattle.zone_sync.proofs.WritableVersions.{forms_written, forms_data}
 
 -- ---- pages
 
@@ -202,7 +203,7 @@ begins a server at offer f = text_begins offer a.mode (zone_serial a.base.versio
 soa_is_record : (a : Asking) (server : TsigKey) (at : ℕ) (offer : Offer) (f : Fits a server at offer) → IsRecord (begins a server at offer f).soa
 soa_is_record a server at offer f =
     let b = begins a server at offer f in
-    let all : AllByRecursion IsRecord (b.soa ∷ b.rest) = subst (AllByRecursion IsRecord) b.is f.records_fit.sent in
+    let all : AllByRecursion IsRecord (b.soa ∷ b.rest) = subst (AllByRecursion IsRecord) b.is (forms_written (sent_text a offer) f.sent) in
     all.0
 
 pub apex_is_name : (a : Asking) (server : TsigKey) (at : ℕ) (offer : Offer) → Fits a server at offer → is_name a.base.version.apex ≡ true
@@ -244,10 +245,10 @@ module _ (a : Asking) (server : TsigKey) (at : ℕ) (offer : Offer) (f : Fits a 
   class = small_class a server at offer f
 
   abbrev soa : AllByRecursion IsRecord (asked_authority a)
-  soa = f.records_fit.asked
+  soa = forms_written (asked_authority a) f.asked
 
   abbrev pieces : HaveData (asked_authority a)
-  pieces = f.records_fit.asked_data
+  pieces = forms_data (asked_authority a) f.asked
 
   abbrev singles : Bool
   singles = in_singles a.mode offer.compatibility
@@ -306,10 +307,10 @@ module _ (a : Asking) (server : TsigKey) (at : ℕ) (offer : Offer) (f : Fits a 
   cut = f.records_fit.cut
 
   pub signable : AllByRecursion (CanSign server) (page_answers a pages)
-  signable = all_can_sign pages (each_page (answer_room a server) singles pages cut.filled) (in_pages IsRecord (answer_room a server) singles (sent_text a offer) pages cut f.records_fit.sent)
+  signable = all_can_sign pages (each_page (answer_room a server) singles pages cut.filled) (in_pages IsRecord (answer_room a server) singles (sent_text a offer) pages cut (forms_written (sent_text a offer) f.sent))
 
   pub readable : AllByRecursion (λ (m : Message). HaveData m.answers) (page_answers a pages)
-  readable = all_have pages (in_pages (λ r. IsTrue (is_data r.rtype r.fields)) (answer_room a server) singles (sent_text a offer) pages cut f.records_fit.sent_data)
+  readable = all_have pages (in_pages (λ r. IsTrue (is_data r.rtype r.fields)) (answer_room a server) singles (sent_text a offer) pages cut (forms_data (sent_text a offer) f.sent))
 
   -- ---- in sequence
 

@@ -1,8 +1,8 @@
--- What holds of every script that is spelt: its key is one to sign with, and both its zones are of one apex and class.
+-- What holds of every script that is spelt: its key is one to sign with, both its zones are of one apex and class, and its records have wire forms.
 use Rattle.std.specs.Prelude.{◌≡◌, ℕ, ◌+◌, ◌^◌, ◌<◌, suc, Bool, true, false, not, nat_lt, nat_le, ◌&&◌, ◌==◌, if◌then◌else◌, List, [], ◌∷◌, length, Option, Some, None, is_some, option_map, option_and_then, unwrap_or, Result, Ok, Err, IsTrue, codes, bytes_eq, filter, fold as fold_list}
 use Rattle.std.specs.Result.{result_ok, result_unwrap_or}
 use Rattle.std.specs.List.{AllByRecursion, list_all, slice_split}
-use Rattle.std.proofs.Common.{refl, sym, ap, ◌∙◌, subst, arith, lt-ltb}
+use Rattle.std.proofs.Common.{refl, sym, ap, ◌∙◌, subst, arith, lt-ltb, ltb-true, lit<}
 use Rattle.hex.specs.Hex as hex
 use Rattle.hex.specs.declared.error.FromHexError.{FromHexError}
 use Rattle.hex.proofs.HexLemmas.{decode_of-ok}
@@ -11,6 +11,7 @@ use Rattle.dns_name.specs.Octets.{◌>>=◌}
 use Rattle.dns_name.specs.Compression.{name_in, name_at}
 use Rattle.dns_name.proofs.NameBounds.{read_is_name}
 use Rattle.dns_rdata.specs.Records.{Record}
+use Rattle.dns_rdata.specs.Heads.{record_in}
 use Rattle.tsig_keys.specs.Hmac.{native_len}
 use Rattle.tsig_keys.specs.declared.errors.NewKeyError.{NewKeyError}
 use Rattle.tsig_keys.specs.declared.algorithms.Algorithm.{Algorithm}
@@ -20,13 +21,19 @@ use Rattle.zone_model.specs.Version.{Sets, Version}
 use Rattle.zone_model.specs.Edits.{Refusal, with_sets, has_data, second_alias, close}
 use Rattle.zone_model.specs.Classify.{ZoneFile, RecordVerdict, Accepted, Rejected, classify, opened, opened_with}
 use Rattle.zone_model.specs.Offer.{Provider, after_push, difference_if}
-use Rattle.zone_model.specs.TransferText.{Mode}
+use Rattle.zone_model.specs.Difference.{zone_serial}
+use Rattle.zone_model.specs.TransferText.{Mode, Axfr, Ixfr}
 use Rattle.zone_model.proofs.Folded.{same_name-Decides}
 use Rattle.zone_script.specs.Script as scripts
-use Rattle.zone_script.specs.Script.{script_of, hex_of, changed, committed_by}
+use Rattle.zone_script.specs.Script.{script_of, hex_of, number_of, changed, committed_by, primary_history, secondary_version}
+use Rattle.zone_script.specs.ScriptLines.{data_only}
 use Rattle.zone_script.specs.ScriptReaders.{wire_readers, key_of, algorithm_word, or_none, length_field}
+use Rattle.xfr_client.specs.SoFar.{authority_of}
+use Rattle.zone_sync.specs.Forms.{HasForm, HaveForms, IsWritable}
 use Rattle.zone_sync.specs.Fitting.{Fits}
 use Rattle.zone_sync.specs.Reported.{FitsLink, asking_in, offer_in, provider_in, pushed_all, primary_opening, primary_commits}
+use Rattle.zone_sync.proofs.SpelledRecords.{spelled_has_form}
+use Rattle.zone_sync.proofs.WritableVersions.{all_append, close_writable, added_writable, deleted_writable, file_writable, IsWritableProvider, push_writable, soa_forms, provider_forms}
 
 -- ---- options
 
@@ -122,9 +129,40 @@ key_holds (a ∷ b ∷ c ∷ d ∷ e ∷ f ∷ more) = tt
 
 -- ---- a line
 
+-- an edit's record
+abbrev ChangeSound : scripts.Change → Type 0
+ChangeSound (scripts.Plus r) = HasForm r
+ChangeSound (scripts.Minus r) = HasForm r
+ChangeSound scripts.Commit = Unit {0}
+
 abbrev LineSound : scripts.Line TsigKey → Type 0
+LineSound (scripts.ZoneLine apex class) = IsName apex × (class < 2 ^ 16)
 LineSound (scripts.KeyLine k) = IsSigner k
-LineSound _ = Unit {0}
+LineSound (scripts.AtLine p q) = Unit {0}
+LineSound (scripts.PrimaryLine r) = HasForm r
+LineSound (scripts.SecondaryLine r) = HasForm r
+LineSound (scripts.ChangeLine c) = ChangeSound c
+LineSound (scripts.QueryLine name rtype) = Unit {0}
+
+below_holds : (bound : ℕ) (digits : List ℕ) → Holds (λ n. n < bound) (scripts.number_below bound digits)
+below_holds bound digits = any_holds (λ n. n < bound) (λ n. if nat_lt n bound then Some n else None) (number_of digits) (λ n. by n (nat_lt n bound) refl)
+  where
+    by : (n : ℕ) (b : Bool) → nat_lt n bound ≡ b → Holds (λ m. m < bound) (if b then Some n else None)
+    by n true e = ltb-true n bound e
+    by n false e = tt
+
+data_holds : (r : Record) → HasForm r → Holds HasForm (data_only r)
+data_holds r h = if_holds HasForm (nat_le 250 r.rtype && nat_le r.rtype 255) None (Some r) tt h
+
+found_holds : (octets : List ℕ) → AreOctets octets → Holds HasForm (record_in octets)
+found_holds octets fit = by (record_in octets) refl
+  where
+    by : (o : Option Record) → record_in octets ≡ o → Holds HasForm o
+    by None e = tt
+    by (Some r) e = spelled_has_form octets r fit e
+
+field_holds : (text : List ℕ) → Holds HasForm (scripts.record_field wire_readers text)
+field_holds text = then_holds HasForm HasForm data_only _ (then_holds AreOctets HasForm record_in (hex_of text) (hex_holds text) found_holds) data_holds
 
 two_hold : (P : scripts.Line TsigKey → Type 0) (read : List ℕ → List ℕ → Option (scripts.Line TsigKey)) (fields : List (List ℕ)) → ((x y : List ℕ) → Holds P (read x y)) → Holds P (scripts.two_fields read fields)
 two_hold P read [] all = tt
@@ -141,18 +179,18 @@ none_holds : (P : scripts.Line TsigKey → Type 0) (line : scripts.Line TsigKey)
 none_holds P line [] is = is
 none_holds P line (x ∷ more) is = tt
 
-record_holds : (line : Record → scripts.Line TsigKey) → ((r : Record) → LineSound (line r)) → (fields : List (List ℕ)) → Holds LineSound (scripts.one_field (scripts.record_line wire_readers line) fields)
-record_holds line all fields = one_holds LineSound (scripts.record_line wire_readers line) fields (λ x. map_holds LineSound line (scripts.record_field wire_readers x) all)
+record_holds : (line : Record → scripts.Line TsigKey) → ((r : Record) → HasForm r → LineSound (line r)) → (fields : List (List ℕ)) → Holds LineSound (scripts.one_field (scripts.record_line wire_readers line) fields)
+record_holds line all fields = one_holds LineSound (scripts.record_line wire_readers line) fields (λ x. mapped HasForm LineSound line (scripts.record_field wire_readers x) (field_holds x) all)
 
 word_holds : (word : List ℕ) (fields : List (List ℕ)) → Holds LineSound (scripts.read_word wire_readers word fields)
 word_holds word fields =
-    if_holds LineSound (bytes_eq word (codes "zone")) _ _ (two_hold LineSound (scripts.zone_line wire_readers) fields (λ x y. any_holds LineSound _ (scripts.name_field wire_readers x) (λ n. map_holds LineSound (scripts.ZoneLine n) (scripts.number_below (2 ^ 16) y) (λ c. tt))))
+    if_holds LineSound (bytes_eq word (codes "zone")) _ _ (two_hold LineSound (scripts.zone_line wire_readers) fields (λ x y. then_holds IsName LineSound _ (scripts.name_field wire_readers x) (name_holds x) (λ n is. mapped (λ c. c < 2 ^ 16) LineSound (scripts.ZoneLine n) (scripts.number_below (2 ^ 16) y) (below_holds (2 ^ 16) y) (λ c small. (is, small)))))
     (if_holds LineSound (bytes_eq word (codes "key")) _ _ (mapped IsSigner LineSound scripts.KeyLine (key_of fields) (key_holds fields) (λ k is. is))
     (if_holds LineSound (bytes_eq word (codes "at")) _ _ (two_hold LineSound scripts.at_line fields (λ x y. any_holds LineSound _ (scripts.number_below (2 ^ 48) x) (λ p. map_holds LineSound (scripts.AtLine p) (scripts.number_below (2 ^ 48) y) (λ s. tt))))
-    (if_holds LineSound (bytes_eq word (codes "p")) _ _ (record_holds scripts.PrimaryLine (λ r. tt) fields)
-    (if_holds LineSound (bytes_eq word (codes "s")) _ _ (record_holds scripts.SecondaryLine (λ r. tt) fields)
-    (if_holds LineSound (bytes_eq word (codes "-")) _ _ (record_holds (λ r. scripts.ChangeLine (scripts.Minus r)) (λ r. tt) fields)
-    (if_holds LineSound (bytes_eq word (codes "+")) _ _ (record_holds (λ r. scripts.ChangeLine (scripts.Plus r)) (λ r. tt) fields)
+    (if_holds LineSound (bytes_eq word (codes "p")) _ _ (record_holds scripts.PrimaryLine (λ r is. is) fields)
+    (if_holds LineSound (bytes_eq word (codes "s")) _ _ (record_holds scripts.SecondaryLine (λ r is. is) fields)
+    (if_holds LineSound (bytes_eq word (codes "-")) _ _ (record_holds (λ r. scripts.ChangeLine (scripts.Minus r)) (λ r is. is) fields)
+    (if_holds LineSound (bytes_eq word (codes "+")) _ _ (record_holds (λ r. scripts.ChangeLine (scripts.Plus r)) (λ r is. is) fields)
     (if_holds LineSound (bytes_eq word (codes "commit")) _ _ (none_holds LineSound (scripts.ChangeLine scripts.Commit) fields tt)
     (if_holds LineSound (bytes_eq word (codes "query")) _ None (two_hold LineSound (scripts.query_line wire_readers) fields (λ x y. any_holds LineSound _ (scripts.name_field wire_readers x) (λ n. map_holds LineSound (scripts.QueryLine n) (scripts.number_below (2 ^ 16) y) (λ c. tt)))) tt))))))))
 
@@ -162,10 +200,17 @@ fields_hold (word ∷ fields) = word_holds word fields
 
 -- ---- a script
 
+-- a zone file whose records have wire forms; before its zone line it has the root's name and class 0
+abbrev FileSound : ZoneFile → Type 0
+FileSound f = IsName f.apex × (f.class < 2 ^ 16) × HaveForms f.accepted
+
 pub record Sound (s : scripts.Script TsigKey) : Type 0 where
   pub apex : s.secondary.apex ≡ s.primary.apex
   pub class : s.secondary.class ≡ s.primary.class
   pub key : (k : TsigKey) → s.key ≡ Some k → IsSigner k
+  pub primary : FileSound s.primary
+  pub secondary : FileSound s.secondary
+  pub changes : AllByRecursion ChangeSound s.changes
 
 abbrev Sounds : Result (scripts.Script TsigKey) ℕ → Type 0
 Sounds (Ok s) = Sound s
@@ -175,24 +220,30 @@ either : (b : Bool) (x y : Result (scripts.Script TsigKey) ℕ) → Sounds x →
 either true x y hx hy = hx
 either false x y hx hy = hy
 
-accept_holds : (f : ZoneFile) (r : Record) → Holds (λ (g : ZoneFile). (g.apex ≡ f.apex) × (g.class ≡ f.class)) (scripts.accept f r)
-accept_holds f r = by (classify f r)
+abbrev AcceptsTo : ZoneFile → ZoneFile → Type 0
+AcceptsTo f g = (g.apex ≡ f.apex) × (g.class ≡ f.class) × FileSound g
+
+accept_holds : (f : ZoneFile) (r : Record) → FileSound f → HasForm r → Holds (AcceptsTo f) (scripts.accept f r)
+accept_holds f r h is = by (classify f r)
   where
-    by : (v : RecordVerdict) → Holds (λ (g : ZoneFile). (g.apex ≡ f.apex) × (g.class ≡ f.class)) (scripts.accept_if f r v)
-    by (Accepted kind) = (refl, refl)
+    by : (v : RecordVerdict) → Holds (AcceptsTo f) (scripts.accept_if f r v)
+    by (Accepted kind) = (refl, refl, (h.0, h.1, all_append HasForm f.accepted (r ∷ []) h.2 (is, tt)))
     by (Rejected why) = tt
 
 take_sound : (s : scripts.Script TsigKey) (n : ℕ) (line : scripts.Line TsigKey) → LineSound line → Sound s → Holds Sound (scripts.take_line s n line)
-take_sound s n (scripts.ZoneLine apex class) l h = record { apex = refl; class = refl; key = h.key }
-take_sound s n (scripts.KeyLine k) l h = record { apex = h.apex; class = h.class; key = λ j e. subst (λ (x : TsigKey). IsSigner x) (some_is k j e) l }
-take_sound s n (scripts.AtLine p q) l h = record { apex = h.apex; class = h.class; key = h.key }
-take_sound s n (scripts.PrimaryLine r) l h = mapped (λ (g : ZoneFile). (g.apex ≡ s.primary.apex) × (g.class ≡ s.primary.class)) Sound _ (scripts.accept s.primary r) (accept_holds s.primary r) (λ g is. record { apex = h.apex ∙ sym is.0; class = h.class ∙ sym is.1; key = h.key })
-take_sound s n (scripts.SecondaryLine r) l h = mapped (λ (g : ZoneFile). (g.apex ≡ s.secondary.apex) × (g.class ≡ s.secondary.class)) Sound _ (scripts.accept s.secondary r) (accept_holds s.secondary r) (λ g is. record { apex = is.0 ∙ h.apex; class = is.1 ∙ h.class; key = h.key })
-take_sound s n (scripts.ChangeLine c) l h = map_holds Sound _ (scripts.edited s c) (λ v. record { apex = h.apex; class = h.class; key = h.key })
-take_sound s n (scripts.QueryLine name rtype) l h = record { apex = h.apex; class = h.class; key = h.key }
+take_sound s n (scripts.ZoneLine apex class) l h = record { apex = refl; class = refl; key = h.key; primary = (l.0, l.1, tt); secondary = (l.0, l.1, tt); changes = h.changes }
+take_sound s n (scripts.KeyLine k) l h = record { apex = h.apex; class = h.class; key = λ j e. subst (λ (x : TsigKey). IsSigner x) (some_is k j e) l; primary = h.primary; secondary = h.secondary; changes = h.changes }
+take_sound s n (scripts.AtLine p q) l h = record { apex = h.apex; class = h.class; key = h.key; primary = h.primary; secondary = h.secondary; changes = h.changes }
+take_sound s n (scripts.PrimaryLine r) l h = mapped (AcceptsTo s.primary) Sound _ (scripts.accept s.primary r) (accept_holds s.primary r h.primary l)
+    (λ g is. record { apex = h.apex ∙ sym is.0; class = h.class ∙ sym is.1; key = h.key; primary = is.2; secondary = h.secondary; changes = h.changes })
+take_sound s n (scripts.SecondaryLine r) l h = mapped (AcceptsTo s.secondary) Sound _ (scripts.accept s.secondary r) (accept_holds s.secondary r h.secondary l)
+    (λ g is. record { apex = is.0 ∙ h.apex; class = is.1 ∙ h.class; key = h.key; primary = h.primary; secondary = is.2; changes = h.changes })
+take_sound s n (scripts.ChangeLine c) l h = map_holds Sound _ (scripts.edited s c)
+    (λ v. record { apex = h.apex; class = h.class; key = h.key; primary = h.primary; secondary = h.secondary; changes = all_append ChangeSound s.changes (c ∷ []) h.changes (l, tt) })
+take_sound s n (scripts.QueryLine name rtype) l h = record { apex = h.apex; class = h.class; key = h.key; primary = h.primary; secondary = h.secondary; changes = h.changes }
 
 begun_sound : (s : scripts.Script TsigKey) (o : Option ℕ) → Sound s → Sounds (scripts.begun s o)
-begun_sound s None h = record { apex = h.apex; class = h.class; key = h.key }
+begun_sound s None h = record { apex = h.apex; class = h.class; key = h.key; primary = h.primary; secondary = h.secondary; changes = h.changes }
 begun_sound s (Some n) h = tt
 
 opened_sound : (s : scripts.Script TsigKey) (stage : ℕ) → Sound s → Sounds (scripts.opened_before s stage)
@@ -220,7 +271,7 @@ lines_sound (Ok s) n (l ∷ more) h =
     (either (scripts.is_skipped l) (Ok s) (scripts.read_next s n (scripts.read_line wire_readers l)) h (next_sound s n (scripts.read_line wire_readers l) (fields_hold (slice_split (λ o. o == 32) l)) h))
 
 nothing_sound : Sound (scripts.no_script {K = TsigKey})
-nothing_sound = record { apex = refl; class = refl; key = λ k e. cc e }
+nothing_sound = record { apex = refl; class = refl; key = λ k e. cc e; primary = (refl, lit< tt, tt); secondary = (refl, lit< tt, tt); changes = tt }
 
 pub script_sound : (text : List ℕ) (s : scripts.Script TsigKey) → script_of wire_readers text ≡ Ok s → Sound s
 script_sound text s e = subst (λ (r : Result (scripts.Script TsigKey) ℕ). Sounds r) e (lines_sound (Ok scripts.no_script) 1 (scripts.script_lines text) nothing_sound)
@@ -278,6 +329,35 @@ pub kept_in : (s : scripts.Script TsigKey) (key : TsigKey) → IsOf s.primary.ap
 kept_in s key =
     kept_of s.primary.apex s.primary.class _ (primary_commits s) (opened_of s.primary) (commits_of s.primary.apex s.primary.class (primary_opening s) s.changes (opened_of s.primary))
 
+-- ---- their records have wire forms
+
+commits_writable : (v : Version) (changes : List scripts.Change) → IsWritable v → AllByRecursion ChangeSound changes → AllByRecursion IsWritable (committed_by v changes)
+commits_writable v [] h a = tt
+commits_writable v (scripts.Commit ∷ more) h a = (close_writable v h, commits_writable (close v) more (close_writable v h) a.1)
+commits_writable v (scripts.Plus r ∷ more) h a = commits_writable (changed v (scripts.Plus r)) more (added_writable v h r a.0) a.1
+commits_writable v (scripts.Minus r ∷ more) h a = commits_writable (changed v (scripts.Minus r)) more (deleted_writable v h r a.0) a.1
+
+opening_writable : (f : ZoneFile) → FileSound f → IsWritable (close (opened f))
+opening_writable f h = close_writable (opened f) (file_writable f h.0 h.1 h.2)
+
+-- each version of a script is writable
+pub script_writable : (text : List ℕ) (s : scripts.Script TsigKey) → script_of wire_readers text ≡ Ok s → AllByRecursion IsWritable (primary_history s) × IsWritable (secondary_version s)
+script_writable text s spelt =
+    let sound = script_sound text s spelt in
+    let first = opening_writable s.primary sound.primary in
+    ((first, commits_writable (close (opened s.primary)) s.changes first sound.changes), opening_writable s.secondary sound.secondary)
+
+all_pushed : (p : Provider) (vs : List Version) → IsWritableProvider p → AllByRecursion IsWritable vs → IsWritableProvider (pushed_all p vs)
+all_pushed p [] h a = h
+all_pushed p (v ∷ more) h a = all_pushed (after_push p v (difference_if p.kept v)) more (push_writable p v h a.0) a.1
+
+provider_writable : (s : scripts.Script TsigKey) (key : TsigKey) → AllByRecursion IsWritable (primary_history s) → IsWritableProvider (provider_in s key)
+provider_writable s key a = all_pushed _ (primary_commits s) (record { kept = a.0; differences = tt }) a.1
+
+asked_forms : (mode : Mode) (v : Version) → IsWritable v → HaveForms (authority_of mode v)
+asked_forms Axfr v h = tt
+asked_forms Ixfr v h = soa_forms v h
+
 -- ---- the premises of success that hold of every script
 
 none_before : (n m : ℕ) → n < m → 0 + n < m
@@ -288,6 +368,7 @@ script_fits mode text s key longest spelt f =
     let sound = script_sound text s spelt in
     let signs = sound.key key f.keyed in
     let kept = kept_in s key in
+    let all = script_writable text s spelt in
     let base = opened_of s.secondary in
     record {
       client_signs = signs;
@@ -296,6 +377,8 @@ script_fits mode text s key longest spelt f =
       close_moments = f.close_moments;
       one_soa = f.one_soa;
       records_fit = f.records_fit;
+      asked = asked_forms mode (secondary_version s) all.1;
+      sent = provider_forms (provider_in s key) mode (zone_serial (secondary_version s)) _ (provider_writable s key all.0);
       base_matches = f.base_matches;
       same_zone = record { apex = (same_name-Decides (opened s.secondary).apex (provider_in s key).kept.apex).1 (ap fold (base.0 ∙ sound.apex ∙ sym kept.0)); class = base.1 ∙ sound.class ∙ sym kept.1 };
       room = none_before _ _ f.room;

@@ -1,7 +1,6 @@
 -- The worked scripts: their zones, keys and moments fit each other.
 use Rattle.std.proofs.Common.{ℕ, ◌≤◌, [], ◌∷◌, length, min, refl, arith, lit<, lit≤}
 use Rattle.dns_wire.specs.Wire.{message_wire}
-use Rattle.dns_wire.specs.Written.{IsRecord}
 use Rattle.tsig_port.specs.Tsig.{TsigKey, compose_len}
 use Rattle.zone_model.specs.TransferText.{Mode, Axfr, Ixfr}
 use Rattle.zone_model.specs.TransferLaws.{IsPublished}
@@ -12,12 +11,6 @@ use Rattle.xfr_client.specs.SoFar.{asked_octets, request_message}
 use Rattle.zone_sync.specs.Reported.{asking_in, provider_in, FitsLink}
 use Rattle.zone_sync.specs.ProgramRows.{small_key, small_read, small_sent, changes_read, changes_sent, before, after}
 use Rattle.zone_sync.proofs.Lengths.{asked_length}
-
-soa_is : (n : ℕ) → IsRecord (rows.soa n)
-soa_is n = record { owner = refl; rtype = lit< tt; class = lit< tt; ttl = lit< tt; len = lit< tt }
-
-host_is : (n : ℕ) → IsRecord (rows.address rows.ns_host n)
-host_is n = record { owner = refl; rtype = lit< tt; class = lit< tt; ttl = lit< tt; len = lit< tt }
 
 -- requests fit a link
 short_small : length (message_wire (request_message (asking_in Axfr small_read small_key))) ≤ 1000
@@ -42,10 +35,6 @@ small_fits = record {
   close_moments = record { primary = lit< tt; secondary = lit< tt; near = lit≤ tt };
   one_soa = record { history = (provider_in small_read small_key).kept ∷ []; told = record { ends = refl; tells = refl; newer = refl; distinct = refl }; each = (small, tt) };
   records_fit = record {
-    asked = tt;
-    asked_data = tt;
-    sent = (soa_is 1, (host_is 1, (soa_is 1, tt)));
-    sent_data = (refl, (refl, (refl, tt)));
     pages = small_sent ∷ [];
     cut = record { joined = refl; filled = refl };
     few = lit≤ tt;
@@ -70,10 +59,6 @@ changes_fit = record {
   close_moments = record { primary = lit< tt; secondary = lit< tt; near = lit≤ tt };
   one_soa = record { history = before ∷ after ∷ []; told = record { ends = refl; tells = refl; newer = refl; distinct = refl }; each = (first, (second, tt)) };
   records_fit = record {
-    asked = (soa_is 1, tt);
-    asked_data = (refl, tt);
-    sent = (soa_is 2, (soa_is 1, (soa_is 2, (host_is 1, (soa_is 2, tt)))));
-    sent_data = (refl, (refl, (refl, (refl, (refl, tt)))));
     pages = changes_sent ∷ [];
     cut = record { joined = refl; filled = refl };
     few = lit≤ tt;

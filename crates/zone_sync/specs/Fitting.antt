@@ -6,7 +6,6 @@ use Rattle.dns_name.specs.Names.{Name, same_name}
 use Rattle.dns_numbers.specs.Serial.{serial_lt}
 use Rattle.dns_rdata.specs.Records.{Record}
 use Rattle.dns_wire.specs.Wire.{Message, message_wire, question_wire}
-use Rattle.dns_wire.specs.Written.{IsRecord}
 use Rattle.tsig_port.specs.Tsig.{TsigKey, mac_in, compose_len, signed_answers}
 use Rattle.tsig_port.specs.Checked.{taken_message}
 use Rattle.tsig_port.specs.OneKey.{IsSigner, AreOneKey}
@@ -16,13 +15,13 @@ use Rattle.zone_model.specs.TransferText.{Mode, Axfr, Ixfr, OnIxfr}
 use Rattle.zone_model.specs.Spells.{spelling}
 use Rattle.zone_model.specs.TransferLaws.{IsPublished}
 use Rattle.zone_model.specs.Offer.{Offer, IsHistory, IsCutInto, text_of, room_of, first_is}
-use Rattle.xfr_model.specs.Messages.{HaveData}
 use Rattle.xfr_replies.specs.TransferPages.{page_answer}
 use Rattle.xfr_course.specs.Outcome.{Outcome}
 use Rattle.xfr_course.specs.Courses.{has_header, most_replies}
 use Rattle.xfr_course.specs.Granting.{in_singles}
 use Rattle.xfr_course.specs.Success.{Succeeds}
 use Rattle.xfr_client.specs.SoFar.{Asking, asked_octets, asked_question, asked_authority, course_so_far}
+use Rattle.zone_sync.specs.Forms.{HaveForms}
 
 -- ---- what is sent
 
@@ -72,12 +71,8 @@ begins_together room text = nat_le (length text) 1 || nat_le (room_of (take 2 te
 abbrev pub has_more : List Record → Bool
 has_more text = not (length text == 2)
 
--- the records of request and text have wire forms; the text is cut into pages that fill signed messages, no more than a secondary takes
+-- the text is cut into pages that fill signed messages, no more than a secondary takes
 pub record RecordsFit (a : Asking) (server : TsigKey) (offer : Offer) : Type 0 where
-  pub asked : AllByRecursion IsRecord (asked_authority a)
-  pub asked_data : HaveData (asked_authority a)
-  pub sent : AllByRecursion IsRecord (sent_text a offer)
-  pub sent_data : HaveData (sent_text a offer)
   pub pages : List (List Record)
   -- one record a message only for AXFR, where the offer says so (RFC 5936, 7)
   pub cut : IsCutInto (answer_room a server) (in_singles a.mode offer.compatibility) (sent_text a offer) pages
@@ -106,6 +101,9 @@ pub record Fits (a : Asking) (server : TsigKey) (at : ℕ) (offer : Offer) : Typ
   pub close_moments : AreClose at a.at
   pub one_soa : ArePublished a.mode a.base.version.apex offer
   pub records_fit : RecordsFit a server offer
+  -- the records of request and text have wire forms, as those of writable versions do
+  pub asked : HaveForms (asked_authority a)
+  pub sent : HaveForms (sent_text a offer)
   pub base_matches : OnIxfr a.mode (BaseMatches a.base.version offer one_soa.history)
   pub same_zone : AreOfOneZone a.base.version offer.version
   -- there are numbers left for the versions that are spelt

@@ -4,6 +4,7 @@ pub mod Reported
 pub mod Statuses
 pub mod Serving
 pub mod LinkTransfers
+pub mod Forms
 pub mod Fitting
 pub mod Delivery
 pub mod Grants
