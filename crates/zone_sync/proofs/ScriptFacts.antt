@@ -22,18 +22,18 @@ use Rattle.zone_model.specs.Edits.{Refusal, with_sets, has_data, second_alias, c
 use Rattle.zone_model.specs.Classify.{ZoneFile, RecordVerdict, Accepted, Rejected, classify, opened, opened_with}
 use Rattle.zone_model.specs.Offer.{Provider, after_push, difference_if}
 use Rattle.zone_model.specs.Difference.{zone_serial}
-use Rattle.zone_model.specs.TransferText.{Mode, Axfr, Ixfr}
+use Rattle.zone_model.specs.TransferText.{Mode}
 use Rattle.zone_model.proofs.Folded.{same_name-Decides}
 use Rattle.zone_script.specs.Script as scripts
 use Rattle.zone_script.specs.Script.{script_of, hex_of, number_of, changed, committed_by, primary_history, secondary_version}
 use Rattle.zone_script.specs.ScriptLines.{data_only}
 use Rattle.zone_script.specs.ScriptReaders.{wire_readers, key_of, algorithm_word, or_none, length_field}
-use Rattle.xfr_client.specs.SoFar.{authority_of}
 use Rattle.zone_sync.specs.Forms.{HasForm, HaveForms, IsWritable}
 use Rattle.zone_sync.specs.Fitting.{Fits}
 use Rattle.zone_sync.specs.Reported.{FitsLink, asking_in, offer_in, provider_in, pushed_all, primary_opening, primary_commits}
 use Rattle.zone_sync.proofs.SpelledRecords.{spelled_has_form}
-use Rattle.zone_sync.proofs.WritableVersions.{all_append, close_writable, added_writable, deleted_writable, file_writable, IsWritableProvider, push_writable, soa_forms, provider_forms}
+use Rattle.zone_sync.proofs.WritableVersions.{all_append, close_writable, added_writable, deleted_writable, file_writable, IsWritableProvider, push_writable, provider_forms}
+use Rattle.zone_sync.proofs.OfferForms.{asked_forms}
 
 -- ---- options
 
@@ -353,10 +353,6 @@ all_pushed p (v ∷ more) h a = all_pushed (after_push p v (difference_if p.kept
 
 provider_writable : (s : scripts.Script TsigKey) (key : TsigKey) → AllByRecursion IsWritable (primary_history s) → IsWritableProvider (provider_in s key)
 provider_writable s key a = all_pushed _ (primary_commits s) (record { kept = a.0; differences = tt }) a.1
-
-asked_forms : (mode : Mode) (v : Version) → IsWritable v → HaveForms (authority_of mode v)
-asked_forms Axfr v h = tt
-asked_forms Ixfr v h = soa_forms v h
 
 -- ---- the premises of success that hold of every script
 

@@ -25,7 +25,7 @@ use Rattle.zone_model.specs.Difference.{Difference, holds, entry_without, withou
 use Rattle.zone_model.specs.TransferText.{Mode, Axfr, Ixfr, is_plain}
 use Rattle.zone_model.specs.Offer.{Offer, Provider, successive, after_serial, has_start, pushed, from_serial, difference_if, offer_of, after_push, side_soas, side_records, difference_text, is_apex_soa, is_sendable, whole_text, changes_text, changes_or_whole, text_of}
 use Rattle.zone_model.proofs.Folded.{key_from_tie}
-use Rattle.zone_sync.specs.Forms.{HasForm, HaveForms, IsSetOf, IsEntry, IsWritable}
+use Rattle.zone_sync.specs.Forms.{HasForm, HaveForms, IsSetOf, IsEntry, IsWritableStop, IsWritable}
 
 -- ---- lists
 
@@ -242,16 +242,13 @@ module _ (v : Version) (h : IsWritable v) where
       by None f = tt
       by (Some s) f = record_forms v.apex type_soa v.class s h.apex (lit< tt) h.class f
 
-  -- a stop of a walk
-  abbrev IsStop : Stop → Type 0
-  IsStop s = IsTrue (is_name s.owner) × (s.rtype < 2 ^ 16) × IsSetOf s.rtype s.contents
-
-  stops : (es : Sets) → AllByRecursion IsEntry es → AllByRecursion IsStop (map (λ (e : Key × RecordSet). record { owner = shown_owner v e.0.0; rtype = e.0.1; contents = e.1; below_cut = is_some (highest_cut v e.0.0) }) es)
+  -- the stops of a walk
+  stops : (es : Sets) → AllByRecursion IsEntry es → AllByRecursion IsWritableStop (map (λ (e : Key × RecordSet). record { owner = shown_owner v e.0.0; rtype = e.0.1; contents = e.1; below_cut = is_some (highest_cut v e.0.0) }) es)
   stops [] a = tt
-  stops (e ∷ es) a = ((shown_named e.0.0 a.0.owner, a.0.rtype, a.0.contents), stops es a.1)
+  stops (e ∷ es) a = (record { owner = shown_named e.0.0 a.0.owner; rtype = a.0.rtype; contents = a.0.contents }, stops es a.1)
 
   walk_forms : HaveForms (records_of_version v)
-  walk_forms = all_flat IsStop HasForm (λ (s : Stop). records_of s.owner s.rtype v.class s.contents) (walk v) (λ s is. record_forms s.owner s.rtype v.class s.contents is.0 is.1 h.class is.2) (stops v.sets h.sets)
+  walk_forms = all_flat IsWritableStop HasForm (λ (s : Stop). records_of s.owner s.rtype v.class s.contents) (walk v) (λ s is. record_forms s.owner s.rtype v.class s.contents is.owner is.rtype h.class is.contents) (stops v.sets h.sets)
 
   difference_forms : (d : Difference) → IsWritableDifference d → HaveForms (difference_text v d)
   difference_forms d is =
@@ -259,7 +256,7 @@ module _ (v : Version) (h : IsWritable v) where
       (all_append HasForm (side_soas v d.removed ++ side_records v d.removed) (side_soas v d.added)
       (all_append HasForm (side_soas v d.removed) (side_records v d.removed) (side_soa_forms d.removed is.removed) (side_forms d.removed is.removed)) (side_soa_forms d.added is.added)) (side_forms d.added is.added)
 
-  whole_forms : HaveForms (whole_text v)
+  pub whole_forms : HaveForms (whole_text v)
   whole_forms =
       let soa = soa_forms v h in
       let middle = filter (λ r. not (is_apex_soa v r)) (records_of_version v) in

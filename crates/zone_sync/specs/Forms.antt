@@ -5,6 +5,7 @@ use Rattle.dns_name.specs.Names.{is_name}
 use Rattle.dns_rdata.specs.Records.{Record, is_data}
 use Rattle.dns_wire.specs.Written.{IsRecord}
 use Rattle.zone_model.specs.Version.{RecordSet, Key, Version}
+use Rattle.zone_model.specs.Walk.{Stop}
 
 -- the records have wire forms, and data of their types
 abbrev pub HasForm : Record → Type 0
@@ -22,6 +23,12 @@ pub record IsEntry (e : Key × RecordSet) : Type 0 where
   pub owner : IsTrue (is_name e.0.0)
   pub rtype : e.0.1 < 2 ^ 16
   pub contents : IsSetOf e.0.1 e.1
+
+-- .. of a stop of a walk
+pub record IsWritableStop (s : Stop) : Type 0 where
+  pub owner : IsTrue (is_name s.owner)
+  pub rtype : s.rtype < 2 ^ 16
+  pub contents : IsSetOf s.rtype s.contents
 
 -- .. and all of a version
 pub record IsWritable (v : Version) : Type 0 where
