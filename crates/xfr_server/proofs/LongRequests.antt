@@ -9,21 +9,25 @@ use Rattle.dns_wire.specs.Wire.{Building, message_wire, fits}
 use Rattle.zone_model.specs.Version.{Version}
 use Rattle.zone_model.specs.Answer.{apex_soa_record}
 use Rattle.zone_model.specs.Offer.{Offer}
-use Rattle.xfr_services.specs.Items.{Sending, sent_by, reply_item, feedback_item}
+use Rattle.xfr_services.specs.Items.{Sending, Calls, sent_by, reply_item, feedback_item}
 use Rattle.xfr_services.specs.Items.Sending.{Given, Failed}
+use Rattle.xfr_services.specs.LongReplies.{FailsOnlyWhereLong}
 use Rattle.xfr_services.specs.Replying.{error_reply}
 use Rattle.tsig_port.specs.Tsig.{TsigKey}
 use Rattle.tsig_port.specs.ServerCheck.{Keys, verdict}
 use Rattle.xfr_signing.specs.Failing.{fails, bare_len, FailsWhereLong, IsTooLong}
 use Rattle.xfr_signing.specs.SignedServing.{SendsChecked}
 use Rattle.xfr_services.specs.declared.requests.Request.{Request}
+use Rattle.xfr_services.specs.declared.requests.TransportSpecificContext.{TransportSpecificContext}
+use Rattle.xfr_services.specs.declared.services.ServiceError.{ServiceError}
+use Rattle.xfr_services.proofs.LongReplies.{calls_only, long_questions}
 use Rattle.xfr_services.specs.declared.services.ServiceFeedback.TheVariants.{EndTransaction}
 use Rattle.xfr_signing.proofs.Failing.{errors_fail, checked_fails}
 use Rattle.xfr_replies.specs.TransferPages.{page_answer, page_message, page_room, has_page}
 use Rattle.xfr_replies.specs.PagedReplies.{page_sent, servfail_sent, end_sent}
 use Rattle.xfr_replies.specs.PulledStreams.{SendsText}
 use Rattle.xfr_server.specs.Requests.{with_metadata}
-use Rattle.xfr_server.specs.Transfers.{Choice, transfer_mode, soa_reply, udp_reply, sent_once, chosen, reply_limit, is_udp, SendsChoice}
+use Rattle.xfr_server.specs.Transfers.{Choice, transfer_mode, soa_reply, udp_reply, sent_once, chosen, reply_limit, is_udp, SendsChoice, SendsAnswer}
 use Rattle.xfr_server.specs.Transfers.Choice.{Refuse, SoaAlone, Text}
 use Rattle.xfr_server.specs.Serving.{SendsIn, SendsTransfer}
 use Rattle.xfr_providers.specs.declared.providers.XfrDataProviderError.{XfrDataProviderError}
@@ -84,6 +88,14 @@ choice_fails request limit udp (Refuse rcode) sent is e = error_fails request rc
 choice_fails request limit udp (SoaAlone v) sent is e = soa_fails request limit v (ap fails (sym is) ∙ e)
 choice_fails request limit true (Text v singles text) sent is e = udp_fails request limit v text (ap fails (sym is) ∙ e)
 choice_fails request limit false (Text v singles text) sent s e = text_fails request limit singles text sent s e
+
+-- what is sent in answer to a transfer request
+pub answers_only : {S : Type 0} (told : Option ℕ → Result Offer XfrDataProviderError) (mode : XfrMode) (transport : TransportSpecificContext) (reserved : ℕ) (message : List ℕ)
+    (LeftOf : S → List Sending → Type 0) (result : Result S ServiceError)
+    → Calls (SendsAnswer told mode transport reserved message) LeftOf result → Calls (FailsOnlyWhereLong message) LeftOf result
+answers_only told mode transport reserved message LeftOf result calls =
+    calls_only (SendsAnswer told mode transport reserved message) (FailsOnlyWhereLong message) LeftOf result
+    (λ sent sends e. long_questions message (choice_fails message (reply_limit transport reserved) (is_udp transport) (chosen told mode (is_udp transport) message) sent sends e)) calls
 
 module _ {M : Type 0} (IsDefault : M → Type 0) (Next : Request M → Option (List Sending) → Type 0) (told : List ℕ → M → Option ℕ → Result Offer XfrDataProviderError) (next : FailsWhereLong Next) (r : Request M) (sent : Option (List Sending)) where
   mode_fails : (mode : Option XfrMode) → SendsIn IsDefault Next told r sent mode → fails sent ≡ true → 65535 < bare_len r.message

@@ -94,18 +94,21 @@ impl<M: Default + Drop, N: Service<M> + Drop, X: XfrDataProvider<M> + Drop> Serv
     for XfrMiddlewareSvc<N, X> {
     ghost use Rattle.xfr_server.specs.Items.{Calls};
     ghost use Rattle.xfr_server.specs.Serving.{SendsTransfer};
+    ghost use Rattle.xfr_services.specs.LongReplies.{FailsOnlyWhereLong};
 
     type Stream = XfrMiddlewareStream<N::Stream>;
 
     ghost Sends = { λ s. SendsTransfer M.is_default (N.Sends s.0) (X.told s.1) };
 
+    #[tactic(auto, using(crate::proofs::LongRequests::answers_only))]
     fn call<R>(
         &self,
         rt: &R,
         alloc: Global,
         request: Request<M>,
     ) -> Result<XfrMiddlewareStream<N::Stream>, ServiceError>
-        ensures { Calls (SendsTransfer M.is_default (N.Sends self.now.0) (X.told self.now.1) request) (TransferLeft N.Stream.LeftOf) result }
+        ensures calls { Calls (SendsTransfer M.is_default (N.Sends self.now.0) (X.told self.now.1) request) (TransferLeft N.Stream.LeftOf) result }
+        ensures failing { Calls (FailsOnlyWhereLong request.message) (TransferLeft N.Stream.LeftOf) result }
     {
         match transfer_mode(&request.message.as_message()) {
             Some(mode) => answer_transfer(rt, alloc, &self.provider, request, mode),

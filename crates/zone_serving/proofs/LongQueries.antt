@@ -1,6 +1,6 @@
 -- Where no reply can be made.
 use Rattle.std.proofs.Common.{◌≡◌, ℕ, ◌<◌, ◌≤◌, min, nat_le, Bool, true, false, List, [], ◌∷◌, ◌++◌, length, length-append, Option, Some, None, option_map, not, refl, sym, ap, ◌∙◌, subst, arith}
-use Rattle.std.specs.Prelude.{◌==◌, IsSome, flat_map, if◌then◌else◌}
+use Rattle.std.specs.Prelude.{◌==◌, IsSome, Result, flat_map, if◌then◌else◌}
 use Rattle.std.proofs.lemmas.Bool.Decides.{nat_tests}
 use Rattle.dns_name.specs.Names.{name_wire}
 use Rattle.dns_name.specs.Octets.{u16_octets}
@@ -11,11 +11,14 @@ use Rattle.dns_wire.proofs.Questions.{wire_length}
 use Rattle.zone_lookup.proofs.Limits.{asked}
 use Rattle.dns_wire.specs.Parse.{sole_question_in}
 use Rattle.zone_model.specs.Version.{Version}
-use Rattle.xfr_services.specs.Items.{Sending, one_reply, all_given}
+use Rattle.xfr_services.specs.Items.{Sending, Makes, Calls, one_reply, all_given}
+use Rattle.xfr_services.specs.LongReplies.{FailsOnlyWhereLong}
 use Rattle.xfr_services.specs.Replying.{notimp, refused, error_replies}
 use Rattle.xfr_signing.specs.Failing.{fails, bare_len}
 use Rattle.xfr_services.specs.declared.requests.Request.{Request}
 use Rattle.xfr_services.specs.declared.services.CallResult.{CallResult}
+use Rattle.xfr_services.specs.declared.services.ServiceError.{ServiceError}
+use Rattle.xfr_services.proofs.LongReplies.{long_questions, made_fails}
 use Rattle.xfr_signing.proofs.Failing.{errors_fail}
 use Rattle.zone_serving.specs.ZoneReplies.{is_in_zone, zone_reply, replies_to_question, replies_to_sole, query_replies, query_sends, room}
 
@@ -42,6 +45,13 @@ by_header v limit request q false false e = sole v limit request q e
 pub queries_fail : {M : Type 0} (v : Version) (r : Request M) (sent : Option (List Sending)) → sent ≡ query_sends v r → fails sent ≡ true → 65535 < bare_len r.message
 queries_fail v r sent is e =
     by_header v (room r.transport r.reserved) r.message (sole_question_in r.message) (header_in r.message).qr (not ((header_in r.message).opcode == 0)) (ap fails (sym is) ∙ e)
+
+-- .. by what is made of it
+pub queries_only : (v : Version) (limit : ℕ) (request : List ℕ) (result : Result (List CallResult) ServiceError) → Makes (query_replies v limit request) result
+    → Calls (FailsOnlyWhereLong request) (λ s items. items ≡ all_given s) result
+queries_only v limit request result made =
+    made_fails request (query_replies v limit request) result made
+    (λ e. long_questions request (by_header v limit request (sole_question_in request) (header_in request).qr (not ((header_in request).opcode == 0)) e))
 
 -- ---- where one can
 

@@ -59,6 +59,7 @@ impl<M: Drop, Z: StoredZone + Drop> Service<M> for ZoneQueries<Z> {
     ghost use Rattle.std.specs.Prelude.{◌≡◌, false, Err};
     ghost use Rattle.dns_wire.specs.Wire.{header_in};
     ghost use Rattle.xfr_services.specs.Items.{Calls, all_given};
+    ghost use Rattle.xfr_services.specs.LongReplies.{FailsOnlyWhereLong};
     ghost use Rattle.xfr_services.specs.declared.services.ServiceError.TheVariants.{Memory};
     ghost use Rattle.zone_serving.specs.ZoneReplies.{query_sends};
 
@@ -69,6 +70,7 @@ impl<M: Drop, Z: StoredZone + Drop> Service<M> for ZoneQueries<Z> {
     /// Want of memory is told only where there is a reply to make: a response has none.
     fn call<R>(&self, rt: &R, alloc: Global, request: Request<M>) -> Result<Replies, ServiceError>
         ensures sends { Calls (λ sent. sent ≡ query_sends (Z.current self.now) request) (λ s items. items ≡ all_given s) result }
+        ensures failing { Calls (FailsOnlyWhereLong request.message) (λ s items. items ≡ all_given s) result }
         ensures memory { result ≡ Err Memory → (header_in request.message).qr ≡ false }
     {
         let limit = room(request.transport, request.reserved);
