@@ -1,6 +1,7 @@
 //! Transfers whose replies are made here: what is committed, and the answer, as RFC 5936, 2.2 has it.
 ghost use Rattle.std.specs.Prelude.{◌≡◌};
 ghost use Rattle.xfr_server.specs.Items.{Calls, all_given};
+ghost use Rattle.xfr_services.specs.LongReplies.{FailsOnlyWhereLong};
 
 use crate::common::{append_set, empty_zone, is, line_of, octets_of, shared_key};
 use dns_rdata::{StoredRecord, record_from_octets};
@@ -12,6 +13,7 @@ use std::alloc::Global;
 use std::process::Abort;
 use tsig_port::{Key, ServerSequence, Time48, ValidationError};
 use xfr_client::{protocol, update};
+use xfr_server::laws::made_replies_do_not_fail;
 use xfr_server::{
     CallResult, Replies, Request, Service, ServiceError, ServiceFeedback, TsigMiddlewareSvc,
 };
@@ -150,11 +152,17 @@ impl Service<Option<Key>> for Sender {
         alloc: Global,
         request: Request<Option<Key>>,
     ) -> Result<Replies, ServiceError>
-        ensures { Calls (λ sent. Unit {0}) (λ s items. items ≡ all_given s) result }
+        ensures calls { Calls (λ sent. Unit {0}) (λ s items. items ≡ all_given s) result }
+        ensures failing { Calls (FailsOnlyWhereLong request.message) (λ s items. items ≡ all_given s) result }
     {
+        // For the proof: replies that are made don't fail.
+        made_replies_do_not_fail();
         let id = request.message().header().id;
         drop(request);
-        replies_of(alloc, id, replies_in(self.case))
+        match replies_of(alloc, id, replies_in(self.case)) {
+            Ok(replies) => Ok(replies),
+            Err(_) => Err(ServiceError::Memory),
+        }
     }
 }
 

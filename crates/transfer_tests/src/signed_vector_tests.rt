@@ -1,6 +1,7 @@
 //! Signed replies as dnspython signs them: a stream of five, those to requests with EDNS, and the one in place of a reply that is too long.
 ghost use Rattle.std.specs.Prelude.{◌≡◌};
 ghost use Rattle.xfr_server.specs.Items.{Calls, all_given};
+ghost use Rattle.xfr_services.specs.LongReplies.{FailsOnlyWhereLong};
 
 use crate::common::{EXAMPLE, KEY, is, octets_of, shared_key};
 use crate::service_tests::pulled;
@@ -16,6 +17,7 @@ use std::alloc::Global;
 use std::process::Abort;
 use std::str::FromStr;
 use tsig_port::{Algorithm, Key, Time48};
+use xfr_server::laws::made_replies_do_not_fail;
 use xfr_server::{
     CallResult, HistoryProvider, Replies, Request, Service, ServiceError, ServiceFeedback,
     TransportSpecificContext, TsigMiddlewareSvc, XfrMiddlewareSvc,
@@ -94,10 +96,16 @@ impl Service<Option<Key>> for Sender {
         alloc: Global,
         request: Request<Option<Key>>,
     ) -> Result<Replies, ServiceError>
-        ensures { Calls (λ sent. Unit {0}) (λ s items. items ≡ all_given s) result }
+        ensures calls { Calls (λ sent. Unit {0}) (λ s items. items ≡ all_given s) result }
+        ensures failing { Calls (FailsOnlyWhereLong request.message) (λ s items. items ≡ all_given s) result }
     {
+        // For the proof: replies that are made don't fail.
+        made_replies_do_not_fail();
         drop(request);
-        five_answers(alloc)
+        match five_answers(alloc) {
+            Ok(replies) => Ok(replies),
+            Err(_) => Err(ServiceError::Memory),
+        }
     }
 }
 
@@ -273,12 +281,27 @@ impl Service<Option<Key>> for Large {
         alloc: Global,
         request: Request<Option<Key>>,
     ) -> Result<Replies, ServiceError>
-        ensures { Calls (λ sent. Unit {0}) (λ s items. items ≡ all_given s) result }
+        ensures calls { Calls (λ sent. Unit {0}) (λ s items. items ≡ all_given s) result }
+        ensures failing { Calls (FailsOnlyWhereLong request.message) (λ s items. items ≡ all_given s) result }
     {
-        let reply = large_reply(alloc, &request.message.as_message(), self.len);
+        // For the proof: replies that are made don't fail.
+        made_replies_do_not_fail();
+        let replies = large_replies(alloc, &request.message.as_message(), self.len);
         drop(request);
-        Ok(Replies::single(alloc, reply?)?)
+        match replies {
+            Ok(replies) => Ok(replies),
+            Err(_) => Err(ServiceError::Memory),
+        }
     }
+}
+
+/// That reply alone.
+fn large_replies(
+    alloc: Global,
+    request: &Message<'_>,
+    len: u16,
+) -> Result<Replies, ServiceError> {
+    Ok(Replies::single(alloc, large_reply(alloc, request, len)?)?)
 }
 
 /// Header and question of a reply, and a record of the root of type 65280 with so many octets of data, all 0.

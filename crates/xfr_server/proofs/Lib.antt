@@ -13,3 +13,4 @@ pub mod SignedAnswers
 pub mod JoinedAnswers
 pub mod LongRequests
 pub mod Accepted
+pub mod GivenReplies

@@ -1,5 +1,5 @@
 // Laws of what a primary sends, each the contract of a function with an empty body.
-ghost use Rattle.std.specs.Prelude.{◌≡◌, ℕ, true, List, Option};
+ghost use Rattle.std.specs.Prelude.{◌≡◌, ℕ, true, List, Option, Ok};
 ghost use Rattle.tsig_port.specs.Tsig.{TsigKey};
 ghost use Rattle.zone_model.specs.Offer.{Offer};
 ghost use Rattle.xfr_server.specs.Items.{Sending};
@@ -8,6 +8,9 @@ ghost use Rattle.xfr_server.specs.GrantedTransfers.{SendsWhole, TextsBegin, Whol
 ghost use Rattle.xfr_server.specs.SignedAnswers.{OtherIsHandedOn, TransferIsAnswered};
 ghost use Rattle.xfr_server.specs.JoinedAnswers.{AnswersJoin};
 ghost use Rattle.xfr_signing.specs.Failing.{fails, FailsWhereLong, IsTooLong};
+ghost use Rattle.xfr_services.specs.Items.{Calls, all_given};
+ghost use Rattle.xfr_services.specs.LongReplies.{FailsOnlyWhereLong};
+ghost use Rattle.xfr_services.specs.declared.services.CallResult.{CallResult as CallResultOf};
 ghost use Rattle.xfr_services.specs.declared.requests.Request.{Request as RequestOf};
 ghost use Rattle.xfr_services.specs.declared.modes.XfrMode.{XfrMode as ModeOf};
 ghost use Rattle.tsig_port.specs.ServerCheck.{verdict};
@@ -73,4 +76,9 @@ pub fn primaries_fail_where_long<
 >()
     ensures { (next : N) (provider : X) (keys : KS) → FailsWhereLong (N.Sends next) → (r : RequestOf (Unit {0})) (sent : Option (List Sending))
         → ⟦<PrimaryStack<N, X, KS> as Service<()>>⟧.Sends ((next, provider), keys) r sent → fails sent ≡ true → IsTooLong r (verdict (KS.key_of keys) r.at r.message) }
+{}
+
+/// A service whose replies were made beforehand doesn't fail: what the trait's clause `failing` asks of it.
+pub fn made_replies_do_not_fail()
+    ensures { (request : List ℕ) (replies : List CallResultOf) → Calls (FailsOnlyWhereLong request) (λ s items. items ≡ all_given s) (Ok replies) }
 {}
