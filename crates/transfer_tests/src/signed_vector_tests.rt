@@ -296,11 +296,7 @@ impl Service<Option<Key>> for Large {
 }
 
 /// That reply alone.
-fn large_replies(
-    alloc: Global,
-    request: &Message<'_>,
-    len: u16,
-) -> Result<Replies, ServiceError> {
+fn large_replies(alloc: Global, request: &Message<'_>, len: u16) -> Result<Replies, ServiceError> {
     Ok(Replies::single(alloc, large_reply(alloc, request, len)?)?)
 }
 
