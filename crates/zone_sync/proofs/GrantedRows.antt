@@ -86,16 +86,14 @@ half_fits = record {
   close_moments = record { primary = lit< tt; secondary = lit< tt; near = lit≤ tt };
   one_soa = record { history = rows.history_3 ∷ []; told = record { ends = refl; tells = refl; newer = refl; distinct = refl }; each = (third, tt) };
   records_fit = record {
-    asked = tt;
-    asked_data = tt;
-    sent = (soa_is 3, (server_is, (jain_is 2, (jain_is 3, (host_is 1, (soa_is 3, tt))))));
-    sent_data = (refl, (refl, (refl, (refl, (refl, (refl, tt))))));
     pages = grants.whole ∷ [];
     cut = record { joined = refl; filled = refl };
     few = lit≤ tt;
     together = tt;
     more = tt;
   };
+  asked = tt;
+  sent = (soa_is 3, (server_is, (jain_is 2, (jain_is 3, (host_is 1, (soa_is 3, tt))))));
   base_matches = tt;
   same_zone = record { apex = refl; class = refl };
   room = lit< tt;
