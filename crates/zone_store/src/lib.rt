@@ -44,10 +44,11 @@ pub use zone_handles::{
 };
 pub use zone_lookup::look_up;
 pub use zone_reads::{
-    NodeChildren, NodeRrsets, ReadZone, RrsetIter, Special, WalkItem, ZoneNode, is_same,
+    NodeChildren, NodeRrsets, NodeRrsetsIter, ReadZone, RrsetIter, Special, WalkItem, ZoneNode,
+    is_same,
 };
 pub use zone_sessions::{
     CommitError, EditError, InsertError, NodeError, UpdateError, WriteNode, WriteZone, ZoneApex,
     ZoneBuilder,
 };
-pub use zone_versions::{NodeCount, VersionTree};
+pub use zone_versions::{NodeCount, TreeSet, TreeSets, VersionTree, ZoneVersion};
