@@ -14,17 +14,17 @@ use std::marker::Model;
 /// The key of a name: a string of octets whose order, octet by octet, is canonical order of the names (RFC 4034, 6.1). It is seen as
 /// the name that it spells, in lower case.
 #[derive(Drop)]
-pub struct Key<Octs: AsSlice<u8>> {
+pub struct KeyedName<Octs: AsSlice<u8>> {
     octets: Octs,
 }
 
 /// A key in place, which takes no memory.
-pub type NameKey = Key<KeyOctets>;
+pub type NameKey = KeyedName<KeyOctets>;
 
 /// A key whose octets are lent, as by a map.
-pub type NameKeyRef<'a> = Key<&'a [u8]>;
+pub type NameKeyRef<'a> = KeyedName<&'a [u8]>;
 
-impl<Octs: AsSlice<u8>> Model for Key<Octs> {
+impl<Octs: AsSlice<u8>> Model for KeyedName<Octs> {
     ghost use Rattle.std.specs.Prelude.{◌≡◌, ℕ, List, IsTrue};
     ghost use Rattle.dns_name.specs.Names.{is_name};
     ghost use Rattle.name_keys.specs.NameKeys.{name_key, name_of_key};
@@ -37,14 +37,14 @@ impl<Octs: AsSlice<u8>> Model for Key<Octs> {
         × (name_key (name_of_key (Octs.items k.octets)) ≡ Octs.items k.octets) };
 }
 
-impl Key<KeyOctets> {
+impl KeyedName<KeyOctets> {
     /// The key of a name.
     pub fn of<N: Labelled>(name: &N) -> NameKey
         ensures { result ≡ fold (N.labels name.now) }
     {
         let mut octets = KeyOctets::new();
         octets.fill_labels(name);
-        Key { octets }
+        KeyedName { octets }
     }
 
     /// The key of a name in wire form.
@@ -53,7 +53,7 @@ impl Key<KeyOctets> {
     {
         let mut octets = KeyOctets::new();
         octets.fill(name);
-        Key { octets }
+        KeyedName { octets }
     }
 
     /// The key of the name without its first label, if this isn't the root's: these octets without those of the last label.
@@ -64,7 +64,7 @@ impl Key<KeyOctets> {
     }
 }
 
-impl<Octs: AsSlice<u8>> Key<Octs> {
+impl<Octs: AsSlice<u8>> KeyedName<Octs> {
     /// The octets.
     pub fn as_slice(&self) -> &[u8]
         ensures value { result.now ≡ name_key self.now }
@@ -81,14 +81,14 @@ impl<Octs: AsSlice<u8>> Key<Octs> {
         ensures name { IsTrue (is_name self.now) }
         ensures folded { fold self.now ≡ self.now }
     {
-        Key {
+        KeyedName {
             octets: self.as_slice(),
         }
     }
 
     /// Whether the name is the other one or below it, ASCII case aside (RFC 1034, 3.1).
     #[tactic(auto, using(crate::proofs::Nesting::under_by_test))]
-    pub fn is_under<Others: AsSlice<u8>>(&self, other: &Key<Others>) -> bool
+    pub fn is_under<Others: AsSlice<u8>>(&self, other: &KeyedName<Others>) -> bool
         ensures { result ≡ under self.now other.now }
     {
         self.as_slice().starts_with(other.as_slice())
@@ -133,13 +133,13 @@ impl<Octs: AsSlice<u8>> Key<Octs> {
     }
 }
 
-impl<'a> Key<&'a [u8]> {
+impl<'a> KeyedName<&'a [u8]> {
     /// The key that these octets are.
     pub fn of_octets(octets: &'a [u8]) -> NameKeyRef<'a>
         requires { IsNameKey octets.now }
         ensures { result ≡ name_of_key octets.now }
     {
-        Key { octets }
+        KeyedName { octets }
     }
 
     /// The key of a name, put into `octets` in place of what was there: no octets are copied but these.
@@ -149,7 +149,7 @@ impl<'a> Key<&'a [u8]> {
         ensures folded { fold result ≡ result }
     {
         octets.fill(name);
-        Key {
+        KeyedName {
             octets: octets.as_slice(),
         }
     }
@@ -161,7 +161,7 @@ impl<'a> Key<&'a [u8]> {
         ensures folded { fold result ≡ result }
     {
         octets.fill_labels(name);
-        Key {
+        KeyedName {
             octets: octets.as_slice(),
         }
     }
@@ -174,7 +174,7 @@ impl<'a> Key<&'a [u8]> {
         if octets.is_empty() {
             return None;
         }
-        Some(Key {
+        Some(KeyedName {
             octets: &octets[..last_label_start(octets)],
         })
     }

@@ -24,5 +24,5 @@ mod key;
 mod key_octets;
 mod laws;
 
-pub use key::{Key, NameKey, NameKeyRef};
+pub use key::{KeyedName, NameKey, NameKeyRef};
 pub use key_octets::KeyOctets;

@@ -2,7 +2,7 @@ use Rattle.std.proofs.Common.{◌≡◌, ◌≤◌, ◌<◌, ◌+◌, ◌++◌, 
 use Rattle.dns_name.specs.Names.{Name, is_name, name_wire}
 use Rattle.dns_name.proofs.WireForms.{first_is_label, label_short, wire_invariant, labels_of_wire}
 use Rattle.name_keys.proofs.Spelling.{piece_spells, room_for_label, label_written, went_well, room_for_root}
-use Rattle.name_keys.proofs.key.Key.to_name.Goals as goal
+use Rattle.name_keys.proofs.key.KeyedName.to_name.Goals as goal
 
 pub append_label-requires-clause-label : goal.append_label-requires-clause-label
 append_label-requires-clause-label g c =

@@ -2,7 +2,7 @@ use Rattle.std.proofs.Common.{◌∙◌, ◌∷◌, sym, ap}
 use Rattle.name_keys.specs.NameKeys.{name_of_key}
 use Rattle.name_keys.proofs.Reading.{key_invariant, spelled, is_folded}
 use Rattle.name_keys.proofs.Parents.{parent_of}
-use Rattle.name_keys.proofs.key.Key+ref+slice+u8.parent.Goals as goal
+use Rattle.name_keys.proofs.key.KeyedName+ref+slice+u8.parent.Goals as goal
 
 pub invariant_of-result : goal.invariant_of-result
 invariant_of-result c =

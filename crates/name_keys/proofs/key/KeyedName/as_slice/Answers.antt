@@ -3,7 +3,7 @@ use Rattle.dns_name.specs.Names.{Name, fold}
 use Rattle.name_keys.specs.NameKeys.{name_of_key}
 use Rattle.name_keys.proofs.Reading.{is_folded}
 use Rattle.name_keys.proofs.Bounds.{key_short}
-use Rattle.name_keys.proofs.key.Key.as_slice.Goals as goal
+use Rattle.name_keys.proofs.key.KeyedName.as_slice.Goals as goal
 
 pub returns-clause-folded : goal.returns-clause-folded
 returns-clause-folded g c =
