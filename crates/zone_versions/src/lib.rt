@@ -28,6 +28,7 @@ mod walk;
 
 pub use building::{make_alias, make_cut, replace_set};
 pub use errors::EditError;
+pub use laws::few_nodes_are_built;
 pub use node::{NodeCount, ZoneNode};
 pub use nodes::is_bad_alias;
 pub use places::is_at_or_below;

@@ -148,6 +148,16 @@ impl ZoneNode {
         Ok(ZoneNode::build(steps, sets))
     }
 
+    /// A copy of the node, which shares its RRsets.
+    pub(crate) fn copy(&self, steps: &mut NodeCount) -> Result<ZoneNode, AllocError>
+        ensures is { IfOk result (λ n. n ≡ self.now) }
+        ensures steps { OnOk result (steps.new ≡ counted steps.old 1) }
+        ensures err { OnErr result (steps.new ≡ steps.old) }
+    {
+        let sets = copied(&self.sets)?;
+        Ok(ZoneNode::build(steps, sets))
+    }
+
     /// Edits the RRset of a type, which stands there and keeps data, in place. Without memory all is as before.
     pub(crate) fn edit<E: SetEdit + Drop>(
         &mut self,
@@ -208,14 +218,4 @@ fn copied(sets: &Vec<SharedRrset>) -> Result<Vec<SharedRrset>, AllocError>
     ensures { IfOk result (λ copy. copy.items ≡ sets.now.items) }
 {
     sets.clone()
-}
-
-impl Clone for ZoneNode {
-    ghost is_clone = { λ s copy. copy ≡ s };
-
-    fn clone(&self) -> Result<ZoneNode, AllocError> {
-        Ok(ZoneNode {
-            sets: copied(&self.sets)?,
-        })
-    }
 }

@@ -329,8 +329,8 @@ impl VersionTree {
         done
     }
 
-    /// Edits the RRset of an owner and type, which stands there and keeps data, in place: what another version shares with it on the way is copied first,
-    /// and no node is built. Without memory all is as before.
+    /// Edits the RRset of an owner and type, which stands there and keeps data, in place, in a node that no other version has. No node is built. Without
+    /// memory all is as before.
     fn edit_set<E: SetEdit + Drop>(
         &mut self,
         owner: &NameKeyRef<'_>,
@@ -350,9 +350,24 @@ impl VersionTree {
         edit_set(&mut self.nodes, owner, rtype, edit)
     }
 
-    /// The same, counted as the node that `with_set` would build.
+    /// Has the node of a name be no other version's, and counts it as the node that is built.
+    fn own_node(
+        &mut self,
+        alloc: Global,
+        owner: &NameKeyRef<'_>,
+        steps: &mut NodeCount,
+    ) -> Result<(), AllocError>
+        ensures same { self.new ≡ self.old }
+        ensures steps { OnOk result (steps.new ≡ counted steps.old 1) }
+        ensures uncounted { OnErr result (steps.new ≡ steps.old) }
+    {
+        self.nodes.own_node(alloc, owner, steps)
+    }
+
+    /// The same, counted as the node that `with_set` would build: one that another version has is copied first.
     pub(crate) fn edit_in_place<E: SetEdit + Drop>(
         &mut self,
+        alloc: Global,
         owner: &NameKeyRef<'_>,
         rtype: Rtype,
         edit: E,
@@ -367,9 +382,17 @@ impl VersionTree {
         ensures steps { OnOk result (steps.new ≡ counted steps.old (built self.old self.new owner.now rtype)) }
         ensures uncounted { OnErr result (steps.new ≡ steps.old) }
     {
-        self.edit_set(owner, rtype, edit)?;
-        steps.add_one();
-        Ok(())
+        let before = steps.get();
+        match self.own_node(alloc, owner, steps) {
+            Ok(()) => {}
+            Err(error) => {
+                drop(edit);
+                return Err(error);
+            }
+        }
+        let done = self.edit_set(owner, rtype, edit);
+        steps.keep_if(done.is_ok(), before);
+        done
     }
 
     /// Takes the RRset of an owner and type out, where there is one.
