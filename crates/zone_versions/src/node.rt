@@ -79,7 +79,7 @@ impl Model for ZoneNode {
 }
 
 impl ZoneNode {
-    /// A node of these RRsets. Each node is built here.
+    /// A node of these RRsets. Each node is built here, and counted.
     fn build(steps: &mut NodeCount, sets: Vec<SharedRrset>) -> ZoneNode
         requires { IsHeld (held_of sets.items) }
         ensures is { result ≡ held_of sets.items }
@@ -154,8 +154,16 @@ impl ZoneNode {
         ensures steps { OnOk result (steps.new ≡ counted steps.old 1) }
         ensures err { OnErr result (steps.new ≡ steps.old) }
     {
-        let sets = copied(&self.sets)?;
-        Ok(ZoneNode::build(steps, sets))
+        let shared = self.shared_sets()?;
+        Ok(ZoneNode::build(steps, shared))
+    }
+
+    /// The RRsets, shared.
+    fn shared_sets(&self) -> Result<Vec<SharedRrset>, AllocError>
+        ensures same { IfOk result (λ shared. held_of shared.items ≡ self.now) }
+        ensures held { IfOk result (λ shared. IsHeld (held_of shared.items)) }
+    {
+        copied(&self.sets)
     }
 
     /// Edits the RRset of a type, which stands there and keeps data, in place. Without memory all is as before.

@@ -70,7 +70,7 @@ impl VersionTree {
         Ok(VersionTree { apex, class, nodes })
     }
 
-    /// The same version, which shares all nodes.
+    /// The same version, which shares all nodes. It is given no count, and each node that is built is counted.
     pub fn fork(&self) -> Result<VersionTree, AllocError>
         ensures { IfOk result (λ t. t ≡ self.now) }
     {
@@ -384,12 +384,33 @@ impl VersionTree {
     {
         let before = steps.get();
         match self.own_node(alloc, owner, steps) {
-            Ok(()) => {}
+            Ok(()) => self.edit_own(owner, rtype, edit, before, steps),
             Err(error) => {
                 drop(edit);
-                return Err(error);
+                Err(error)
             }
         }
+    }
+
+    /// The same in a node that no other version has and that is counted. The count is the one before it again where memory is wanting.
+    fn edit_own<E: SetEdit + Drop>(
+        &mut self,
+        owner: &NameKeyRef<'_>,
+        rtype: Rtype,
+        edit: E,
+        before: u64,
+        steps: &mut NodeCount,
+    ) -> Result<(), AllocError>
+        requires zone { under owner.now self.old.apex ≡ true }
+        requires there { IsSome (set_at self.old owner.now rtype) }
+        requires fits { E.fits edit rtype }
+        requires full { 1 ≤ length (E.edited edit (set_at self.old owner.now rtype)).items }
+        requires one { steps.old ≡ counted before 1 }
+        ensures ok { OnOk result (self.new ≡ trees.with_set self.old owner.now rtype (Some (E.edited edit (set_at self.old owner.now rtype)))) }
+        ensures err { OnErr result (self.new ≡ self.old) }
+        ensures steps { OnOk result (steps.new ≡ counted before (built self.old self.new owner.now rtype)) }
+        ensures uncounted { OnErr result (steps.new ≡ before) }
+    {
         let done = self.edit_set(owner, rtype, edit);
         steps.keep_if(done.is_ok(), before);
         done
