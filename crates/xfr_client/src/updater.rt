@@ -10,8 +10,10 @@ ghost use Rattle.xfr_client.specs.Causes.{update_fault_of, HidesEdit};
 ghost use Rattle.xfr_client.specs.Updating.{Leaves, progress_of, new_version, next_commit, lacks_number, told_by, wants_after};
 
 use crate::updater_state::UpdaterState;
-use dns_rdata::ReadRecord;
+use dns_name::Labelled;
+use dns_rdata::{Record, ZoneRecordData};
 use std::alloc::{AllocError, Global};
+use std::convert::AsSlice;
 use std::marker::Model;
 use xfr_outcomes::ZoneUpdate;
 use xfr_outcomes::update::Error;
@@ -75,18 +77,18 @@ impl<'s, 'z> ZoneUpdater<'s, 'z> {
         self.session.handle()
     }
 
-    /// Applies one update. What it commits is published without a new serial, and the difference that the commit tells is told
-    /// (RFC 1995, 4), where one was wanted of it: after `BeginBatchDelete` one is wanted of the next commit. None is told of an update
-    /// that commits nothing; `ZoneUpdate::commits` says beforehand which does. Nothing waits, so nothing is asked of `rt`.
+    /// Applies one update of a record of any names and data. What it commits is published without a new serial, and the difference that the commit
+    /// tells is told (RFC 1995, 4), where one was wanted of it: after `BeginBatchDelete` one is wanted of the next commit. None is told of an
+    /// update that commits nothing; `ZoneUpdate::commits` says beforehand which does. Nothing waits, so nothing is asked of `rt`.
     ///
     /// `Finished` comes after the end and after `IncompatibleUpdate`; after the other refusals the updater goes on.
     /// After `Memory` or `VersionsExhausted` the same update may be applied again; where it was `Finished` the new SOA
     /// may be pending already. An update that lacks both memory and a number is answered by either. Want of memory hides neither `Finished` nor
     /// `NotSoaRecord`; the data of a record are put in memory of their own first, so it may hide the other three.
-    pub fn apply<R>(
+    pub fn apply<R, O: AsSlice<u8> + Drop, N: Labelled + Drop>(
         &mut self,
         rt: &R,
-        update: ZoneUpdate<ReadRecord<'_>>,
+        update: ZoneUpdate<Record<N, ZoneRecordData<O, N>>>,
     ) -> Result<Option<InMemoryZoneDiff>, Error>
         ensures ok { (before : List Version) → OnOk result (apply_update (progress_of self.old.updater self.old.session before) (update_of update.entry)
             ≡ Ok (progress_of self.new.updater self.new.session (before ++ new_version (commits (update_of update.entry)) self.new.session))) }
