@@ -70,21 +70,21 @@ impl UpdaterState {
         session: &mut WriteZone<'_>,
         update: ZoneUpdate<Record<N, ZoneRecordData<O, N>>>,
     ) -> Result<Option<InMemoryZoneDiff>, Error>
-        ensures ok { (before : List Version) → OnOk result (apply_update (progress_of self.old session.old before) (update_of update.entry) ≡ Ok (progress_of self.new session.new (before ++ new_version (commits (update_of update.entry)) session.new))) }
-        ensures refused { (before : List Version) → IfErr result (λ e. IfSome (update_fault_of e) (λ why. (apply_update (progress_of self.old session.old before) (update_of update.entry) ≡ Err why) × (progress_of self.new session.new before ≡ after_refusal (progress_of self.old session.old before) why))) }
-        ensures difference { IfOk result (λ told. told ≡ told_by session.old (update_of update.entry)) }
+        ensures ok { (before : List Version) → OnOk result (apply_update (progress_of self.old session.old before) (update_of update) ≡ Ok (progress_of self.new session.new (before ++ new_version (commits (update_of update)) session.new))) }
+        ensures refused { (before : List Version) → IfErr result (λ e. IfSome (update_fault_of e) (λ why. (apply_update (progress_of self.old session.old before) (update_of update) ≡ Err why) × (progress_of self.new session.new before ≡ after_refusal (progress_of self.old session.old before) why))) }
+        ensures difference { IfOk result (λ told. told ≡ told_by session.old (update_of update)) }
         // A batch's begin leaves the wish for a difference, and the end leaves none.
-        ensures wish { OnOk result (session.new.compares ≡ wants_after session.old.compares (update_of update.entry)) }
-        ensures current { OnOk result (session.new.current ≡ next_commit (commits (update_of update.entry)) session.old.current session.new.current.version) }
-        ensures ready { OnOk result (commits (update_of update.entry) ≡ true → session.new.has_handle ≡ true) }
-        ensures kept { OnOk result (commits (update_of update.entry) ≡ false → session.new ≡ with_pending session.old session.new.pending) }
+        ensures wish { OnOk result (session.new.compares ≡ wants_after session.old.compares (update_of update)) }
+        ensures current { OnOk result (session.new.current ≡ next_commit (commits (update_of update)) session.old.current session.new.current.version) }
+        ensures ready { OnOk result (commits (update_of update) ≡ true → session.new.has_handle ≡ true) }
+        ensures kept { OnOk result (commits (update_of update) ≡ false → session.new ≡ with_pending session.old session.new.pending) }
         ensures err { OnErr result (session.new ≡ with_pending session.old session.new.pending) }
-        ensures left { OnErr result (Leaves (update_of update.entry) session.old session.new) }
+        ensures left { OnErr result (Leaves (update_of update) session.old session.new) }
         // No commit goes past the greatest number.
-        ensures numbered { OnOk result (lacks_number session.old.current.number (update_of update.entry) ≡ false) }
-        ensures exhausted { (before : List Version) → result ≡ Err VersionsExhausted → (lacks_number session.old.current.number (update_of update.entry) ≡ true) × IsOk (apply_update (progress_of self.old session.old before) (update_of update.entry)) }
+        ensures numbered { OnOk result (lacks_number session.old.current.number (update_of update) ≡ false) }
+        ensures exhausted { (before : List Version) → result ≡ Err VersionsExhausted → (lacks_number session.old.current.number (update_of update) ≡ true) × IsOk (apply_update (progress_of self.old session.old before) (update_of update)) }
         // Want of memory hides neither the end nor another type of record.
-        ensures memory { (before : List Version) → result ≡ Err Memory → HidesEdit (apply_update (progress_of self.old session.old before) (update_of update.entry)) }
+        ensures memory { (before : List Version) → result ≡ Err Memory → HidesEdit (apply_update (progress_of self.old session.old before) (update_of update)) }
         // Want of memory or of a number changes nothing of the updater.
         ensures unchanged { IfErr result (λ e. update_fault_of e ≡ None → self.new ≡ self.old) }
     {
