@@ -7,7 +7,7 @@ use Rattle.zone_devices.specs.Links.{LinkLists, LinkWentOn}
 use Rattle.xfr_course.specs.Courses.{has_header}
 use Rattle.zone_sync.specs.Serving.{request_at}
 
--- The primary is any service: the link handed one message as the request, to whose questions a reply with a TSIG may pass 65,535 octets, and no reply after it.
+-- the primary is any service: the link handed one message as the request, and then no reply; one with its questions and a TSIG may pass 65,535 octets
 pub record WasHandedLong (old new : Option LinkLists) : Type 0 where
   pub asked : List (List ℕ)
   pub message : List ℕ
