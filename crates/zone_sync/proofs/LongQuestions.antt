@@ -40,7 +40,7 @@ module _ (Sends : List ℕ → Option (List Sending) → Type 0) (keys : Keys) (
 -- ---- whichever service the primary is
 
 -- an answer has one error
-error_or : {T : Type 0} → SyncError → Result T SyncError → SyncError
+abbrev error_or : {T : Type 0} → SyncError → Result T SyncError → SyncError
 error_or d (Ok x) = d
 error_or d (Err e) = e
 
