@@ -15,7 +15,9 @@ use Rattle.zone_devices.specs.Links.{LinkLists}
 use Rattle.xfr_server.specs.Items.{Sending}
 use Rattle.zone_script.specs.declared.script.Script.{Script}
 use Rattle.xfr_client.specs.SoFar.{asks_with}
+use Rattle.xfr_services.specs.declared.services.ServiceError.{ServiceError}
 use Rattle.zone_sync.specs.Delivery.{Synchronizes}
+use Rattle.zone_sync.specs.LongQuestions.{WasHandedLong}
 use Rattle.xfr_outcomes.specs.declared.outcome.SyncOk.{SyncOk}
 use Rattle.xfr_outcomes.specs.declared.outcome.SyncError.{SyncError}
 use Rattle.xfr_outcomes.specs.declared.outcome.SyncError.TheVariants as why
@@ -37,14 +39,16 @@ module _ (Sends : List ℕ → Option (List Sending) → Type 0) (at longest : �
   -- .. and its parts as one
   abbrev pub transfer_so : (key : TsigKey) (mode : Mode) (now : ℕ) (opened base : Commit) (before handles : List Commit) (s : Session) (answer : Result SyncOk SyncError)
       → opened ≡ base → before ≡ [] → Synchronizes Sends (asks_with key mode now opened) at longest old new f g before handles s answer
-      → (answer ≡ Err why.LinkFault → Rose f g) → (answer ≢ Err why.LinkFault → g ≡ f) → Transferred Sends (asks_with key mode now base) at (crossed longest old new f g)
-  transfer_so key mode now opened base before handles s answer same none says failed steady = record {
+      → (answer ≡ Err why.LinkFault → Rose f g) → (answer ≢ Err why.LinkFault → g ≡ f) → ((e : ServiceError) → answer ≡ Err (why.Primary e) → WasHandedLong old new)
+      → Transferred Sends (asks_with key mode now base) at (crossed longest old new f g)
+  transfer_so key mode now opened base before handles s answer same none says failed steady long = record {
     answer = answer;
     handles = handles;
     session = s;
     says = says_of_new key mode now opened base before handles s answer same none says;
     failed = failed;
     steady = steady;
+    long = long;
   }
 
 -- .. and that of a script's transfer

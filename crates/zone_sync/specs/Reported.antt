@@ -13,6 +13,7 @@ use Rattle.zone_model.specs.Offer.{Offer, Provider, after_push, difference_if}
 use Rattle.zone_devices.specs.Calls.{Rose}
 use Rattle.zone_devices.specs.Links.{LinkLists}
 use Rattle.xfr_server.specs.Items.{Sending}
+use Rattle.xfr_services.specs.declared.services.ServiceError.{ServiceError}
 use Rattle.xfr_providers.specs.Offers.{key_id}
 use Rattle.zone_script.specs.Words.{Form, Transfer, Generate}
 use Rattle.zone_script.specs.Script.{Script, script_of, committed_by, secondary_version}
@@ -23,6 +24,7 @@ use Rattle.xfr_client.specs.SoFar.{Asking, asks_with, asked_octets}
 use Rattle.zone_sync.specs.Fitting.{AreClose, ArePublished, RecordsFit, BaseMatches, sent_text}
 use Rattle.zone_sync.specs.Grants.{history_offer}
 use Rattle.zone_sync.specs.Delivery.{Synchronizes}
+use Rattle.zone_sync.specs.LongQuestions.{WasHandedLong}
 use Rattle.zone_script.specs.BadLines.{NamesLine}
 use Rattle.zone_report.specs.Report.{generated_report}
 use Rattle.zone_report.specs.ReportsWritten.{status_by, Reports}
@@ -58,6 +60,8 @@ pub record Transferred (Sends : List ℕ → Option (List Sending) → Type 0) (
   -- the answer is the link's fault only where its count of faults rose, and with any other none came
   pub failed : answer ≡ Err why.LinkFault → Rose link.faults_old link.faults_new
   pub steady : answer ≢ Err why.LinkFault → link.faults_new ≡ link.faults_old
+  -- .. and the primary's error only where the link handed it such a request
+  pub long : (e : ServiceError) → answer ≡ Err (why.Primary e) → WasHandedLong link.lists_old link.lists_new
 
 -- how a transfer ended that is to be reported: its answer, how many versions it made, the last one, and its status
 pub record EndsAs (Sends : List ℕ → Option (List Sending) → Type 0) (a : Asking) (at : ℕ) (link : Crossed) (answer : Result SyncOk SyncError) (made : ℕ) (last : Commit) (status : Status) : Type 0 where

@@ -2,12 +2,15 @@
 ghost use Rattle.std.specs.Prelude.{◌≡◌, ◌≢◌, ◌⊎◌, [], ◌∷◌, ℕ, List, false, IsSome, IsOk, IfOk, OnOk, OnErr, option_map};
 ghost use Rattle.zone_model.specs.Commits.{Commit};
 ghost use Rattle.zone_devices.specs.Calls.{Rose};
+ghost use Rattle.xfr_services.specs.LongReplies.{HasLongQuestions};
+ghost use Rattle.xfr_services.specs.declared.services.ServiceError.{ServiceError as ErrorOf};
 ghost use Rattle.xfr_outcomes.specs.Modes.{mode_of};
 ghost use Rattle.xfr_client.specs.SoFar.{Asking, asks_with};
 ghost use Rattle.xfr_client.specs.Standing.{asking_of, Stands};
 ghost use Rattle.zone_sync.specs.LinkTransfers.{SyncSays, EndsSo, Serves, SendsItems};
 ghost use Rattle.xfr_server.specs.Items.{Sending};
 ghost use Rattle.zone_sync.specs.Serving.{request_at};
+ghost use Rattle.zone_sync.specs.LongQuestions.{WasHandedLong};
 ghost use Rattle.zone_sync.specs.Delivery.{Synchronizes};
 ghost use Rattle.xfr_client.specs.Handles.{KeepsHandles};
 
@@ -61,6 +64,9 @@ pub fn sync_zone<R, P: Service<()>, L: Link>(
     // The causes by the link.
     ensures failed { result ≡ Err SyncError.LinkFault → Rose (L.faults link.old) (L.faults link.new) }
     ensures steady { result ≢ Err SyncError.LinkFault → L.faults link.new ≡ L.faults link.old }
+    // The primary fails, whichever service it is, only for the questions of the request that the link handed it.
+    ensures long { (error : ErrorOf) → result ≡ Err (SyncError.Primary error)
+        → WasHandedLong (L.lists link.old) (L.lists link.new) }
 {
     let mut told = Err(SyncError::Ended);
     exchange_and_lend(
@@ -89,6 +95,8 @@ fn exchange_and_lend<'s, 'z, R, P: Service<()>, L: Link>(
     ensures wish { result.now.compares ≡ false }
     ensures failed { told.new ≡ Err SyncError.LinkFault → Rose (L.faults link.old) (L.faults link.new) }
     ensures steady { told.new ≢ Err SyncError.LinkFault → L.faults link.new ≡ L.faults link.old }
+    ensures long { (error : ErrorOf) → told.new ≡ Err (SyncError.Primary error)
+        → WasHandedLong (L.lists link.old) (L.lists link.new) }
 {
     let mut client = XfrClient::new(alloc, session, key, mode, moments.at_secondary);
     *told = exchange(
@@ -118,6 +126,8 @@ fn exchange<R, P: Service<()>, L: Link>(
     ensures lender { client.new.lender ≡ client.old.lender }
     ensures failed { result ≡ Err SyncError.LinkFault → Rose (L.faults link.old) (L.faults link.new) }
     ensures steady { result ≢ Err SyncError.LinkFault → L.faults link.new ≡ L.faults link.old }
+    ensures long { (error : ErrorOf) → result ≡ Err (SyncError.Primary error)
+        → WasHandedLong (L.lists link.old) (L.lists link.new) }
 {
     let request = client.request(link.max_len())?;
     let sent = link.send_request(request.as_slice());
@@ -149,6 +159,7 @@ fn serve<R, P: Service<()>, L: Link>(
     ensures served { Serves (P.Sends primary.now (request_at message at)) (L.lists link.old) (L.lists link.new) result }
     ensures failed { result ≡ Err SyncError.LinkFault → Rose (L.faults link.old) (L.faults link.new) }
     ensures steady { result ≢ Err SyncError.LinkFault → L.faults link.new ≡ L.faults link.old }
+    ensures long { (error : ErrorOf) → result ≡ Err (SyncError.Primary error) → HasLongQuestions message }
 {
     let request = Request::new(message, TransportSpecificContext::NonUdp, at, ());
     let replies = primary.call(rt, alloc, request)?;

@@ -8,7 +8,7 @@ pub returns-clause-ended : goal.returns-clause-ended
 returns-clause-ended g c = record {
   transfer =
       (transfer_so _ c.args.moments.at_primary _ _ _ _ _ c.args.key.now (mode_of c.args.mode) c.args.moments.at_secondary c.args.session.now.current c.args.session.now.current c.args.made.now.items c.sync_zone-outcome.new.made.items c.sync_zone-outcome.new.session c.sync_zone-outcome.result
-      refl c.requires.new c.sync_zone-outcome.ensures.headline c.sync_zone-outcome.ensures.failed c.sync_zone-outcome.ensures.steady);
+      refl c.requires.new c.sync_zone-outcome.ensures.headline c.sync_zone-outcome.ensures.failed c.sync_zone-outcome.ensures.steady c.sync_zone-outcome.ensures.long);
   answered = refl;
   counted = c.len.ensures ∙ c.sync_zone-outcome.new.made.ok.0;
   current = c.in_ok-last.ensures.current;
@@ -25,14 +25,14 @@ returns-clause-link_fails g c = link_fails c.sync_zone-outcome.result c.status_o
 pub returns-clause-over_link : goal.returns-clause-over_link
 returns-clause-over_link g c =
     (transfer_so _ c.args.moments.at_primary _ _ _ _ _ c.args.key.now (mode_of c.args.mode) c.args.moments.at_secondary c.args.session.now.current c.args.session.now.current c.args.made.now.items c.sync_zone-outcome.new.made.items c.sync_zone-outcome.new.session c.sync_zone-outcome.result
-    refl c.requires.new c.sync_zone-outcome.ensures.headline c.sync_zone-outcome.ensures.failed c.sync_zone-outcome.ensures.steady)
+    refl c.requires.new c.sync_zone-outcome.ensures.headline c.sync_zone-outcome.ensures.failed c.sync_zone-outcome.ensures.steady c.sync_zone-outcome.ensures.long)
 
 pub returns-in_err-last-clause-over_link : goal.returns-in_err-last-clause-over_link
 returns-in_err-last-clause-over_link g c =
     (transfer_so _ c.args.moments.at_primary _ _ _ _ _ c.args.key.now (mode_of c.args.mode) c.args.moments.at_secondary c.args.session.now.current c.args.session.now.current c.args.made.now.items c.sync_zone-outcome.new.made.items c.sync_zone-outcome.new.session c.sync_zone-outcome.result
-    refl c.requires.new c.sync_zone-outcome.ensures.headline c.sync_zone-outcome.ensures.failed c.sync_zone-outcome.ensures.steady)
+    refl c.requires.new c.sync_zone-outcome.ensures.headline c.sync_zone-outcome.ensures.failed c.sync_zone-outcome.ensures.steady c.sync_zone-outcome.ensures.long)
 
 pub returns-then-eq-clause-over_link : goal.returns-then-eq-clause-over_link
 returns-then-eq-clause-over_link g c =
     (transfer_so _ c.args.moments.at_primary _ _ _ _ _ c.args.key.now (mode_of c.args.mode) c.args.moments.at_secondary c.args.session.now.current c.args.session.now.current c.args.made.now.items c.sync_zone-outcome.new.made.items c.sync_zone-outcome.new.session c.sync_zone-outcome.result
-    refl c.requires.new c.sync_zone-outcome.ensures.headline c.sync_zone-outcome.ensures.failed c.sync_zone-outcome.ensures.steady)
+    refl c.requires.new c.sync_zone-outcome.ensures.headline c.sync_zone-outcome.ensures.failed c.sync_zone-outcome.ensures.steady c.sync_zone-outcome.ensures.long)
