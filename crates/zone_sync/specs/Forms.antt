@@ -5,7 +5,6 @@ use Rattle.dns_name.specs.Names.{is_name}
 use Rattle.dns_rdata.specs.Records.{is_data}
 use Rattle.zone_model.specs.Version.{RecordSet, Key, Version}
 use Rattle.zone_model.specs.Walk.{Stop}
-
 pub use Rattle.xfr_client.specs.RecordForms.{HasForm, HaveForms}
 
 -- the records of a set of this type have them, whatever their owner
