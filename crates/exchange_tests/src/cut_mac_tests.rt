@@ -33,7 +33,7 @@ pub(crate) fn add<R: Abort>(rt: &R, session: &mut WriteZone<'_>, octets: Vec<u8>
     ensures { session.new.current ≡ session.old.current }
 {
     let found = record_from_octets(octets.as_slice()).expect(rt, "a record");
-    session.add_read(&found).expect(rt, "an edit");
+    session.add_any(&found).expect(rt, "an edit");
     drop(found);
     drop(octets);
 }

@@ -50,10 +50,9 @@ fn take_from<V: Drop>(page: &mut Arc<Page<V>>, at: usize) -> Result<(), AllocErr
     Ok(())
 }
 
-/// The value at a place of a page, to write. The page is copied first if others have it, and so is the entry.
-fn value_in<V: Clone + Drop>(page: &mut Arc<Page<V>>, at: usize) -> Result<&mut V, AllocError>
-    requires at { at < length (arc_value page.old) }
-    requires clones { (x copy : V) → V.is_clone x copy → copy ≡ x }
+/// The value at a place of a page, to write. The page is copied first if others have it; a value whose entry others have is refused.
+fn value_in<V: Drop>(page: &mut Arc<Page<V>>, at: usize) -> Result<&mut V, AllocError>
+    requires { at < length (arc_value page.old) }
     ensures* writes_back { sem 𝓛 (lends_in V.row page.entry at result) }
     ensures value { IfOk result (λ x. option_map (λ e. e.1) (slice_get (arc_value page.old) at) ≡ Some x.now) }
 {
@@ -235,14 +234,13 @@ pub(crate) fn replace<V: Drop>(
 }
 
 /// The value at a place among pages, to write.
-pub(crate) fn value_at<V: Clone + Drop>(
+pub(crate) fn value_at<V: Drop>(
     pages: &mut Vec<Arc<Page<V>>>,
     spot: Spot,
 ) -> Result<&mut V, AllocError>
     requires fit { AreFit (values_in pages.old.items) }
     requires page { spot.page < vec_len pages.old }
     requires at { spot.at < length (page_at (values_in pages.old.items) spot.page) }
-    requires clones { (x copy : V) → V.is_clone x copy → copy ≡ x }
     ensures* writes_back { sem 𝓛 (lends_there V.row pages.entry spot result) }
     ensures value { IfOk result (λ x. option_map (λ e. e.1) (slice_get (page_at (values_in pages.old.items) spot.page) spot.at) ≡ Some x.now) }
 {

@@ -12,7 +12,7 @@ use crate::iter::Entries;
 use crate::leads::Leads;
 use crate::marks::Mark;
 use crate::page::Page;
-use crate::reads::{first_past, get};
+use crate::reads::{first_past, get, is_shared};
 use crate::spots::{Spot, guessed, locate};
 use crate::writes::{insert, remove, remove_under, value_mut};
 use std::alloc::{AllocError, Global};
@@ -169,14 +169,19 @@ impl<V: Drop> PagedMap<V> {
 }
 
 // Edits of values in place.
-impl<V: Clone + Drop> PagedMap<V> {
+impl<V: Drop> PagedMap<V> {
     ghost use Rattle.std.specs.Borrow.{sem};
     ghost use Rattle.paged_map.specs.Lends.{lends_entry};
 
-    /// The value at a key that is there, to write. Only what other clones have of its page and its entry is copied first. Without memory all is as before.
+    /// Whether another clone has the value at a key too, so that it isn't lent. No contract speaks of what is shared.
+    pub fn is_shared(&self, key: &[u8]) -> bool {
+        is_shared(&self.pages, self.guess(key), key)
+    }
+
+    /// The value at a key that is there, to write. Its page is copied first if other clones have it. A value that they have (`is_shared`) is refused as
+    /// for want of memory, since no value is copied here: `insert` puts a copy in its place. Without memory all is as before.
     pub fn value_mut(&mut self, key: &[u8]) -> Result<&mut V, AllocError>
-        requires there { IsSome (lookup (is_at (octets_cmp key.now)) self.old) }
-        requires clones { (x copy : V) → V.is_clone x copy → copy ≡ x }
+        requires { IsSome (lookup (is_at (octets_cmp key.now)) self.old) }
         ensures* writes_back { sem 𝓛 (lends_entry V.row self.entry key.now result) }
         ensures value { IfOk result (λ x. lookup (is_at (octets_cmp key.now)) self.old ≡ Some x.now) }
     {

@@ -119,6 +119,14 @@ impl<V> Page<V> {
         self.leads.count_before(key)
     }
 
+    /// Whether others have the entry at a place.
+    pub(crate) fn is_shared_at(&self, at: usize) -> bool {
+        match self.entries.get(at) {
+            Some(entry) => Arc::strong_count(entry) > 1,
+            None => false,
+        }
+    }
+
     /// How many entries it has.
     pub(crate) fn len(&self) -> usize
         ensures { result ≡ length self.now }
@@ -222,17 +230,6 @@ impl<V: Drop> Clone for Page<V> {
     }
 }
 
-impl<V: Clone + Drop> Clone for Entry<V> {
-    ghost is_clone = { λ s copy. (copy.0 ≡ s.0) × V.is_clone s.1 copy.1 };
-
-    fn clone(&self) -> Result<Entry<V>, AllocError> {
-        Ok(Entry {
-            key: self.key.clone()?,
-            value: self.value.clone()?,
-        })
-    }
-}
-
 /// Has the leads of a page be those of its entries' keys.
 fn take_up<V>(leads: &mut Leads, entries: &[Arc<Entry<V>>]) {
     if let Some(first) = entries.first()
@@ -257,27 +254,28 @@ fn take_up_one<V>(leads: &mut Leads, entries: &[Arc<Entry<V>>], at: usize) {
     take_up(leads, entries);
 }
 
-/// The value of an entry, which is copied first if others have it, to write.
-fn shared_value<V: Clone + Drop>(entry: &mut Arc<Entry<V>>) -> Result<&mut V, AllocError>
-    requires { (x copy : V) → V.is_clone x copy → copy ≡ x }
+/// The value of an entry that no other has, to write. One that others have is refused.
+fn own_value<V: Drop>(entry: &mut Arc<Entry<V>>) -> Result<&mut V, AllocError>
     ensures* writes_back { sem 𝓛 (lends_shared V.row entry.entry result) }
     ensures value { IfOk result (λ x. x.now ≡ (arc_value entry.old).1) }
 {
-    Ok(Arc::make_mut(entry)?.value_mut())
+    match Arc::get_mut(entry) {
+        Some(own) => Ok(own.value_mut()),
+        None => Err(AllocError),
+    }
 }
 
 // Values to write.
-impl<V: Clone + Drop> Page<V> {
+impl<V: Drop> Page<V> {
     ghost use Rattle.std.specs.Borrow.{sem};
     ghost use Rattle.paged_map.specs.Lends.{lends_at};
 
-    /// The value at a place, to write. Its entry is copied first if others have it.
+    /// The value at a place, to write. One whose entry others have is refused.
     pub(crate) fn value_mut(&mut self, at: usize) -> Result<&mut V, AllocError>
-        requires at { at < length self.old }
-        requires clones { (x copy : V) → V.is_clone x copy → copy ≡ x }
+        requires { at < length self.old }
         ensures* writes_back { sem 𝓛 (lends_at V.row self.entry at result) }
         ensures value { IfOk result (λ x. option_map (λ e. e.1) (slice_get self.old at) ≡ Some x.now) }
     {
-        shared_value(&mut self.entries[at])
+        own_value(&mut self.entries[at])
     }
 }

@@ -26,6 +26,17 @@ pub(crate) fn get<'m, V>(pages: &'m [Arc<Page<V>>], guess: usize, key: &[u8]) ->
     }
 }
 
+/// Whether others have the entry at a key, or its page.
+pub(crate) fn is_shared<V>(pages: &[Arc<Page<V>>], guess: usize, key: &[u8]) -> bool
+    requires { IsSound pages.now }
+{
+    let (spot, _) = find(pages, guess, key);
+    match pages.get(spot.page) {
+        Some(page) => Arc::strong_count(page) > 1 || page.is_shared_at(spot.at),
+        None => false,
+    }
+}
+
 /// The place of a key, and whether an entry with it stands there.
 pub(crate) fn find<V>(pages: &[Arc<Page<V>>], guess: usize, key: &[u8]) -> (Spot, bool)
     requires { IsSound pages.now }

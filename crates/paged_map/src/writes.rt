@@ -38,15 +38,14 @@ pub(crate) fn insert<V: Drop>(
     put(pages, alloc, spot, entry)
 }
 
-/// The value at a key that is there, to write. Its page and its entry are copied first if others have them.
-pub(crate) fn value_mut<'p, V: Clone + Drop>(
+/// The value at a key that is there, to write. Its page is copied first if others have it; a value whose entry others have is refused.
+pub(crate) fn value_mut<'p, V: Drop>(
     pages: &'p mut Vec<Arc<Page<V>>>,
     guess: usize,
     key: &[u8],
 ) -> Result<&'p mut V, AllocError>
     requires sound { IsSound pages.old.items }
     requires there { IsSome (lookup (is_at (octets_cmp key.now)) (entries_of pages.old.items)) }
-    requires clones { (x copy : V) → V.is_clone x copy → copy ≡ x }
     ensures* writes_back { sem 𝓛 (lends_key V.row pages.entry key.now result) }
     ensures value { IfOk result (λ x. lookup (is_at (octets_cmp key.now)) (entries_of pages.old.items) ≡ Some x.now) }
 {

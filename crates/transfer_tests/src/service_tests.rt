@@ -39,9 +39,9 @@ fn edit<R: Abort>(rt: &R, alloc: Global, session: &mut WriteZone<'_>, word: &str
     let octets = octets_at(rt, alloc, RECORDS, word);
     let found = record_from_octets(octets.as_slice()).expect(rt, "a record");
     let edited = if adds {
-        session.add_read(&found)
+        session.add_any(&found)
     } else {
-        session.delete_read(&found)
+        session.delete_any(&found)
     };
     drop(found);
     drop(octets);
@@ -413,7 +413,7 @@ fn add_large<R: Abort>(rt: &R, alloc: Global, session: &mut WriteZone<'_>, octet
 {
     let octets = large(rt, alloc, octet, len);
     let found = record_from_octets(octets.as_slice()).expect(rt, "a record");
-    let added = session.add_read(&found);
+    let added = session.add_any(&found);
     drop(found);
     drop(octets);
     added.expect(rt, "an edit");

@@ -85,13 +85,13 @@ fn kind_of(kind: &str) -> Option<Kind> {
 }
 
 /// An update of a kind.
-fn update_of<'m>(kind: Kind, found: ReadRecord<'m>) -> ZoneUpdate<ReadRecord<'m>> {
+fn update_of<T>(kind: Kind, record: T) -> ZoneUpdate<T> {
     match kind {
-        Kind::AddRecord => ZoneUpdate::AddRecord(found),
-        Kind::DeleteRecord => ZoneUpdate::DeleteRecord(found),
-        Kind::BeginBatchDelete => ZoneUpdate::BeginBatchDelete(found),
-        Kind::BeginBatchAdd => ZoneUpdate::BeginBatchAdd(found),
-        Kind::Finished => ZoneUpdate::Finished(found),
+        Kind::AddRecord => ZoneUpdate::AddRecord(record),
+        Kind::DeleteRecord => ZoneUpdate::DeleteRecord(record),
+        Kind::BeginBatchDelete => ZoneUpdate::BeginBatchDelete(record),
+        Kind::BeginBatchAdd => ZoneUpdate::BeginBatchAdd(record),
+        Kind::Finished => ZoneUpdate::Finished(record),
     }
 }
 
@@ -151,10 +151,15 @@ fn applies<R: Abort>(rt: &R, alloc: Global, updater: &mut ZoneUpdater<'_, '_>, l
         let (kind, row) = line.split_once(' ').expect(rt, "an update");
         let (word, wanted) = row.split_once(' ').expect(rt, "a record");
         let told = apply(rt, alloc, updater, kind, word);
-        let told = format!(in alloc; "{told:?}").expect(rt, "memory");
-        is(rt, told.as_str(), wanted);
-        drop(told);
+        is_told(rt, alloc, told, wanted);
     }
+}
+
+/// Asserts what an update answers.
+fn is_told<R: Abort>(rt: &R, alloc: Global, told: Result<Told, update::Error>, wanted: &str) {
+    let told = format!(in alloc; "{told:?}").expect(rt, "memory");
+    is(rt, told.as_str(), wanted);
+    drop(told);
 }
 
 /// Applies the updates of lines by an updater of its own, behind which nothing is pending.
@@ -219,6 +224,56 @@ AddRecord nezu-5 Err(Finished)";
     updater.into_session();
     drop(session);
     is(&rt, zone.versions(), 3);
+    drop(zone);
+}
+
+/// Applies an update, its record by a word and stored.
+fn apply_stored<R: Abort>(
+    rt: &R,
+    alloc: Global,
+    updater: &mut ZoneUpdater<'_, '_>,
+    kind: &str,
+    word: &str,
+) -> Result<Told, update::Error> {
+    let kind = kind_of(kind).expect(rt, "a kind of update");
+    let update = update_of(kind, stored_at(rt, alloc, word));
+    match updater.apply(rt, update) {
+        Ok(told) => Ok(counted(told)),
+        Err(error) => Err(error),
+    }
+}
+
+/// Applies the updates of lines, each of a record that is stored, and asserts what each answers.
+fn applies_stored<R: Abort>(rt: &R, alloc: Global, updater: &mut ZoneUpdater<'_, '_>, lines: &str) {
+    for line in lines.split('\n') {
+        let (kind, row) = line.split_once(' ').expect(rt, "an update");
+        let (word, wanted) = row.split_once(' ').expect(rt, "a record");
+        let told = apply_stored(rt, alloc, updater, kind, word);
+        is_told(rt, alloc, told, wanted);
+    }
+}
+
+// The first two versions again, by stored records, with one of another type in an SOA's place.
+#[test]
+fn rfc_1995_by_stored_records(rt: HostRuntime) {
+    let alloc = rt.alloc();
+    let mut zone = zone_at(&rt, alloc, JAIN);
+    let mut session = zone.write(alloc);
+    let mut updater = ZoneUpdater::new(alloc, &mut session);
+    applies_stored(&rt, alloc, &mut updater, FIRST);
+    let begins = "BeginBatchDelete soa-1 Ok(None)";
+    applies_stored(&rt, alloc, &mut updater, begins);
+    updater_walks(&rt, alloc, &mut updater, "ns soa-1 nezu-5 ns-a");
+    applies_stored(&rt, alloc, &mut updater, SECOND);
+    let ends = "\
+BeginBatchAdd ns Err(NotSoaRecord)
+Finished soa-2 Ok(Some((1, 2, 2, 2)))
+AddRecord nezu-5 Err(Finished)";
+    applies_stored(&rt, alloc, &mut updater, ends);
+    updater_walks(&rt, alloc, &mut updater, "ns soa-2 bb-4 bb-2 ns-a");
+    updater.into_session();
+    drop(session);
+    is(&rt, zone.versions(), 2);
     drop(zone);
 }
 

@@ -1,15 +1,17 @@
 -- The request of a secondary.
-use Rattle.std.proofs.Common.{◌≡◌, ℕ, ◌+◌, ◌^◌, ◌<◌, ◌≤◌, false, List, [], ◌∷◌, ◌++◌, length, length-append, length-drop, append-nil, take, drop, replicate, refl, sym, ap, ◌∙◌, subst, arith, inl, inr, is_some, not, map, Option, Some, None, Result, Ok, Err}
+use Rattle.std.proofs.Common.{◌≡◌, ℕ, lit<, ltb-true, nat_lt, ◌+◌, ◌^◌, ◌<◌, ◌≤◌, false, List, [], ◌∷◌, ◌++◌, length, length-append, length-drop, append-nil, take, drop, replicate, refl, sym, ap, ◌∙◌, subst, arith, inl, inr, is_some, not, map, Option, Some, None, Result, Ok, Err}
 use Rattle.std.proofs.lemmas.List.{length-take-le}
+use Rattle.dns_name.specs.Names.{is_name}
 use Rattle.dns_name.specs.Octets.{u16_octets}
 use Rattle.dns_numbers.specs.Codes.{type_soa}
-use Rattle.dns_rdata.specs.Records.{Field, Record, record_wire}
+use Rattle.dns_rdata.specs.Records.{Field, Record, record_wire, is_data, data_wire, parts, part_allows}
 use Rattle.dns_rdata.specs.Soa.{serial_of}
 use Rattle.tsig_port.specs.Tsig.{TsigKey, tsig_record, request_tsig}
-use Rattle.std.proofs.lemmas.Bool.{leb-false}
+use Rattle.std.proofs.lemmas.Bool.{and_parts, leb-false}
+use Rattle.std.specs.Cmp.Lexicographic.{pointwise}
 use Rattle.dns_wire.specs.Wire.{Building, Question, Message, header_of, header_wire, question_wire, message_wire, with_item, fits, header_number, in_answer, counts_wire, counts_of}
 use Rattle.std.specs.List.{flat_map}
-use Rattle.std.specs.Prelude.{◌⊎◌, option_map, slice_get}
+use Rattle.std.specs.Prelude.{◌⊎◌, option_map, slice_get, IsTrue}
 use Rattle.std.proofs.lemmas.Grind.{flat_map-append}
 use Rattle.dns_wire.proofs.Pushing.{message_wire-more_questions, message_wire-more_authority}
 use Rattle.dns_wire.specs.Builds.{Adds, Pushes, building}
@@ -25,6 +27,7 @@ use Rattle.zone_model.specs.Session.{Session}
 use Rattle.xfr_client.specs.Updating.{progress_of}
 use Rattle.xfr_model.specs.Machine.{AtStart}
 use Rattle.tsig_port.specs.States.{ClientStands}
+use Rattle.xfr_client.specs.RecordForms.{HaveForms}
 use Rattle.xfr_client.specs.SoFar.{client_so_far, fault_so_far, Asking, asking, authority_of, asked_id, asked_question, asked_authority, asked_serial, request_message, asked_octets, asked_mac, lacks_soa, CantAsk, AsksWith, PushesFirst, IsTooLong}
 use Rattle.xfr_client.specs.Standing.{ExchangeStands}
 use Rattle.xfr_client.specs.declared.exchange.Exchange.{Exchange}
@@ -147,6 +150,19 @@ pushed_soa f xs x v s made old new result is first items made_is added =
     let one = soa_first v s (f x) (map f (drop 1 xs)) (sym is) (sym items ∙ ap (map f) (first_left xs x first)) in
     subst (λ l. PushesFirst 8 l old result new) (sym one) (subst (λ r. Pushes 8 r old result new) made_is added)
 
+-- its wire form
+pub no_forms : (rs : List Record) → rs ≡ [] → HaveForms rs
+no_forms rs none = subst HaveForms (sym none) tt
+
+pub data_short : (rtype : ℕ) (d : List Field) → IsTrue (is_data rtype d) → length (data_wire d) < 2 ^ 16
+data_short rtype d is = ltb-true (length (data_wire d)) 65536 (and_parts (pointwise part_allows (parts rtype) d) (nat_lt (length (data_wire d)) 65536) is).1
+
+pub soa_forms : {X : Type 0} (f : X → List Field) (xs : List X) (x : X) (v : Version) (s : RecordSet) → Some s ≡ set_at v v.apex type_soa → Some x ≡ slice_get xs 0 → map f xs ≡ s.items
+    → IsTrue (is_name v.apex) → v.class < 2 ^ 16 → s.ttl < 2 ^ 32 → IsTrue (is_data type_soa (f x)) → HaveForms (apex_soa_record v)
+soa_forms f xs x v s is first items apex class ttl pieces =
+    let one = soa_first v s (f x) (map f (drop 1 xs)) (sym is) (sym items ∙ ap (map f) (first_left xs x first)) in
+    subst HaveForms (sym one) ((record { owner = apex; rtype = lit< tt; class = class; ttl = ttl; len = data_short type_soa (f x) pieces }, pieces), tt)
+
 -- the serial to ask with
 pub asks_with_serial : (v : Version) (n : ℕ) → Some n ≡ option_map serial_of (apex_soa v) → AsksWith Ixfr v (Ok (Some n))
 asks_with_serial v n e = by (apex_soa v) refl
@@ -256,6 +272,10 @@ pub soa_lacks : (a : Asking) (mode : Mode) (zone : Commit) (most : ℕ) (e : Syn
 soa_lacks a mode zone most e m z h =
     let k = subst (λ x. AsksWith x a.base.version (Err e)) m (subst (λ (x : Commit). AsksWith mode x.version (Err e)) z h) in
     subst (λ x. CantAsk a most x) (sym k.1) k.0
+
+-- the forms, as they are asked with
+pub forms_there : (a : Asking) (mode : Mode) (zone : Commit) → mode ≡ a.mode → zone ≡ a.base → HaveForms (authority_of mode zone.version) → HaveForms (asked_authority a)
+forms_there a mode zone m z h = subst (λ x. HaveForms (authority_of x a.base.version)) m (subst (λ (x : Commit). HaveForms (authority_of mode x.version)) z h)
 
 -- ---- the exchange that begins
 

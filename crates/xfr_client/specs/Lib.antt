@@ -7,6 +7,7 @@ pub mod Causes
 pub mod Updating
 pub mod CallsInTurn
 pub mod Ending
+pub mod RecordForms
 pub mod SoFar
 pub mod Steps
 pub mod Room

@@ -19,6 +19,7 @@ use Rattle.xfr_outcomes.specs.declared.outcome.SyncError.TheVariants as why
 use Rattle.xfr_course.specs.Outcome.{Outcome, Ended, Checked, Course, needs_soa}
 use Rattle.xfr_course.specs.Courses.{replies_taken, stop_after}
 use Rattle.xfr_course.specs.Client.{Client, new_client, take_course}
+use Rattle.xfr_client.specs.RecordForms.{HaveForms}
 
 -- ---- the request
 
@@ -73,10 +74,11 @@ asked_mac a = (request_tsig a.key (message_wire (request_message a)) a.at 300).m
 abbrev pub lacks_soa : Asking → Bool
 lacks_soa a = needs_soa a.mode a.base.version
 
--- the request can be made: it doesn't lack an SOA, and is no longer than the link and a message allow
+-- the request can be made: it doesn't lack an SOA, is no longer than the link and a message allow, and its authority is a record that a version stores
 pub record CanAsk (a : Asking) (longest : ℕ) : Type 0 where
   pub soa : lacks_soa a ≡ false
   pub fits : length (asked_octets a) ≤ min longest 65535
+  pub forms : HaveForms (asked_authority a)
 
 -- why it can't, by the error; want of memory may come in either case
 abbrev pub CantAsk : Asking → ℕ → SyncError → Type 0

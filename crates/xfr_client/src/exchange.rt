@@ -15,6 +15,7 @@ ghost use Rattle.xfr_outcomes.specs.declared.update.Error.TheVariants.{Memory};
 ghost use Rattle.xfr_client.specs.Places.{first_serial};
 ghost use Rattle.xfr_course.specs.Client.{IsBetween};
 ghost use Rattle.xfr_outcomes.specs.Modes.{mode_of};
+ghost use Rattle.xfr_client.specs.RecordForms.{HaveForms};
 ghost use Rattle.xfr_client.specs.SoFar.{Asking, asked_octets, asked_mac, asked_id, asked_question, authority_of, message_so_far, asking, asks_other, AsksWith, CanAsk, CantAsk, IsTooLong, PushesFirst};
 ghost use Rattle.xfr_client.specs.Ending.{same_serial, settled};
 ghost use Rattle.xfr_client.specs.Standing.{asking_of, Stands, TakesReply, ExchangeStands, ReadsWhole};
@@ -27,7 +28,7 @@ use crate::iterator::XfrZoneUpdateIterator;
 use crate::updater_state::UpdaterState;
 use dns_name::{KeyName, Labelled, ParsedName, ToName};
 use dns_numbers::{Rtype, Serial};
-use dns_rdata::{ReadRecord, Record};
+use dns_rdata::{ReadRecord, Record, RecordData};
 use dns_wire::{
     AdditionalBuilder, AuthorityBuilder, Header, MessageBuf, MessageBuilder, PushError, Question,
 };
@@ -392,6 +393,7 @@ fn ask(
 ) -> Result<AdditionalBuilder, SyncError>
     ensures ok { IfOk result (λ b. b ≡ record { octets = message_wire (asking id question.now (authority_of (mode_of mode) zone.now.version)); limit = 65535 }) }
     ensures refused { IfErr result (λ e. IsTooLong 65535 (message_wire (asking id question.now (authority_of (mode_of mode) zone.now.version))) e) }
+    ensures forms { OnOk result (HaveForms (authority_of (mode_of mode) zone.now.version)) }
 {
     let mut builder = MessageBuilder::new(alloc)?;
     builder.set_header(Header::new(id));
@@ -402,13 +404,14 @@ fn ask(
     Ok(authority.additional())
 }
 
-/// The authority of a request: for what is newer the first apex SOA record, if there is one (RFC 1995, 3).
+/// The authority of a request: for what is newer the first apex SOA record, if there is one (RFC 1995, 3). It has a wire form.
 fn push_authority(
     authority: &mut AuthorityBuilder,
     mode: XfrMode,
     zone: &ReadZone,
 ) -> Result<(), PushError>
-    ensures { PushesFirst 8 (authority_of (mode_of mode) zone.now.version) authority.old result authority.new }
+    ensures pushes { PushesFirst 8 (authority_of (mode_of mode) zone.now.version) authority.old result authority.new }
+    ensures forms { HaveForms (authority_of (mode_of mode) zone.now.version) }
 {
     match mode {
         XfrMode::Axfr => Ok(()),
@@ -418,7 +421,8 @@ fn push_authority(
 
 /// The first apex SOA record, if there is one.
 fn push_soa(authority: &mut AuthorityBuilder, zone: &ReadZone) -> Result<(), PushError>
-    ensures { PushesFirst 8 (apex_soa_record zone.now.version) authority.old result authority.new }
+    ensures pushes { PushesFirst 8 (apex_soa_record zone.now.version) authority.old result authority.new }
+    ensures forms { HaveForms (apex_soa_record zone.now.version) }
 {
     let Some(found) = zone.rrset_at(zone.apex_name(), Rtype::SOA) else {
         return Ok(());
@@ -427,6 +431,8 @@ fn push_soa(authority: &mut AuthorityBuilder, zone: &ReadZone) -> Result<(), Pus
         return Ok(());
     };
     let owner = zone.apex_name().borrowed();
+    // For the proof: the data are of their type, and fit RDLENGTH.
+    let _len = rdata.rdlen();
     authority.push(&Record::new(owner, zone.class(), found.ttl(), rdata))
 }
 

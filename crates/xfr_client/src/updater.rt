@@ -10,8 +10,10 @@ ghost use Rattle.xfr_client.specs.Causes.{update_fault_of, HidesEdit};
 ghost use Rattle.xfr_client.specs.Updating.{Leaves, progress_of, new_version, next_commit, lacks_number, told_by, wants_after};
 
 use crate::updater_state::UpdaterState;
-use dns_rdata::ReadRecord;
+use dns_name::Labelled;
+use dns_rdata::{Record, ZoneRecordData};
 use std::alloc::{AllocError, Global};
+use std::convert::AsSlice;
 use std::marker::Model;
 use xfr_outcomes::ZoneUpdate;
 use xfr_outcomes::update::Error;
@@ -75,37 +77,37 @@ impl<'s, 'z> ZoneUpdater<'s, 'z> {
         self.session.handle()
     }
 
-    /// Applies one update. What it commits is published without a new serial, and the difference that the commit tells is told
-    /// (RFC 1995, 4), where one was wanted of it: after `BeginBatchDelete` one is wanted of the next commit. None is told of an update
-    /// that commits nothing; `ZoneUpdate::commits` says beforehand which does. Nothing waits, so nothing is asked of `rt`.
+    /// Applies one update of a record of any names and data. What it commits is published without a new serial, and the difference that the commit
+    /// tells is told (RFC 1995, 4), where one was wanted of it: after `BeginBatchDelete` one is wanted of the next commit. None is told of an
+    /// update that commits nothing; `ZoneUpdate::commits` says beforehand which does. Nothing waits, so nothing is asked of `rt`.
     ///
     /// `Finished` comes after the end and after `IncompatibleUpdate`; after the other refusals the updater goes on.
     /// After `Memory` or `VersionsExhausted` the same update may be applied again; where it was `Finished` the new SOA
     /// may be pending already. An update that lacks both memory and a number is answered by either. Want of memory hides neither `Finished` nor
     /// `NotSoaRecord`; the data of a record are put in memory of their own first, so it may hide the other three.
-    pub fn apply<R>(
+    pub fn apply<R, O: AsSlice<u8> + Drop, N: Labelled + Drop>(
         &mut self,
         rt: &R,
-        update: ZoneUpdate<ReadRecord<'_>>,
+        update: ZoneUpdate<Record<N, ZoneRecordData<O, N>>>,
     ) -> Result<Option<InMemoryZoneDiff>, Error>
-        ensures ok { (before : List Version) → OnOk result (apply_update (progress_of self.old.updater self.old.session before) (update_of update.entry)
-            ≡ Ok (progress_of self.new.updater self.new.session (before ++ new_version (commits (update_of update.entry)) self.new.session))) }
-        ensures refused { (before : List Version) → IfErr result (λ e. IfSome (update_fault_of e) (λ why. (apply_update (progress_of self.old.updater self.old.session before) (update_of update.entry) ≡ Err why)
+        ensures ok { (before : List Version) → OnOk result (apply_update (progress_of self.old.updater self.old.session before) (update_of update)
+            ≡ Ok (progress_of self.new.updater self.new.session (before ++ new_version (commits (update_of update)) self.new.session))) }
+        ensures refused { (before : List Version) → IfErr result (λ e. IfSome (update_fault_of e) (λ why. (apply_update (progress_of self.old.updater self.old.session before) (update_of update) ≡ Err why)
             × (progress_of self.new.updater self.new.session before ≡ after_refusal (progress_of self.old.updater self.old.session before) why))) }
-        ensures difference { IfOk result (λ told. told ≡ told_by self.old.session (update_of update.entry)) }
+        ensures difference { IfOk result (λ told. told ≡ told_by self.old.session (update_of update)) }
         // A batch's begin leaves the wish for a difference, and the end leaves none.
-        ensures wish { OnOk result (self.new.session.compares ≡ wants_after self.old.session.compares (update_of update.entry)) }
-        ensures current { OnOk result (self.new.session.current ≡ next_commit (commits (update_of update.entry)) self.old.session.current self.new.session.current.version) }
-        ensures ready { OnOk result (commits (update_of update.entry) ≡ true → self.new.session.has_handle ≡ true) }
-        ensures kept { OnOk result (commits (update_of update.entry) ≡ false → self.new.session ≡ with_pending self.old.session self.new.session.pending) }
+        ensures wish { OnOk result (self.new.session.compares ≡ wants_after self.old.session.compares (update_of update)) }
+        ensures current { OnOk result (self.new.session.current ≡ next_commit (commits (update_of update)) self.old.session.current self.new.session.current.version) }
+        ensures ready { OnOk result (commits (update_of update) ≡ true → self.new.session.has_handle ≡ true) }
+        ensures kept { OnOk result (commits (update_of update) ≡ false → self.new.session ≡ with_pending self.old.session self.new.session.pending) }
         ensures err { OnErr result (self.new.session ≡ with_pending self.old.session self.new.session.pending) }
-        ensures left { OnErr result (Leaves (update_of update.entry) self.old.session self.new.session) }
+        ensures left { OnErr result (Leaves (update_of update) self.old.session self.new.session) }
         // No commit goes past the greatest number.
-        ensures numbered { OnOk result (lacks_number self.old.session.current.number (update_of update.entry) ≡ false) }
-        ensures exhausted { (before : List Version) → result ≡ Err VersionsExhausted → (lacks_number self.old.session.current.number (update_of update.entry) ≡ true)
-            × IsOk (apply_update (progress_of self.old.updater self.old.session before) (update_of update.entry)) }
+        ensures numbered { OnOk result (lacks_number self.old.session.current.number (update_of update) ≡ false) }
+        ensures exhausted { (before : List Version) → result ≡ Err VersionsExhausted → (lacks_number self.old.session.current.number (update_of update) ≡ true)
+            × IsOk (apply_update (progress_of self.old.updater self.old.session before) (update_of update)) }
         // Want of memory hides neither the end nor another type of record.
-        ensures memory { (before : List Version) → result ≡ Err Memory → HidesEdit (apply_update (progress_of self.old.updater self.old.session before) (update_of update.entry)) }
+        ensures memory { (before : List Version) → result ≡ Err Memory → HidesEdit (apply_update (progress_of self.old.updater self.old.session before) (update_of update)) }
         // Want of memory or of a number changes nothing of the updater.
         ensures unchanged { IfErr result (λ e. update_fault_of e ≡ None → self.new.updater ≡ self.old.updater) }
         ensures lender { self.new.lender ≡ self.old.lender }

@@ -14,10 +14,11 @@ ghost use Rattle.xfr_outcomes.specs.ZoneUpdates.{update_of};
 ghost use Rattle.xfr_client.specs.Causes.{update_fault_of, HidesEdit};
 ghost use Rattle.xfr_client.specs.Updating.{Leaves, progress_of, new_version, next_commit, lacks_number, told_by, wants_after};
 
-use dns_name::StoredName;
+use dns_name::{Labelled, StoredName};
 use dns_numbers::Ttl;
-use dns_rdata::{ReadRecord, RecordData, Soa, ZoneRecordData};
+use dns_rdata::{Record, RecordData, Soa, ZoneRecordData};
 use std::alloc::Global;
+use std::convert::AsSlice;
 use std::marker::Model;
 use xfr_outcomes::ZoneUpdate;
 use xfr_outcomes::update::Error;
@@ -63,27 +64,27 @@ impl UpdaterState {
 
     /// Applies one update, as `ZoneUpdater::apply` says it.
     #[tactic(auto, using(crate::proofs::Hiding::hides_clear, crate::proofs::Hiding::hides_delete, crate::proofs::Hiding::hides_add, crate::proofs::Hiding::hides_begin, crate::proofs::Hiding::hides_soa, crate::proofs::Hiding::hides_end))]
-    pub(crate) fn apply<R>(
+    pub(crate) fn apply<R, O: AsSlice<u8> + Drop, N: Labelled + Drop>(
         &mut self,
         rt: &R,
         session: &mut WriteZone<'_>,
-        update: ZoneUpdate<ReadRecord<'_>>,
+        update: ZoneUpdate<Record<N, ZoneRecordData<O, N>>>,
     ) -> Result<Option<InMemoryZoneDiff>, Error>
-        ensures ok { (before : List Version) → OnOk result (apply_update (progress_of self.old session.old before) (update_of update.entry) ≡ Ok (progress_of self.new session.new (before ++ new_version (commits (update_of update.entry)) session.new))) }
-        ensures refused { (before : List Version) → IfErr result (λ e. IfSome (update_fault_of e) (λ why. (apply_update (progress_of self.old session.old before) (update_of update.entry) ≡ Err why) × (progress_of self.new session.new before ≡ after_refusal (progress_of self.old session.old before) why))) }
-        ensures difference { IfOk result (λ told. told ≡ told_by session.old (update_of update.entry)) }
+        ensures ok { (before : List Version) → OnOk result (apply_update (progress_of self.old session.old before) (update_of update) ≡ Ok (progress_of self.new session.new (before ++ new_version (commits (update_of update)) session.new))) }
+        ensures refused { (before : List Version) → IfErr result (λ e. IfSome (update_fault_of e) (λ why. (apply_update (progress_of self.old session.old before) (update_of update) ≡ Err why) × (progress_of self.new session.new before ≡ after_refusal (progress_of self.old session.old before) why))) }
+        ensures difference { IfOk result (λ told. told ≡ told_by session.old (update_of update)) }
         // A batch's begin leaves the wish for a difference, and the end leaves none.
-        ensures wish { OnOk result (session.new.compares ≡ wants_after session.old.compares (update_of update.entry)) }
-        ensures current { OnOk result (session.new.current ≡ next_commit (commits (update_of update.entry)) session.old.current session.new.current.version) }
-        ensures ready { OnOk result (commits (update_of update.entry) ≡ true → session.new.has_handle ≡ true) }
-        ensures kept { OnOk result (commits (update_of update.entry) ≡ false → session.new ≡ with_pending session.old session.new.pending) }
+        ensures wish { OnOk result (session.new.compares ≡ wants_after session.old.compares (update_of update)) }
+        ensures current { OnOk result (session.new.current ≡ next_commit (commits (update_of update)) session.old.current session.new.current.version) }
+        ensures ready { OnOk result (commits (update_of update) ≡ true → session.new.has_handle ≡ true) }
+        ensures kept { OnOk result (commits (update_of update) ≡ false → session.new ≡ with_pending session.old session.new.pending) }
         ensures err { OnErr result (session.new ≡ with_pending session.old session.new.pending) }
-        ensures left { OnErr result (Leaves (update_of update.entry) session.old session.new) }
+        ensures left { OnErr result (Leaves (update_of update) session.old session.new) }
         // No commit goes past the greatest number.
-        ensures numbered { OnOk result (lacks_number session.old.current.number (update_of update.entry) ≡ false) }
-        ensures exhausted { (before : List Version) → result ≡ Err VersionsExhausted → (lacks_number session.old.current.number (update_of update.entry) ≡ true) × IsOk (apply_update (progress_of self.old session.old before) (update_of update.entry)) }
+        ensures numbered { OnOk result (lacks_number session.old.current.number (update_of update) ≡ false) }
+        ensures exhausted { (before : List Version) → result ≡ Err VersionsExhausted → (lacks_number session.old.current.number (update_of update) ≡ true) × IsOk (apply_update (progress_of self.old session.old before) (update_of update)) }
         // Want of memory hides neither the end nor another type of record.
-        ensures memory { (before : List Version) → result ≡ Err Memory → HidesEdit (apply_update (progress_of self.old session.old before) (update_of update.entry)) }
+        ensures memory { (before : List Version) → result ≡ Err Memory → HidesEdit (apply_update (progress_of self.old session.old before) (update_of update)) }
         // Want of memory or of a number changes nothing of the updater.
         ensures unchanged { IfErr result (λ e. update_fault_of e ≡ None → self.new ≡ self.old) }
     {
@@ -150,7 +151,11 @@ impl UpdaterState {
 
     // One record less.
     #[tactic(auto, using(crate::proofs::Deleting::update_deleted, crate::proofs::Deleting::update_not_deleted))]
-    fn delete(&mut self, session: &mut WriteZone<'_>, deleted: &ReadRecord<'_>) -> Result<(), Error>
+    fn delete<O: AsSlice<u8> + Drop, N: Labelled + Drop>(
+        &mut self,
+        session: &mut WriteZone<'_>,
+        deleted: &Record<N, ZoneRecordData<O, N>>,
+    ) -> Result<(), Error>
         ensures ok { (before : List Version) → self.old.finished ≡ false → OnOk result (apply_update (progress_of self.old session.old before) (updates.DeleteRecord deleted.now) ≡ Ok (progress_of self.new session.new before)) }
         ensures refused { (before : List Version) → self.old.finished ≡ false → IfErr result (λ e. IfSome (update_fault_of e) (λ why. (apply_update (progress_of self.old session.old before) (updates.DeleteRecord deleted.now) ≡ Err why) × (progress_of self.new session.new before ≡ after_refusal (progress_of self.old session.old before) why))) }
         ensures numbered { result ≡ Err VersionsExhausted → ⊥ }
@@ -158,7 +163,7 @@ impl UpdaterState {
         ensures err { OnErr result (session.new ≡ session.old) }
         ensures unchanged { IfErr result (λ e. update_fault_of e ≡ None → self.new ≡ self.old) }
     {
-        match session.delete_read(deleted) {
+        match session.delete_any(deleted) {
             Ok(()) => Ok(()),
             Err(EditError::Incompatible) => {
                 self.is_finished = true;
@@ -172,7 +177,11 @@ impl UpdaterState {
 
     // One record more; data that the set has are passed over while the zone is replaced (RFC 5936, 2.2).
     #[tactic(auto, using(crate::proofs::Adding::update_added, crate::proofs::Adding::update_passed, crate::proofs::Adding::update_not_passed, crate::proofs::Adding::update_outside, crate::proofs::Adding::update_bad_data))]
-    fn add(&mut self, session: &mut WriteZone<'_>, added: &ReadRecord<'_>) -> Result<(), Error>
+    fn add<O: AsSlice<u8> + Drop, N: Labelled + Drop>(
+        &mut self,
+        session: &mut WriteZone<'_>,
+        added: &Record<N, ZoneRecordData<O, N>>,
+    ) -> Result<(), Error>
         ensures ok { (before : List Version) → self.old.finished ≡ false → OnOk result (apply_update (progress_of self.old session.old before) (updates.AddRecord added.now) ≡ Ok (progress_of self.new session.new before)) }
         ensures refused { (before : List Version) → self.old.finished ≡ false → IfErr result (λ e. IfSome (update_fault_of e) (λ why. (apply_update (progress_of self.old session.old before) (updates.AddRecord added.now) ≡ Err why) × (progress_of self.new session.new before ≡ after_refusal (progress_of self.old session.old before) why))) }
         ensures numbered { result ≡ Err VersionsExhausted → ⊥ }
@@ -180,7 +189,7 @@ impl UpdaterState {
         ensures err { OnErr result (session.new ≡ session.old) }
         ensures unchanged { IfErr result (λ e. update_fault_of e ≡ None → self.new ≡ self.old) }
     {
-        match session.add_read(added) {
+        match session.add_any(added) {
             Ok(()) => Ok(()),
             Err(EditError::Incompatible) => {
                 if self.is_replacing {
@@ -208,7 +217,11 @@ fn clear(session: &mut WriteZone<'_>) -> Result<(), Error>
 }
 
 // The apex SOA set is this one record, whatever its owner and class.
-fn put_soa(alloc: Global, session: &mut WriteZone<'_>, soa: &ReadRecord<'_>) -> Result<(), Error>
+fn put_soa<O: AsSlice<u8> + Drop, N: Labelled + Drop>(
+    alloc: Global,
+    session: &mut WriteZone<'_>,
+    soa: &Record<N, ZoneRecordData<O, N>>,
+) -> Result<(), Error>
     ensures ok { OnOk result ((is_soa soa.now ≡ true) × (session.new ≡ with_pending session.old (set_soa session.old.pending soa.now))) }
     ensures err { OnErr result (session.new ≡ session.old) }
     ensures refused { IfErr result (λ e. IfSome (update_fault_of e) (λ why. (is_soa soa.now ≡ false) × (why ≡ updates.NotSoaRecord))) }

@@ -21,8 +21,10 @@ pub fn refusal_reply<K: KeyRef>(
     refusal: ServerError<K>,
     request: &MessageBuf,
 ) -> Result<AdditionalBuilder, ServiceError>
-    ensures reply { (found : Verdict) (now : ℕ) → RefusalOf K.the_key found request.now now refusal → MakesBegun (built (reply_to found request.now request.now now)) result }
-    ensures cause { (found : Verdict) (now : ℕ) → RefusalOf K.the_key found request.now now refusal → result ≡ Err InternalError → HasLongQuestions request.now }
+    ensures reply { (found : Verdict) (now : ℕ) → RefusalOf K.the_key found request.now now refusal
+        → MakesBegun (built (reply_to found request.now request.now now)) result }
+    ensures cause { (found : Verdict) (now : ℕ) → RefusalOf K.the_key found request.now now refusal
+        → result ≡ Err InternalError → HasLongQuestions request.now }
 {
     // For the proof: the reply's TSIG is short.
     tell_refusing_key(&refusal);
@@ -35,7 +37,8 @@ fn build_refusal<K: KeyRef>(
     refusal: ServerError<K>,
     request: &MessageBuf,
 ) -> Result<AdditionalBuilder, ServiceError>
-    ensures { (found : Verdict) (now : ℕ) → RefusalOf K.the_key found request.now now refusal → MakesBegun (built (reply_to found request.now request.now now)) result }
+    ensures { (found : Verdict) (now : ℕ) → RefusalOf K.the_key found request.now now refusal
+        → MakesBegun (built (reply_to found request.now request.now now)) result }
 {
     let builder = MessageBuilder::new(alloc)?;
     Ok(refusal.build_message(&request.as_message(), builder)?)

@@ -261,7 +261,8 @@ where
         alloc: Global,
         request: Request<()>,
     ) -> Result<TsigStream<S::Stream, KS::Key>, ServiceError>
-        ensures calls { Calls (SendsChecked KS.Key.the_key (KS.key_of self.now.1) (S.Sends self.now.0) request) (SignedLeft S.Stream.LeftOf KS.Key.the_key) result }
+        ensures calls { Calls (SendsChecked KS.Key.the_key (KS.key_of self.now.1) (S.Sends self.now.0) request)
+            (SignedLeft S.Stream.LeftOf KS.Key.the_key) result }
         ensures failing { Calls (FailsOnlyWhereLong request.message) (SignedLeft S.Stream.LeftOf KS.Key.the_key) result }
     {
         let mut request = request;
@@ -299,7 +300,8 @@ where
     ) -> Result<TsigStream<S::Stream, KS::Key>, ServiceError>
         requires stands { ServerStands KS.Key.the_key sequence (mac_in received) [] }
         requires taken { request.message ≡ taken_message received }
-        ensures calls { Calls (SendsSigned KS.Key.the_key (KS.key_of self.now.1) (S.Sends self.now.0) (as_received request received) (KS.Key.the_key sequence.key)) (SignedLeft S.Stream.LeftOf KS.Key.the_key) result }
+        ensures calls { Calls (SendsSigned KS.Key.the_key (KS.key_of self.now.1) (S.Sends self.now.0) (as_received request received) (KS.Key.the_key sequence.key))
+            (SignedLeft S.Stream.LeftOf KS.Key.the_key) result }
         ensures failing { Calls (FailsOnlyWhereLong received) (SignedLeft S.Stream.LeftOf KS.Key.the_key) result }
     {
         let now = request.at;

@@ -1,3 +1,5 @@
 mod Readings
+mod Rooms
 mod Serving
 mod Meeting
+mod Programs

@@ -1,6 +1,5 @@
 -- An exchange over streams, read as one over an honest link, and what it delivers.
-use Rattle.std.proofs.Common.{◌≡◌, ℕ, ◌^◌, ◌-◌, ◌<◌, ◌≤◌, Bool, true, false, List, [], ◌∷◌, ◌++◌, length, append-nil, refl, sym, ap, ◌∙◌, subst, arith, ◌⊎◌, inl, inr, Option, Some, None, Result, Ok, Err}
-use Rattle.std.specs.Prelude.{◌≢◌}
+use Rattle.std.proofs.Common.{◌≡◌, ℕ, ◌≤◌, Bool, true, false, List, [], ◌∷◌, ◌++◌, length, append-nil, refl, sym, ap, ◌∙◌, subst, arith, inl, inr, Option, Some, None, Result, Ok, Err}
 use Rattle.std.specs.List.{AllByRecursion}
 use Rattle.dns_wire.specs.declared.builder.PushError.TheVariants as push
 use Rattle.dns_wire.specs.declared.message.ShortMessage.{ShortMessage}
@@ -8,14 +7,12 @@ use Rattle.zone_model.specs.Version.{Version}
 use Rattle.zone_model.specs.Commits.{Commit}
 use Rattle.zone_model.specs.Session.{Session}
 use Rattle.zone_model.specs.TransferText.{Mode, Axfr, Ixfr}
-use Rattle.zone_model.specs.Updates.{Update, DeleteAllRecords, DeleteRecord, AddRecord, BeginBatchDelete, BeginBatchAdd, Finished}
-use Rattle.message_frames.specs.Frames.{Cut, frames_of, first_frame, cut_frames}
+use Rattle.message_frames.specs.Frames.{frames_of, first_frame, cut_frames}
 use Rattle.zone_devices.specs.Calls.{Rose}
-use Rattle.zone_devices.specs.Links.{Way, LinkLists, no_lists, IsHonest}
-use Rattle.xfr_services.specs.Items.{Sending, sent_by}
+use Rattle.zone_devices.specs.Links.{LinkLists, no_lists, IsHonest}
+use Rattle.xfr_services.specs.Items.{Sending}
 use Rattle.xfr_course.specs.Courses.{has_header}
 use Rattle.xfr_client.specs.SoFar.{Asking, asked_octets}
-use Rattle.xfr_client.specs.Room.{adds_to_full}
 use Rattle.xfr_client.specs.Transfers as client
 use Rattle.xfr_client.specs.Transfers.{HasShort, Transfers}
 use Rattle.xfr_outcomes.specs.declared.outcome.SyncOk.{SyncOk}
@@ -26,17 +23,18 @@ use Rattle.zone_asking.specs.declared.limits.Limit as kinds
 use Rattle.zone_asking.specs.declared.errors.AskError.{AskError}
 use Rattle.zone_asking.specs.declared.errors.AskError.TheVariants as ask
 use Rattle.zone_asking.specs.Answers.{sync_answer}
-use Rattle.zone_asking.specs.Limiting.{Within, passed, AddsToFull}
+use Rattle.zone_asking.specs.Limiting.{Within, passed}
 use Rattle.zone_asking.specs.Streams.{GivesFrames, LeavesBy, replies_among}
 use Rattle.zone_asking.specs.Exchanges as asking
 use Rattle.zone_asking.specs.Exchanges.{Crossing, Exchanges}
-use Rattle.zone_asking.specs.Retries.{asks_again, ExchangesByRule, ExchangesTwice}
+use Rattle.zone_asking.specs.Retries.{asks_again, ExchangesByRule}
 use Rattle.zone_serving.specs.StreamServing.{SendsJust}
-use Rattle.zone_sync.specs.Serving.{SendsAll, SendsPart, HasBegun, RepliedTo, HandedTo, NotReplied}
+use Rattle.zone_sync.specs.Serving.{SendsAll, RepliedTo, HandedTo, NotReplied}
 use Rattle.zone_sync.specs.LinkTransfers.{NotAsked, ComesAfter, SyncSays}
 use Rattle.zone_sync.specs.Delivery.{IsGranted, WasHonest, Delivers}
 use Rattle.zone_halves.specs.Meeting.{IsWritten, IsSteady, DeliversBy}
 use Rattle.zone_halves.proofs.Readings.{is_end, IsFirstPart, first_part, all_read}
+use Rattle.zone_halves.proofs.Rooms.{not_full}
 
 -- ---- answers
 
@@ -112,18 +110,6 @@ not_a_fault (Err (ask.Limit which)) l st h = cc h
 not_a_fault (Err ask.FullSet) l st h = cc h
 not_a_fault (Err ask.SourceFault) l st h = st.source refl
 not_a_fault (Err ask.SinkFault) l st h = st.sink refl
-
--- without a limit on sets none is full
-never_full : (v : Version) (u : Update) → adds_to_full None v u ≡ false
-never_full v DeleteAllRecords = refl
-never_full v (DeleteRecord r) = refl
-never_full v (AddRecord r) = refl
-never_full v (BeginBatchDelete r) = refl
-never_full v (BeginBatchAdd r) = refl
-never_full v (Finished r) = refl
-
-not_full : (a : Asking) (replies : List (List ℕ)) (before handles : List Commit) (s : Session) → AddsToFull None a replies before handles s → ⊥
-not_full a replies before handles s f = cc (sym (never_full f.stops.kept.progress.pending f.stops.next) ∙ f.stops.test)
 
 -- what is delivered over a link is delivered over streams
 delivered_error : (v : Version) (s : Session) (e : SyncError) → Delivers v s (Err e) → DeliversBy v s (Err (ask.Transfer e))
@@ -340,22 +326,24 @@ module _ (written : (messages : List (List ℕ)) → AllByRecursion (λ m. lengt
         })
         (λ h. absurd (unmade_not_fault a answer cause h))
 
-    pub exchange_delivers : (x : Crossing) → Exchanges limits None a x before handles s answer → IsWritten (Sends (asked_octets a)) limits x.left_old → IsSteady answer → DeliversBy v s answer
-    exchange_delivers x k w steady = delivered_by v s answer no_full (by k.asks)
+    pub exchange_delivers : (x : Crossing) → Exchanges limits None a x before handles s answer → IsWritten (Sends (asked_octets a)) limits a x.left_old → IsSteady answer → DeliversBy v s answer
+    exchange_delivers x k w steady = by k.asks
       where
-        no_full : answer ≡ Err ask.FullSet → ⊥
-        no_full h = not_full a k.replies before handles s (subst (λ o. AddsToFull o a k.replies before handles s) w.sets (k.full h))
+        -- no set was full, since the replies are a first part of what was written
+        no_full : (rest : List (List ℕ)) → w.writes.messages ≡ k.replies ++ rest → answer ≡ Err ask.FullSet → ⊥
+        no_full rest part h = not_full limits.set_records a w.writes.messages k.replies rest before handles s w.taken.room part (k.full h)
 
-        read_so : (rest : Option (List ℕ)) → GivesFrames k.reads.read (Some (frames_of w.writes.messages)) rest → LeavesBy limits k.reads.read answer rest x.left_new → asking.Sent a x answer → Delivers v s (sync_answer answer)
+        read_so : (rest : Option (List ℕ)) → GivesFrames k.reads.read (Some (frames_of w.writes.messages)) rest → LeavesBy limits k.reads.read answer rest x.left_new → asking.Sent a x answer → DeliversBy v s answer
         read_so None g l u = absurd g
         read_so (Some rest) g l u =
             let same : k.reads.read ≡ k.replies = sym (k.reads.among ∙ none_over k.reads.read) in
-            sent w.writes.messages k.replies rest x.left_new w.writes.sends w.within
-            (subst (λ r. IsFirstPart w.writes.messages r rest) same (first_part written cuts_none beyond w.writes.messages k.reads.read rest w.short g))
-            (subst (λ r. LeavesBy limits r answer (Some rest) x.left_new) same l) x u k.transfers k.short steady
+            let part : IsFirstPart w.writes.messages k.replies rest
+            = subst (λ r. IsFirstPart w.writes.messages r rest) same (first_part written cuts_none beyond w.writes.messages k.reads.read rest w.taken.short g) in
+            delivered_by v s answer (no_full (cut_frames rest).messages part.joined)
+            (sent w.writes.messages k.replies rest x.left_new w.writes.sends w.taken.within part (subst (λ r. LeavesBy limits r answer (Some rest) x.left_new) same l) x u k.transfers k.short steady)
 
-        by : asking.Asks a k.replies x answer → Delivers v s (sync_answer answer)
-        by (inl u) = not_made k.replies u.cause u.none k.transfers k.short
+        by : asking.Asks a k.replies x answer → DeliversBy v s answer
+        by (inl u) = delivered_by v s answer (no_full w.writes.messages (ap (λ r. r ++ w.writes.messages) (sym u.none))) (not_made k.replies u.cause u.none k.transfers k.short)
         by (inr (inl u)) = absurd (steady.sink u.failed)
         by (inr (inr u)) = read_so k.reads.rest (subst (λ o. GivesFrames k.reads.read o k.reads.rest) w.writes.frames k.reads.frames) k.reads.leaves u
 

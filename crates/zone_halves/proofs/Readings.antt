@@ -1,5 +1,5 @@
 -- What was read of a source that holds the frames of some messages.
-use Rattle.std.proofs.Common.{◌≡◌, ℕ, ◌+◌, ◌≤◌, Bool, true, false, List, [], ◌∷◌, ◌++◌, length, length-append, append-nil, append_assoc, sum_by, refl, sym, ap, ◌∙◌, subst, arith, Option, Some, None, Result, Ok, Err}
+use Rattle.std.proofs.Common.{◌≡◌, ℕ, ◌≤◌, Bool, true, false, List, [], ◌∷◌, ◌++◌, length, length-append, append-nil, append_assoc, refl, sym, ap, ◌∙◌, subst, arith, Option, Some, None, Result, Ok, Err}
 use Rattle.std.specs.List.{AllByRecursion}
 use Rattle.std.proofs.lemmas.List.Sums.{sum_by-append}
 use Rattle.message_frames.specs.Frames.{Cut, frames_of, first_frame, cut_frames}
@@ -11,8 +11,8 @@ use Rattle.zone_asking.specs.declared.limits.Limit as kinds
 use Rattle.zone_asking.specs.declared.errors.AskError.{AskError}
 use Rattle.zone_asking.specs.declared.errors.AskError.TheVariants as ask
 use Rattle.zone_asking.specs.Answers.{sync_answer}
-use Rattle.zone_asking.specs.Limiting.{octets_of, records_in, records_of, Within, passed}
-use Rattle.zone_asking.specs.Streams.{BeginsWith, GivesFrames, PassesLimit, LeavesBy}
+use Rattle.zone_asking.specs.Limiting.{records_in, Within, passed}
+use Rattle.zone_asking.specs.Streams.{BeginsWith, PassesLimit, LeavesBy}
 
 -- whether an answer says that no more came
 abbrev pub is_end : Result SyncOk SyncError → Bool

@@ -1,3 +1,4 @@
+mod Faults
 mod Pushes
 mod Runs
 mod SpeltPrimaries

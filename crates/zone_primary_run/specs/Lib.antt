@@ -1,3 +1,4 @@
 pub mod PrimaryStatuses
 pub mod ScriptPrimaries
+pub mod PrimaryFaults
 pub mod PrimaryRuns

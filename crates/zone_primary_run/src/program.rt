@@ -1,7 +1,7 @@
 //! The primary's program over its words, its script's file, the moment and its streams.
-ghost use Rattle.std.specs.Prelude.{◌≡◌, ◌≢◌, Err, map, option_copied, option_map, string_bytes};
-ghost use Rattle.zone_devices.specs.Calls.{Rose};
+ghost use Rattle.std.specs.Prelude.{◌≡◌, map, option_copied, option_map, string_bytes};
 ghost use Rattle.zone_serving.specs.StreamServing.{request_at};
+ghost use Rattle.zone_primary_run.specs.PrimaryFaults.{TellsFaults};
 ghost use Rattle.zone_primary_run.specs.PrimaryRuns as runs;
 ghost use Rattle.zone_primary_run.specs.PrimaryRuns.{RunsAt, RunsOpened, RunsWords, stream_of};
 
@@ -13,7 +13,7 @@ use tsig_port::Time48;
 use xfr_services::Service;
 use zone_devices::sinks::Sink;
 use zone_devices::sources::Source;
-use zone_serving::{ServeError, Served};
+use zone_serving::Served;
 
 /// The name of the script's file in the program's words: the only one.
 pub fn file_of(words: &[String]) -> Option<&String>
@@ -38,15 +38,12 @@ pub fn run_words<R, F: Source, S: Source, K: Sink>(
 ) -> Result<Served, PrimaryError>
     // The script's primary serves the stream; or what lacks is told, and nothing is read or written.
     ensures runs { RunsWords
-        (λ now p m. ⟦<Primary as Service<()>>⟧.Sends p (request_at m now)) (runs.file_of (map string_bytes words.now)) opened at (F.remaining script.old) (F.remaining script.new)
+        (λ now p m. ⟦<Primary as Service<()>>⟧.Sends p (request_at m now)) (runs.file_of (map string_bytes words.now)) opened at
+        (F.remaining script.old) (F.remaining script.new)
         (stream_of (S.remaining src.old) (S.remaining src.new) (K.taken sink.old) (K.taken sink.new)) result }
-    // The faults.
-    ensures script_failed { result ≡ Err PrimaryError.ScriptFault → Rose (F.faults script.old) (F.faults script.new) }
-    ensures script_steady { result ≢ Err PrimaryError.ScriptFault → F.faults script.new ≡ F.faults script.old }
-    ensures source_failed { result ≡ Err (PrimaryError.Stream ServeError.SourceFault) → Rose (S.faults src.old) (S.faults src.new) }
-    ensures source_steady { result ≢ Err (PrimaryError.Stream ServeError.SourceFault) → S.faults src.new ≡ S.faults src.old }
-    ensures sink_failed { result ≡ Err (PrimaryError.Stream ServeError.SinkFault) → Rose (K.faults sink.old) (K.faults sink.new) }
-    ensures sink_steady { result ≢ Err (PrimaryError.Stream ServeError.SinkFault) → K.faults sink.new ≡ K.faults sink.old }
+    // Which answers tell that a device failed.
+    ensures faults { TellsFaults
+        (F.faults script.old) (F.faults script.new) (S.faults src.old) (S.faults src.new) (K.faults sink.old) (K.faults sink.new) result }
 {
     match file_of(words) {
         Some(_) => run_opened(rt, alloc, opened, script, at, src, sink),
@@ -67,12 +64,8 @@ fn run_opened<R, F: Source, S: Source, K: Sink>(
     ensures runs { RunsOpened
         (λ now p m. ⟦<Primary as Service<()>>⟧.Sends p (request_at m now)) opened at (F.remaining script.old) (F.remaining script.new)
         (stream_of (S.remaining src.old) (S.remaining src.new) (K.taken sink.old) (K.taken sink.new)) result }
-    ensures script_failed { result ≡ Err PrimaryError.ScriptFault → Rose (F.faults script.old) (F.faults script.new) }
-    ensures script_steady { result ≢ Err PrimaryError.ScriptFault → F.faults script.new ≡ F.faults script.old }
-    ensures source_failed { result ≡ Err (PrimaryError.Stream ServeError.SourceFault) → Rose (S.faults src.old) (S.faults src.new) }
-    ensures source_steady { result ≢ Err (PrimaryError.Stream ServeError.SourceFault) → S.faults src.new ≡ S.faults src.old }
-    ensures sink_failed { result ≡ Err (PrimaryError.Stream ServeError.SinkFault) → Rose (K.faults sink.old) (K.faults sink.new) }
-    ensures sink_steady { result ≢ Err (PrimaryError.Stream ServeError.SinkFault) → K.faults sink.new ≡ K.faults sink.old }
+    ensures faults { TellsFaults
+        (F.faults script.old) (F.faults script.new) (S.faults src.old) (S.faults src.new) (K.faults sink.old) (K.faults sink.new) result }
 {
     if opened {
         run_at(rt, alloc, script, at, src, sink)
@@ -93,12 +86,8 @@ fn run_at<R, F: Source, S: Source, K: Sink>(
     ensures runs { RunsAt
         (λ now p m. ⟦<Primary as Service<()>>⟧.Sends p (request_at m now)) at (F.remaining script.old) (F.remaining script.new)
         (stream_of (S.remaining src.old) (S.remaining src.new) (K.taken sink.old) (K.taken sink.new)) result }
-    ensures script_failed { result ≡ Err PrimaryError.ScriptFault → Rose (F.faults script.old) (F.faults script.new) }
-    ensures script_steady { result ≢ Err PrimaryError.ScriptFault → F.faults script.new ≡ F.faults script.old }
-    ensures source_failed { result ≡ Err (PrimaryError.Stream ServeError.SourceFault) → Rose (S.faults src.old) (S.faults src.new) }
-    ensures source_steady { result ≢ Err (PrimaryError.Stream ServeError.SourceFault) → S.faults src.new ≡ S.faults src.old }
-    ensures sink_failed { result ≡ Err (PrimaryError.Stream ServeError.SinkFault) → Rose (K.faults sink.old) (K.faults sink.new) }
-    ensures sink_steady { result ≢ Err (PrimaryError.Stream ServeError.SinkFault) → K.faults sink.new ≡ K.faults sink.old }
+    ensures faults { TellsFaults
+        (F.faults script.old) (F.faults script.new) (S.faults src.old) (S.faults src.new) (K.faults sink.old) (K.faults sink.new) result }
 {
     match at {
         Some(at) => run_primary(rt, alloc, script, at, src, sink),

@@ -11,7 +11,7 @@ ghost use Rattle.zone_versions.specs.Causes.{refusal_of};
 ghost use Rattle.zone_versions.specs.Puts.{StandsAt, without, with_soa};
 ghost use Rattle.dns_name.specs.Names.{fold};
 ghost use Rattle.dns_rdata.specs.DataFields.{soa_fields};
-ghost use Rattle.dns_rdata.specs.Records.{Record};
+ghost use Rattle.dns_rdata.specs.Records.{Record as RecordOf};
 ghost use Rattle.dns_rdata.specs.ZoneData.{rtype_of, data_fields};
 ghost use Rattle.zone_changes.specs.Drafts.{draft};
 ghost use Rattle.zone_sessions.specs.Pending.{told_of};
@@ -19,8 +19,9 @@ ghost use Rattle.zone_sessions.specs.Pending.{told_of};
 use crate::apex::ZoneApex;
 use dns_name::{Labelled, StoredName};
 use dns_numbers::{Rtype, Ttl};
-use dns_rdata::{ReadRecord, RecordData, Soa, StoredRecord, StoredRecordData};
+use dns_rdata::{Record, RecordData, Soa, StoredRecord, StoredRecordData, ZoneRecordData};
 use std::alloc::{AllocError, Global};
+use std::convert::AsSlice;
 use std::marker::Model;
 use zone_changes::{ClosedDraft, Draft};
 use zone_diffs::InMemoryZoneDiff;
@@ -183,9 +184,12 @@ impl<'z> WriteZone<'z> {
         done
     }
 
-    /// Adds a record that lies in a message, as `add_record` does. Its data are put in memory of their own first: want of memory for that may come
+    /// Adds a record of any names and data, as `add_record` does. Its data are put in memory of their own first: want of memory for that may come
     /// in the place of a refusal.
-    pub fn add_read(&mut self, added: &ReadRecord<'_>) -> Result<(), EditError>
+    pub fn add_any<O: AsSlice<u8> + Drop, N: Labelled + Drop>(
+        &mut self,
+        added: &Record<N, ZoneRecordData<O, N>>,
+    ) -> Result<(), EditError>
         ensures ok { OnOk result (add self.old.pending added.now ≡ Ok self.new.pending) }
         ensures refused { IfErr result (λ e. IfSome (refusal_of e) (λ why. add self.old.pending added.now ≡ Err why)) }
         ensures else_same { self.new ≡ with_pending self.old self.new.pending }
@@ -204,9 +208,9 @@ impl<'z> WriteZone<'z> {
         item: StoredRecordData,
         steps: &mut NodeCount,
     ) -> Result<(), EditError>
-        ensures ok { (r : Record) → StandsAt (fold (N.labels owner.now), rtype_of item) ttl (data_fields item) r → OnOk result (add self.old.pending r ≡ Ok self.new.pending) }
-        ensures refused { (r : Record) → StandsAt (fold (N.labels owner.now), rtype_of item) ttl (data_fields item) r → IfErr result (λ e. IfSome (refusal_of e) (λ why. add self.old.pending r ≡ Err why)) }
-        ensures memory { (r : Record) → StandsAt (fold (N.labels owner.now), rtype_of item) ttl (data_fields item) r → result ≡ Err EditError.Memory → IsOk (add self.old.pending r) }
+        ensures ok { (r : RecordOf) → StandsAt (fold (N.labels owner.now), rtype_of item) ttl (data_fields item) r → OnOk result (add self.old.pending r ≡ Ok self.new.pending) }
+        ensures refused { (r : RecordOf) → StandsAt (fold (N.labels owner.now), rtype_of item) ttl (data_fields item) r → IfErr result (λ e. IfSome (refusal_of e) (λ why. add self.old.pending r ≡ Err why)) }
+        ensures memory { (r : RecordOf) → StandsAt (fold (N.labels owner.now), rtype_of item) ttl (data_fields item) r → result ≡ Err EditError.Memory → IsOk (add self.old.pending r) }
         ensures else_same { self.new ≡ with_pending self.old self.new.pending }
         ensures err { OnErr result (self.new ≡ self.old) }
         ensures steps { OnOk result (steps.new ≡ counted steps.old (built self.old.pending self.new.pending (fold (N.labels owner.now)) (rtype_of item))) }
@@ -229,9 +233,9 @@ impl<'z> WriteZone<'z> {
         steps: &mut NodeCount,
     ) -> Result<(), EditError>
         requires { rtype_of item ≡ key.1 }
-        ensures ok { (r : Record) → StandsAt key ttl (data_fields item) r → OnOk result (add self.old.pending r ≡ Ok self.new.pending) }
-        ensures refused { (r : Record) → StandsAt key ttl (data_fields item) r → IfErr result (λ e. IfSome (refusal_of e) (λ why. add self.old.pending r ≡ Err why)) }
-        ensures memory { (r : Record) → StandsAt key ttl (data_fields item) r → result ≡ Err EditError.Memory → IsOk (add self.old.pending r) }
+        ensures ok { (r : RecordOf) → StandsAt key ttl (data_fields item) r → OnOk result (add self.old.pending r ≡ Ok self.new.pending) }
+        ensures refused { (r : RecordOf) → StandsAt key ttl (data_fields item) r → IfErr result (λ e. IfSome (refusal_of e) (λ why. add self.old.pending r ≡ Err why)) }
+        ensures memory { (r : RecordOf) → StandsAt key ttl (data_fields item) r → result ≡ Err EditError.Memory → IsOk (add self.old.pending r) }
         ensures else_same { self.new ≡ with_pending self.old self.new.pending }
         ensures err { OnErr result (self.new ≡ self.old) }
         ensures steps { OnOk result (steps.new ≡ counted steps.old (built self.old.pending self.new.pending key.0 key.1)) }
@@ -289,14 +293,18 @@ impl<'z> WriteZone<'z> {
         Ok(removed?)
     }
 
-    /// Deletes a record that lies in a message, as `delete_record` does. Want of memory may come in the place of a refusal.
-    pub fn delete_read(&mut self, deleted: &ReadRecord<'_>) -> Result<(), EditError>
+    /// Deletes a record of any names and data, as `delete_record` does. It is put in memory of its own first: want of memory for that may come
+    /// in the place of a refusal.
+    pub fn delete_any<O: AsSlice<u8> + Drop, N: Labelled + Drop>(
+        &mut self,
+        deleted: &Record<N, ZoneRecordData<O, N>>,
+    ) -> Result<(), EditError>
         ensures ok { OnOk result (delete self.old.pending deleted.now ≡ Ok self.new.pending) }
         ensures refused { IfErr result (λ e. IfSome (refusal_of e) (λ why. delete self.old.pending deleted.now ≡ Err why)) }
         ensures else_same { self.new ≡ with_pending self.old self.new.pending }
         ensures err { OnErr result (self.new ≡ self.old) }
     {
-        let stored = deleted.flatten(self.alloc)?;
+        let stored = stored_of(self.alloc, deleted)?;
         let removed = self.delete_record(&stored);
         drop(stored);
         removed
@@ -459,6 +467,23 @@ impl<'z> WriteZone<'z> {
         match self.spare.take() {
             Some(handle) => Ok(handle),
             None => self.zone.current().clone(),
+        }
+    }
+}
+
+/// The same record in memory of its own.
+fn stored_of<O: AsSlice<u8> + Drop, N: Labelled + Drop>(
+    alloc: Global,
+    found: &Record<N, ZoneRecordData<O, N>>,
+) -> Result<StoredRecord, AllocError>
+    ensures { IfOk result (λ r. r ≡ found.now) }
+{
+    let owner = found.owner().to_stored(alloc)?;
+    match found.data().flatten(alloc) {
+        Ok(item) => Ok(Record::new(owner, found.class(), found.ttl(), item)),
+        Err(error) => {
+            drop(owner);
+            Err(error)
         }
     }
 }

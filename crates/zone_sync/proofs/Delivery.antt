@@ -17,7 +17,7 @@ use Rattle.xfr_course.specs.Courses.{has_header}
 use Rattle.xfr_course.specs.Success.{Succeeds}
 use Rattle.zone_devices.specs.Calls.{Rose}
 use Rattle.zone_devices.specs.Links.{Way, LinkLists, HandsOn, IsHonest, WentOn}
-use Rattle.xfr_client.specs.SoFar.{Asking, asked_octets, lacks_soa, course_so_far}
+use Rattle.xfr_client.specs.SoFar.{Asking, asked_octets, lacks_soa, CanAsk, course_so_far}
 use Rattle.xfr_client.specs.Steps.{commit_after, HasMade}
 use Rattle.xfr_client.specs.Ending.{answer_of}
 use Rattle.zone_sync.specs.Serving.{SendsAll, FailsAfter, HasBegun, RepliedTo, NotReplied, IsServed}
@@ -131,27 +131,32 @@ module _ (Sends : List ℕ → Option (List Sending) → Type 0) (a : Asking) (a
   abbrev pub all : List (List ℕ)
   all = sent_pages a grant.server at grant.fits.records_fit.pages
 
+-- .. where the request can be made
+module _ (Sends : List ℕ → Option (List Sending) → Type 0) (a : Asking) (at longest : ℕ) (v : Version) (grant : IsGranted Sends a at longest v) (can : CanAsk a longest) where
+  abbrev whole : List (List ℕ)
+  whole = all Sends a at longest v grant
+
   same_items : (x y : List Sending) → Some x ≡ Some y → x ≡ y
   same_items x y h = ap (λ o. unwrap_or o []) h
 
-  sends_these : (items : List Sending) → Sends (asked_octets a) (Some items) → sent_by items ≡ record { messages = all; fails = false }
-  sends_these items s = let t = grant.grants (Some items) s in ap sent_by (same_items items t.items t.some) ∙ t.messages
+  sends_these : (items : List Sending) → Sends (asked_octets a) (Some items) → sent_by items ≡ record { messages = whole; fails = false }
+  sends_these items s = let t = grant.grants can (Some items) s in ap sent_by (same_items items t.items t.some) ∙ t.messages
 
-  sends_all : (sent : List (List ℕ)) → SendsAll (Sends (asked_octets a)) sent → sent ≡ all
+  sends_all : (sent : List (List ℕ)) → SendsAll (Sends (asked_octets a)) sent → sent ≡ whole
   sends_all sent k = ap (λ s. s.messages) (sym k.all ∙ sends_these k.items k.sends)
 
-  sent_all : (sent : List (List ℕ)) → SendsAll (Sends (asked_octets a)) sent → IsFrontOf sent all
+  sent_all : (sent : List (List ℕ)) → SendsAll (Sends (asked_octets a)) sent → IsFrontOf sent whole
   sent_all sent k = record { rest = []; joined = sym (append-nil sent ∙ sends_all sent k) }
 
-  has_begun : (sent : List (List ℕ)) → HasBegun (Sends (asked_octets a)) sent → IsFrontOf sent all
-  has_begun sent (inl h) = no_front sent all h
+  has_begun : (sent : List (List ℕ)) → HasBegun (Sends (asked_octets a)) sent → IsFrontOf sent whole
+  has_begun sent (inl h) = no_front sent whole h
   has_begun sent (inr k) = record { rest = k.rest; joined = ap (λ s. s.messages) (sym (sends_these k.items k.sends)) ∙ k.part }
 
   never_fails : (sent : List (List ℕ)) → FailsAfter (Sends (asked_octets a)) sent → ⊥
-  never_fails sent (inl h) = let t = grant.grants None h.0 in cc t.some
+  never_fails sent (inl h) = let t = grant.grants can None h.0 in cc t.some
   never_fails sent (inr k) = cc (ap (λ s. s.fails) (sym (sends_these k.items k.sends) ∙ k.until))
 
-  was_sent : (sent : List (List ℕ)) (answer : Result SyncOk SyncError) → RepliedTo (Sends (asked_octets a)) sent answer → IsFrontOf sent all
+  was_sent : (sent : List (List ℕ)) (answer : Result SyncOk SyncError) → RepliedTo (Sends (asked_octets a)) sent answer → IsFrontOf sent whole
   was_sent sent (Ok x) k = sent_all sent k
   was_sent sent (Err why.NoSoa) k = sent_all sent k
   was_sent sent (Err (why.Request x)) k = sent_all sent k
@@ -186,10 +191,10 @@ module _ (Sends : List ℕ → Option (List Sending) → Type 0) (a : Asking) (a
   not_asked sent replies (Err why.Memory) k = k.1
 
   -- the replies that came: a first part of what it sends, in order
-  came : (heard sent replies : List (List ℕ)) (answer : Result SyncOk SyncError) → has_header (asked_octets a) ≡ true → (heard ≡ []) ⊎ (heard ≡ asked_octets a ∷ []) → IsServed Sends heard sent replies answer → IsFrontOf replies sent → IsFrontOf replies all
-  came heard sent replies answer headed (inl h) s p = no_front replies all (not_asked sent replies answer (subst (λ (l : List (List ℕ)). IsServed Sends l sent replies answer) h s))
+  came : (heard sent replies : List (List ℕ)) (answer : Result SyncOk SyncError) → has_header (asked_octets a) ≡ true → (heard ≡ []) ⊎ (heard ≡ asked_octets a ∷ []) → IsServed Sends heard sent replies answer → IsFrontOf replies sent → IsFrontOf replies whole
+  came heard sent replies answer headed (inl h) s p = no_front replies whole (not_asked sent replies answer (subst (λ (l : List (List ℕ)). IsServed Sends l sent replies answer) h s))
   came heard sent replies answer headed (inr h) s p =
-      front_of_front replies sent all p (was_sent sent answer (headed_served Sends (asked_octets a) sent replies answer headed (subst (λ (l : List (List ℕ)). IsServed Sends l sent replies answer) h s)))
+      front_of_front replies sent whole p (was_sent sent answer (headed_served Sends (asked_octets a) sent replies answer headed (subst (λ (l : List (List ℕ)). IsServed Sends l sent replies answer) h s)))
 
 -- ---- the version that is current then
 
@@ -235,11 +240,11 @@ module _ (Sends : List ℕ → Option (List Sending) → Type 0) (a : Asking) (a
     heard_is : (answer : Result SyncOk SyncError) (k : Says answer) → k.asked ≡ asked_octets a ∷ [] → (k.heard ≡ []) ⊎ (k.heard ≡ asked_octets a ∷ [])
     heard_is answer k q = let r = hands_on o.requests n.requests k.asked k.heard h.requests k.link.requests in one_prefix (asked_octets a) k.heard r.rest (sym q ∙ r.part)
 
-    replies_are : (answer : Result SyncOk SyncError) (k : Says answer) → k.asked ≡ asked_octets a ∷ [] → Came k.replies (given_up answer)
-    replies_are answer k q =
+    replies_are : CanAsk a longest → (answer : Result SyncOk SyncError) (k : Says answer) → k.asked ≡ asked_octets a ∷ [] → Came k.replies (given_up answer)
+    replies_are can answer k q =
         let r = hands_on o.replies n.replies k.sent k.replies h.replies k.link.replies in
-        let p = came Sends a at longest v grant k.heard k.sent k.replies answer headed (heard_is answer k q) k.served (record { rest = r.rest; joined = r.part }) in
-        record { front = p; part = part_of a grant.server at grant.offer grant.fits (given_up answer) k.replies p.rest p.joined }
+        let p = came Sends a at longest v grant can k.heard k.sent k.replies answer headed (heard_is answer k q) k.served (record { rest = r.rest; joined = r.part }) in
+        record { front = p; part = part_of a grant.server at grant.offer grant.fits can.forms (given_up answer) k.replies p.rest p.joined }
 
     -- the link didn't fail
     no_rise : Rose f g → ⊥
@@ -264,8 +269,8 @@ module _ (Sends : List ℕ → Option (List Sending) → Type 0) (a : Asking) (a
         by_short (inr y) = cc (sym w.headed ∙ y)
 
     -- the link doesn't end before the last reply
-    not_ended : (k : Says (Err why.Ended)) (rest : List (List ℕ)) → k.asked ≡ asked_octets a ∷ [] → all Sends a at longest v grant ≡ k.replies ++ rest → Waits a k.replies rest Ended → ⊥
-    not_ended k rest q joined w = by_heard (heard_is (Err why.Ended) k q)
+    not_ended : CanAsk a longest → (k : Says (Err why.Ended)) (rest : List (List ℕ)) → k.asked ≡ asked_octets a ∷ [] → all Sends a at longest v grant ≡ k.replies ++ rest → Waits a k.replies rest Ended → ⊥
+    not_ended can k rest q joined w = by_heard (heard_is (Err why.Ended) k q)
       where
         by_heard : (k.heard ≡ []) ⊎ (k.heard ≡ asked_octets a ∷ []) → ⊥
         by_heard (inl e) =
@@ -274,43 +279,43 @@ module _ (Sends : List ℕ → Option (List Sending) → Type 0) (a : Asking) (a
         by_heard (inr e) =
             let ended = subst (λ (l : List (List ℕ)). IsEnded l (Some n)) e (k.ended refl) in
             let served = headed_served Sends (asked_octets a) k.sent k.replies (Err why.Ended) headed (subst (λ (l : List (List ℕ)). IsServed Sends l k.sent k.replies (Err why.Ended)) e k.served) in
-            let same : k.replies ≡ all Sends a at longest v grant = (hands_on o.replies n.replies k.sent k.replies h.replies k.link.replies).whole ended ∙ sends_all Sends a at longest v grant k.sent served in
+            let same : k.replies ≡ all Sends a at longest v grant = (hands_on o.replies n.replies k.sent k.replies h.replies k.link.replies).whole ended ∙ sends_all Sends a at longest v grant can k.sent served in
             no_rest k.replies rest (same ∙ joined) w.more
 
-    not_primary : (x : ServiceError) (k : Says (Err (why.Primary x))) → (k.heard ≡ []) ⊎ (k.heard ≡ asked_octets a ∷ []) → ⊥
-    not_primary x k (inl e) = subst (λ (l : List (List ℕ)). IsServed Sends l k.sent k.replies (Err (why.Primary x))) e k.served
-    not_primary x k (inr e) = never_fails Sends a at longest v grant k.sent (headed_served Sends (asked_octets a) k.sent k.replies (Err (why.Primary x)) headed (subst (λ (l : List (List ℕ)). IsServed Sends l k.sent k.replies (Err (why.Primary x))) e k.served))
+    not_primary : CanAsk a longest → (x : ServiceError) (k : Says (Err (why.Primary x))) → (k.heard ≡ []) ⊎ (k.heard ≡ asked_octets a ∷ []) → ⊥
+    not_primary can x k (inl e) = subst (λ (l : List (List ℕ)). IsServed Sends l k.sent k.replies (Err (why.Primary x))) e k.served
+    not_primary can x k (inr e) = never_fails Sends a at longest v grant can k.sent (headed_served Sends (asked_octets a) k.sent k.replies (Err (why.Primary x)) headed (subst (λ (l : List (List ℕ)). IsServed Sends l k.sent k.replies (Err (why.Primary x))) e k.served))
 
     -- where more is to come, only want of memory comes in place of it
-    waits : (answer : Result SyncOk SyncError) (k : Says answer) (rest : List (List ℕ)) → k.asked ≡ asked_octets a ∷ [] → ComesAfter answer → all Sends a at longest v grant ≡ k.replies ++ rest
+    waits : CanAsk a longest → (answer : Result SyncOk SyncError) (k : Says answer) (rest : List (List ℕ)) → k.asked ≡ asked_octets a ∷ [] → ComesAfter answer → all Sends a at longest v grant ≡ k.replies ++ rest
         → Waits a k.replies rest (given_up answer) → (answer ≡ Err why.LinkFault → Rose f g) → is_early answer ≡ true → Delivers u s answer
-    waits (Err why.Memory) k rest q after joined w fault early = tt
-    waits (Err why.LinkFault) k rest q after joined w fault early = absurd (no_rise (fault refl))
-    waits (Err why.Ended) k rest q after joined w fault early = absurd (not_ended k rest q joined w)
-    waits (Err (why.Short x)) k rest q after joined w fault early = absurd (not_short x k rest q w)
-    waits (Err (why.Primary x)) k rest q after joined w fault early = absurd (not_primary x k (heard_is (Err (why.Primary x)) k q))
-    waits (Err why.NoSoa) k rest q after joined w fault early = absurd after
-    waits (Err (why.Request x)) k rest q after joined w fault early = absurd after
-    waits (Ok x) k rest q after joined w fault early = absurd (cc early)
-    waits (Err why.TooManyMessages) k rest q after joined w fault early = absurd (cc early)
-    waits (Err (why.Tsig x)) k rest q after joined w fault early = absurd (cc early)
-    waits (Err why.OtherAnswer) k rest q after joined w fault early = absurd (cc early)
-    waits (Err (why.Xfr x)) k rest q after joined w fault early = absurd (cc early)
-    waits (Err (why.Iteration x)) k rest q after joined w fault early = absurd (cc early)
-    waits (Err (why.Update x)) k rest q after joined w fault early = absurd (cc early)
-    waits (Err why.VersionsExhausted) k rest q after joined w fault early = absurd (cc early)
+    waits can (Err why.Memory) k rest q after joined w fault early = tt
+    waits can (Err why.LinkFault) k rest q after joined w fault early = absurd (no_rise (fault refl))
+    waits can (Err why.Ended) k rest q after joined w fault early = absurd (not_ended can k rest q joined w)
+    waits can (Err (why.Short x)) k rest q after joined w fault early = absurd (not_short x k rest q w)
+    waits can (Err (why.Primary x)) k rest q after joined w fault early = absurd (not_primary can x k (heard_is (Err (why.Primary x)) k q))
+    waits can (Err why.NoSoa) k rest q after joined w fault early = absurd after
+    waits can (Err (why.Request x)) k rest q after joined w fault early = absurd after
+    waits can (Ok x) k rest q after joined w fault early = absurd (cc early)
+    waits can (Err why.TooManyMessages) k rest q after joined w fault early = absurd (cc early)
+    waits can (Err (why.Tsig x)) k rest q after joined w fault early = absurd (cc early)
+    waits can (Err why.OtherAnswer) k rest q after joined w fault early = absurd (cc early)
+    waits can (Err (why.Xfr x)) k rest q after joined w fault early = absurd (cc early)
+    waits can (Err (why.Iteration x)) k rest q after joined w fault early = absurd (cc early)
+    waits can (Err (why.Update x)) k rest q after joined w fault early = absurd (cc early)
+    waits can (Err why.VersionsExhausted) k rest q after joined w fault early = absurd (cc early)
 
     -- the request was handed to the link
-    asked_well : (answer : Result SyncOk SyncError) (k : Says answer) → k.asked ≡ asked_octets a ∷ [] → ComesAfter answer → (answer ≡ Err why.LinkFault → Rose f g) → AnswersCourse (course_answered a k.replies answer) answer → Delivers u s answer
-    asked_well answer k q after fault (inl e) = subst (Delivers u s) (sym e) tt
-    asked_well answer k q after fault (inr e) = by (replies_are answer k q)
+    asked_well : CanAsk a longest → (answer : Result SyncOk SyncError) (k : Says answer) → k.asked ≡ asked_octets a ∷ [] → ComesAfter answer → (answer ≡ Err why.LinkFault → Rose f g) → AnswersCourse (course_answered a k.replies answer) answer → Delivers u s answer
+    asked_well can answer k q after fault (inl e) = subst (Delivers u s) (sym e) tt
+    asked_well can answer k q after fault (inr e) = by (replies_are can answer k q)
       where
         by : Came k.replies (given_up answer) → Delivers u s answer
         by r = either r.part
           where
             either : IsPart a u k.replies r.front.rest (given_up answer) → Delivers u s answer
             either (inl c) = ends_well answer k e c
-            either (inr w) = waits answer k r.front.rest q after r.front.joined w fault (in_place answer (e ∙ ap answer_of w.given))
+            either (inr w) = waits can answer k r.front.rest q after r.front.joined w fault (in_place answer (e ∙ ap answer_of w.given))
 
     -- it wasn't: it could be made, and the link didn't refuse it
     not_handed : (answer : Result SyncOk SyncError) → NotAsked a longest answer → (answer ≡ Err why.LinkFault → Rose f g) → Delivers u s answer
@@ -336,7 +341,7 @@ module _ (Sends : List ℕ → Option (List Sending) → Type 0) (a : Asking) (a
     delivers answer k fault = subst (λ w. Delivers w s answer) grant.offered (by k.request)
       where
         by : Asks a longest k.asked k.heard answer → Delivers u s answer
-        by (inl q) = asked_well answer k q.2 q.1 fault k.transfers.answers
+        by (inl q) = asked_well q.0 answer k q.2 q.1 fault k.transfers.answers
         by (inr q) = not_handed answer q.0 fault
 
 -- ---- where the link tells its lists

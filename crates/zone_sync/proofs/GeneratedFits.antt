@@ -133,7 +133,6 @@ module _ (v : Version) (published : IsPublished zone_name v) (short : AllByRecur
       together = tt;
       more = tt;
     };
-    asked = tt;
     sent = each_record (whole_text v) short;
     base_matches = tt;
     same_zone = record { apex = same_apex; class = same_class };

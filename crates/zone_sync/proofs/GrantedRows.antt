@@ -61,7 +61,6 @@ whole_fits_with differences = record {
     together = tt;
     more = tt;
   };
-  asked = tt;
   sent = (soa_is 3, (server_is, (jain_is 2, (jain_is 3, (host_is 1, (soa_is 3, tt))))));
   base_matches = tt;
   same_zone = record { apex = refl; class = refl };
@@ -92,7 +91,6 @@ half_fits = record {
     together = tt;
     more = tt;
   };
-  asked = tt;
   sent = (soa_is 3, (server_is, (jain_is 2, (jain_is 3, (host_is 1, (soa_is 3, tt))))));
   base_matches = tt;
   same_zone = record { apex = refl; class = refl };
@@ -116,7 +114,6 @@ changes_fit = record {
     together = refl;
     more = refl;
   };
-  asked = (soa_is 1, tt);
   sent = (soa_is 3, (soa_is 1, (nezu_is 5, (soa_is 2, (jain_is 4, (jain_is 2, (soa_is 2, (jain_is 4, (soa_is 3, (jain_is 3, (soa_is 3, tt)))))))))));
   base_matches = record { one_apex_soa = refl; not_ahead = refl; caught_up = λ e. cc; starts = refl };
   same_zone = record { apex = refl; class = refl };
@@ -137,7 +134,6 @@ caught_up_fits = record {
     together = refl;
     more = refl;
   };
-  asked = (soa_is 3, tt);
   sent = (soa_is 3, tt);
   base_matches = record { one_apex_soa = refl; not_ahead = refl; caught_up = λ e. refl; starts = refl };
   same_zone = record { apex = refl; class = refl };

@@ -36,6 +36,7 @@ use Rattle.xfr_outcomes.specs.Modes.{mode_of}
 use Rattle.xfr_client.specs.SoFar.{Asking, request_message, asked_question, asked_authority, asked_octets}
 use Rattle.xfr_client.specs.SoFar as so_far
 use Rattle.zone_sync.specs.Serving.{request_at}
+use Rattle.zone_sync.specs.Forms.{HaveForms}
 use Rattle.zone_sync.specs.Fitting.{sent_text, BaseMatches, Fits}
 use Rattle.zone_sync.specs.Grants.{Offers, history_offer}
 use Rattle.xfr_client.proofs.Requests.{octets_are}
@@ -44,7 +45,7 @@ use Rattle.zone_sync.proofs.HonestRequests as requests
 use Rattle.zone_sync.proofs.WritableVersions.{forms_written, forms_data}
 use Rattle.zone_sync.proofs.HonestReplies.{published, one_apex_soa, apex_is_name, small_class, room_is}
 
-module _ (a : Asking) (server : TsigKey) (at : ℕ) (offer : Offer) (f : Fits a server at offer) where
+module _ (a : Asking) (server : TsigKey) (at : ℕ) (offer : Offer) (f : Fits a server at offer) (forms : HaveForms (asked_authority a)) where
   near : abs_diff a.at at ≤ 300
   near = let n = f.close_moments.near in omega (arith, n)
 
@@ -55,10 +56,10 @@ module _ (a : Asking) (server : TsigKey) (at : ℕ) (offer : Offer) (f : Fits a 
   class = small_class a server at offer f
 
   abbrev soa : AllByRecursion IsRecord (asked_authority a)
-  soa = forms_written (asked_authority a) f.asked
+  soa = forms_written (asked_authority a) forms
 
   abbrev pieces : HaveData (asked_authority a)
-  pieces = forms_data (asked_authority a) f.asked
+  pieces = forms_data (asked_authority a) forms
 
   pub accepted : (keys : Keys) → keys (fold a.key.name) a.key.algorithm ≡ Some server → verdict keys at (asked_octets a) ≡ Accepted server
   accepted keys known =
@@ -103,22 +104,22 @@ cut_served offer n room pages Ixfr c = c
 
 -- such a primary grants the request
 abbrev pub granted : {K : Type 0} (the_key : K → TsigKey) (keys : Keys) (told : List ℕ → Option K → Option ℕ → Result Offer XfrDataProviderError) (a : Asking) (server : TsigKey) (at : ℕ) (offer : Offer)
-    → Offers the_key keys told a server offer → Fits a server at offer → IsGrantedTransfer the_key keys told (request_at (asked_octets a) at) server (kind_of a.mode) (zone_serial a.base.version) offer
-granted the_key keys told a server at offer o f =
+    → Offers the_key keys told a server offer → Fits a server at offer → HaveForms (asked_authority a) → IsGrantedTransfer the_key keys told (request_at (asked_octets a) at) server (kind_of a.mode) (zone_serial a.base.version) offer
+granted the_key keys told a server at offer o f forms =
     record {
-      accepted = accepted a server at offer f keys o.known;
+      accepted = accepted a server at offer f forms keys o.known;
       known = known_again keys a.key server f.one_key o.known;
       macs = f.server_signs.signing;
-      asks = asks a server at offer f;
-      names = subst (λ m. OnIxfr m (asked_serial (taken_message (asked_octets a)) ≡ Some (zone_serial a.base.version))) (sym (mode_again a.mode)) (names a server at offer f);
+      asks = asks a server at offer f forms;
+      names = subst (λ m. OnIxfr m (asked_serial (taken_message (asked_octets a)) ≡ Some (zone_serial a.base.version))) (sym (mode_again a.mode)) (names a server at offer f forms);
       stream = refl;
       fresh = refl;
       granted = o.offered;
-      apex = ap (λ (q : Option Question). asks_for_apex q offer.version) (question a server at offer f) ∙ (published a server at offer f).same_apex;
+      apex = ap (λ (q : Option Question). asks_for_apex q offer.version) (question a server at offer f forms) ∙ (published a server at offer f).same_apex;
       one_soa = one_apex_soa a server at offer f;
       pages = f.records_fit.pages;
       cut = cut_served offer (zone_serial a.base.version) (page_room (taken_message (asked_octets a)) (65535 - compose_len server)) f.records_fit.pages a.mode
-          (subst (λ n. IsCutInto n (in_singles a.mode offer.compatibility) (sent_text a offer) f.records_fit.pages) (sym (room_is a server at offer f)) f.records_fit.cut);
+          (subst (λ n. IsCutInto n (in_singles a.mode offer.compatibility) (sent_text a offer) f.records_fit.pages) (sym (room_is a server at offer f forms)) f.records_fit.cut);
     }
 
 -- ---- a store of one key, and a provider that keeps one version
@@ -136,7 +137,7 @@ own_known client server one = rw (one.algorithm, own_algorithm server.algorithm,
 abbrev pub kept_told : Provider → List ℕ → Option TsigKey → Option ℕ → Result Offer XfrDataProviderError
 kept_told p message key asked = answer_to p (sole_question_in message) (option_map key_id key) asked
 
-module _ (a : Asking) (server : TsigKey) (at : ℕ) (p : Provider) (f : Fits a server at (history_offer p a)) where
+module _ (a : Asking) (server : TsigKey) (at : ℕ) (p : Provider) (f : Fits a server at (history_offer p a)) (forms : HaveForms (asked_authority a)) where
   same_class : (a.base.version.class == p.kept.class) ≡ true
   same_class = eq-eqb _ _ f.same_zone.class
 
@@ -147,15 +148,15 @@ module _ (a : Asking) (server : TsigKey) (at : ℕ) (p : Provider) (f : Fits a s
       → answer_to p (sole_question_in (taken_message (asked_octets a))) (Some (key_id key)) (asked_serial (taken_message (asked_octets a))) ≡ Ok (history_offer p a)
   kept_offered key grants =
       let serial = asked_serial (taken_message (asked_octets a)) in
-      ap (λ o. answer_to p o (Some (key_id key)) serial) (question a server at (history_offer p a) f)
+      ap (λ o. answer_to p o (Some (key_id key)) serial) (question a server at (history_offer p a) f forms)
       ∙ history_grants p (asked_question a) (key_id key) serial kept_asked grants
-      ∙ ap (λ n. Ok (offer_of p.kept p.differences p.compatibility n)) (named a server at (history_offer p a) f)
+      ∙ ap (λ n. Ok (offer_of p.kept p.differences p.compatibility n)) (named a server at (history_offer p a) f forms)
 
-pub history_offers : (p : Provider) (server : TsigKey) (a : Asking) (at : ℕ) → is_granted p.grants (Some (key_id server)) ≡ true → Fits a server at (history_offer p a)
+pub history_offers : (p : Provider) (server : TsigKey) (a : Asking) (at : ℕ) → is_granted p.grants (Some (key_id server)) ≡ true → Fits a server at (history_offer p a) → HaveForms (asked_authority a)
     → Offers (λ (k : TsigKey). k) (own_key server) (kept_told p) a server (history_offer p a)
-history_offers p server a at grants f = record {
+history_offers p server a at grants f forms = record {
   known = own_known a.key server f.one_key;
   offered = λ k e.
       ap (λ x. answer_to p (sole_question_in (taken_message (asked_octets a))) (Some (key_id x)) (asked_serial (taken_message (asked_octets a)))) e
-      ∙ kept_offered a server at p f server grants;
+      ∙ kept_offered a server at p f forms server grants;
 }

@@ -32,6 +32,7 @@ use Rattle.xfr_course.proofs.Clients.{met_decides}
 use Rattle.xfr_course.proofs.Succeeding.{granted_succeeds}
 use Rattle.xfr_client.specs.SoFar.{Asking, asked_id, asked_question, asked_authority, asked_course, course_so_far, checked_so_far, fault_so_far, client_so_far}
 use Rattle.xfr_client.specs.Standing.{Passed}
+use Rattle.zone_sync.specs.Forms.{HaveForms}
 use Rattle.zone_sync.specs.Fitting.{answer_room, told_offer, sent_text, page_answers, sent_pages, begins_together, has_more, BaseMatches, Fits, GrantedSucceed}
 use Rattle.xfr_client.proofs.Outcomes.{comes, passed_course, stop_few}
 use Rattle.xfr_client.proofs.Replying.{so_far}
@@ -89,7 +90,7 @@ same_text : (offer : Offer) (m : Mode) (n : ℕ) → text_of (told_offer m offer
 same_text offer Axfr n = refl
 same_text offer Ixfr n = refl
 
-module _ (a : Asking) (server : TsigKey) (at : ℕ) (offer : Offer) (f : Fits a server at offer) where
+module _ (a : Asking) (server : TsigKey) (at : ℕ) (offer : Offer) (f : Fits a server at offer) (forms : HaveForms (asked_authority a)) where
   abbrev e : Ends
   e = ends a server at offer f.one_soa.history
 
@@ -109,7 +110,7 @@ module _ (a : Asking) (server : TsigKey) (at : ℕ) (offer : Offer) (f : Fits a 
   q = asked_question a
 
   abbrev request : List ℕ
-  request = replies.request a server at offer f
+  request = replies.request a server at offer f forms
 
   abbrev name : is_name a.base.version.apex ≡ true
   name = replies.apex_is_name a server at offer f
@@ -147,7 +148,7 @@ module _ (a : Asking) (server : TsigKey) (at : ℕ) (offer : Offer) (f : Fits a 
   -- ---- what the messages carry
 
   taken_id : id_in request ≡ id
-  taken_id = requests.taken_id a f.client_signs f.close_moments.secondary name class (forms_written (asked_authority a) f.asked) (forms_data (asked_authority a) f.asked)
+  taken_id = requests.taken_id a f.client_signs f.close_moments.secondary name class (forms_written (asked_authority a) forms) (forms_data (asked_authority a) forms)
 
   carry_later : (pages : List (List Record)) → AllByRecursion (IsPage (answer_room a server)) pages → AllByRecursion (λ page. request_fault (id_in request) q false (read_of (page_answer request page)) ≡ None) pages
       → AllByRecursion (Carries (request_fault id q) false) (map carrier_of (page_answers a pages))
@@ -168,12 +169,12 @@ module _ (a : Asking) (server : TsigKey) (at : ℕ) (offer : Offer) (f : Fits a 
   few_sent = omega (arith, replies.sends_each a server at pages, f.records_fit.few)
 
   passed : Passed (fault_so_far a) w
-  passed = replies.front_passed a server at offer f w [] (sym (append-nil w))
+  passed = replies.front_passed a server at offer f forms w [] (sym (append-nil w))
 
   course_is : (gave : Outcome) → course_so_far a w gave ≡ sent_course e id (map carrier_of (page_answers a pages)) (stop_after gave w None)
   course_is gave =
       let stop = stop_after gave w None in
-      passed_course a w gave passed few_sent ∙ ap (λ ks. asked_course a ks stop) (replies.sent_checked a server at offer f)
+      passed_course a w gave passed few_sent ∙ ap (λ ks. asked_course a ks stop) (replies.sent_checked a server at offer f forms)
 
   -- the second record comes in the first message
   first_page : (page : List Record) (more : List (List Record)) → IsCutInto (answer_room a server) singles text (page ∷ more) → OnIxfr a.mode (IsTrue (nat_le (length text) 1 || nat_le 2 (length page)))
@@ -187,8 +188,8 @@ module _ (a : Asking) (server : TsigKey) (at : ℕ) (offer : Offer) (f : Fits a 
   carried : (pages : List (List Record)) (stop : Outcome) → IsCutInto (answer_room a server) singles text pages → Succeeds (sent_course e id (map carrier_of (page_answers a pages)) stop) offer.version
   carried [] stop cut = absurd (cc (cut.joined ∙ (replies.begins a server at offer f).is))
   carried (page ∷ more) stop cut =
-      let soa = forms_written (asked_authority a) f.asked in
-      let pieces = forms_data (asked_authority a) f.asked in
+      let soa = forms_written (asked_authority a) forms in
+      let pieces = forms_data (asked_authority a) forms in
       let early = f.close_moments.secondary in
       let begins = replies.begins a server at offer f in
       let begun : begins_with_soa text ≡ true = ap begins_with_soa begins.is ∙ begins.typed in
@@ -207,7 +208,7 @@ module _ (a : Asking) (server : TsigKey) (at : ℕ) (offer : Offer) (f : Fits a 
 
 -- the law of granted transfers
 pub granted_succeed : GrantedSucceed
-granted_succeed a server at offer gave f = succeeds a server at offer f gave
+granted_succeed a server at offer gave forms f = succeeds a server at offer f forms gave
 
 -- ---- a first part of what was sent
 
@@ -224,7 +225,7 @@ same_how : (x y : Outcome) → x ≡ y → (y ≡ Updated) ⊎ (y ≡ UpToDate) 
 same_how x y e (inl h) = inl (e ∙ h)
 same_how x y e (inr h) = inr (e ∙ h)
 
-module _ (a : Asking) (server : TsigKey) (at : ℕ) (offer : Offer) (f : Fits a server at offer) (gave : Outcome) where
+module _ (a : Asking) (server : TsigKey) (at : ℕ) (offer : Offer) (f : Fits a server at offer) (forms : HaveForms (asked_authority a)) (gave : Outcome) where
   abbrev v : Version
   v = offer.version
 
@@ -233,7 +234,7 @@ module _ (a : Asking) (server : TsigKey) (at : ℕ) (offer : Offer) (f : Fits a 
 
   -- it passed
   passes : (xs rest : List (List ℕ)) → all ≡ xs ++ rest → Passed (fault_so_far a) xs
-  passes xs rest joined = replies.front_passed a server at offer f xs rest joined
+  passes xs rest joined = replies.front_passed a server at offer f forms xs rest joined
 
   few : (xs rest : List (List ℕ)) → all ≡ xs ++ rest → length xs + length rest ≤ most_replies
   few xs rest joined = omega (arith, replies.sends_each a server at f.records_fit.pages, f.records_fit.few, ap length joined, length-append xs rest)
@@ -248,7 +249,7 @@ module _ (a : Asking) (server : TsigKey) (at : ℕ) (offer : Offer) (f : Fits a 
   all_is xs rest joined =
       let none = sym (append-nil (xs ++ rest)) in
       subst (λ (k : Course). Succeeds k v)
-      (ap (λ l. course_so_far a l gave) joined ∙ front_is (xs ++ rest) [] (joined ∙ none) ∙ ap (λ ks. asked_course a ks (stop_after gave (xs ++ rest) None)) (map-append checked_so_far xs rest)) (succeeds a server at offer f gave)
+      (ap (λ l. course_so_far a l gave) joined ∙ front_is (xs ++ rest) [] (joined ∙ none) ∙ ap (λ ks. asked_course a ks (stop_after gave (xs ++ rest) None)) (map-append checked_so_far xs rest)) (succeeds a server at offer f forms gave)
 
   -- it met the outcome of all
   has_met : (xs rest : List (List ℕ)) (o : Outcome) → all ≡ xs ++ rest → (client_so_far a xs).met ≡ Some o → Succeeds (course_so_far a xs gave) v
@@ -283,5 +284,5 @@ module _ (a : Asking) (server : TsigKey) (at : ℕ) (offer : Offer) (f : Fits a 
     where
       by : (more : List (List ℕ)) (m : Option Outcome) → all ≡ xs ++ more → (client_so_far a xs).met ≡ m → IsPart a v xs more gave
       by more (Some o) j h = inl (has_met xs more o j h)
-      by [] None j h = inl (subst (λ (l : List (List ℕ)). Succeeds (course_so_far a l gave) v) (j ∙ append-nil xs) (succeeds a server at offer f gave))
+      by [] None j h = inl (subst (λ (l : List (List ℕ)). Succeeds (course_so_far a l gave) v) (j ∙ append-nil xs) (succeeds a server at offer f forms gave))
       by (r ∷ more) None j h = inr (waits xs r more j h)

@@ -41,6 +41,7 @@ use Rattle.xfr_course.specs.Honest.{carrier_of}
 use Rattle.xfr_course.specs.Success.{signed_checked}
 use Rattle.xfr_client.specs.SoFar.{Asking, asked_authority, asked_question, request_message, asked_octets, checked_so_far, fault_so_far, message_so_far, header_alone}
 use Rattle.xfr_client.specs.Standing.{Passed}
+use Rattle.zone_sync.specs.Forms.{HaveForms}
 use Rattle.zone_sync.specs.Fitting.{answer_room, sent_text, page_answers, sent_pages, Fits, SendsEach}
 use Rattle.xfr_client.proofs.Standings.{none_passed, one_passed}
 use Rattle.zone_sync.proofs.HonestNames.{same_is_name}
@@ -237,7 +238,7 @@ signed_header key mac prior m at fudge =
 
 -- ---- as it is taken
 
-module _ (a : Asking) (server : TsigKey) (at : ℕ) (offer : Offer) (f : Fits a server at offer) where
+module _ (a : Asking) (server : TsigKey) (at : ℕ) (offer : Offer) (f : Fits a server at offer) (forms : HaveForms (asked_authority a)) where
   abbrev name : is_name a.base.version.apex ≡ true
   name = apex_is_name a server at offer f
 
@@ -245,10 +246,10 @@ module _ (a : Asking) (server : TsigKey) (at : ℕ) (offer : Offer) (f : Fits a 
   class = small_class a server at offer f
 
   abbrev soa : AllByRecursion IsRecord (asked_authority a)
-  soa = forms_written (asked_authority a) f.asked
+  soa = forms_written (asked_authority a) forms
 
   abbrev pieces : HaveData (asked_authority a)
-  pieces = forms_data (asked_authority a) f.asked
+  pieces = forms_data (asked_authority a) forms
 
   abbrev singles : Bool
   singles = in_singles a.mode offer.compatibility

@@ -33,7 +33,6 @@ use Rattle.zone_sync.specs.Fitting.{Fits}
 use Rattle.zone_sync.specs.Reported.{FitsLink, asking_in, offer_in, provider_in, pushed_all, primary_opening, primary_commits}
 use Rattle.zone_sync.proofs.SpelledRecords.{spelled_has_form}
 use Rattle.zone_sync.proofs.WritableVersions.{all_append, close_writable, added_writable, deleted_writable, file_writable, IsWritableProvider, push_writable, provider_forms}
-use Rattle.zone_sync.proofs.OfferForms.{asked_forms}
 
 -- ---- options
 
@@ -373,7 +372,6 @@ script_fits mode text s key longest spelt f =
       close_moments = f.close_moments;
       one_soa = f.one_soa;
       records_fit = f.records_fit;
-      asked = asked_forms mode (secondary_version s) all.1;
       sent = provider_forms (provider_in s key) mode (zone_serial (secondary_version s)) _ (provider_writable s key all.0);
       base_matches = f.base_matches;
       same_zone = record { apex = (same_name-Decides (opened s.secondary).apex (provider_in s key).kept.apex).1 (ap fold (base.0 ∙ sound.apex ∙ sym kept.0)); class = base.1 ∙ sound.class ∙ sym kept.1 };

@@ -1,5 +1,5 @@
 -- What edits make of versions whose records have wire forms, and what is sent of them, has such records alone.
-use Rattle.std.proofs.Common.{◌≡◌, ℕ, ◌^◌, ◌<◌, Bool, true, false, cond, not, ◌&&◌, ◌==◌, if◌then◌else◌, List, [], ◌∷◌, ◌++◌, length, map, min, filter, filter_map, flat_map, refl, ap, sym, subst, ◌∙◌, arith, lit<, ltb-true, nat_lt, Ordering, Less, Equal, Greater, is_eq, Option, Some, None}
+use Rattle.std.proofs.Common.{◌≡◌, ℕ, ◌^◌, ◌<◌, Bool, true, false, cond, not, ◌&&◌, ◌==◌, if◌then◌else◌, List, [], ◌∷◌, ◌++◌, length, map, min, filter, filter_map, flat_map, refl, ap, sym, subst, ◌∙◌, arith, lit<, Ordering, Less, Equal, Greater, is_eq, Option, Some, None}
 use Rattle.std.specs.Prelude.{IsTrue, option_map, is_some, Result, Ok, Err, fold as fold_list}
 use Rattle.std.specs.Option.{option_map_or}
 use Rattle.std.specs.Result.{result_unwrap_or}
@@ -8,13 +8,11 @@ use Rattle.std.specs.Ordering.{match_ordering}
 use Rattle.std.specs.BTreeMap.{insert_entry}
 use Rattle.std.specs.Map.{remove_entry}
 use Rattle.std.specs.Cmp.{Equal-is}
-use Rattle.std.specs.Cmp.Lexicographic.{pointwise}
-use Rattle.std.proofs.lemmas.Bool.{and_parts}
 use Rattle.dns_name.specs.Names.{Name, fold, same_name, under, is_name}
 use Rattle.dns_name.proofs.WireForms.{fold_is_name}
 use Rattle.dns_numbers.specs.Codes.{type_soa}
 use Rattle.dns_numbers.specs.Serial.{serial_upto}
-use Rattle.dns_rdata.specs.Records.{Field, Record, same_data, is_data, data_wire, parts, part_allows}
+use Rattle.dns_rdata.specs.Records.{Field, Record, same_data, is_data}
 use Rattle.dns_wire.specs.Written.{IsRecord}
 use Rattle.zone_model.specs.Version.{RecordSet, Key, Sets, Version, key_cmp, has_key, set_in, set_at, data_at}
 use Rattle.zone_model.specs.Answer.{highest_cut, records_of, records_of_option, first_only, apex_soa_record}
@@ -25,6 +23,7 @@ use Rattle.zone_model.specs.Difference.{Difference, holds, entry_without, withou
 use Rattle.zone_model.specs.TransferText.{Mode, Axfr, Ixfr, is_plain}
 use Rattle.zone_model.specs.Offer.{Offer, Provider, successive, after_serial, has_start, pushed, from_serial, difference_if, offer_of, after_push, side_soas, side_records, difference_text, is_apex_soa, is_sendable, whole_text, changes_text, changes_or_whole, text_of}
 use Rattle.zone_model.proofs.Folded.{key_from_tie}
+use Rattle.xfr_client.proofs.Requests.{data_short}
 use Rattle.zone_sync.specs.Forms.{HasForm, HaveForms, IsSetOf, IsEntry, IsWritableStop, IsWritable}
 
 -- ---- lists
@@ -197,9 +196,6 @@ push_writable p v h w = by (diffable p.kept v)
         }
 
 -- ---- texts
-
-data_short : (rtype : ℕ) (d : List Field) → IsDataOf rtype d → length (data_wire d) < 2 ^ 16
-data_short rtype d is = ltb-true (length (data_wire d)) 65536 (and_parts (pointwise part_allows (parts rtype) d) (nat_lt (length (data_wire d)) 65536) is).1
 
 record_forms : (owner : Name) (rtype class : ℕ) (s : RecordSet) → IsTrue (is_name owner) → rtype < 2 ^ 16 → class < 2 ^ 16 → IsSetOf rtype s → HaveForms (records_of owner rtype class s)
 record_forms owner rtype class s named small below set = each s.items set.each

@@ -8,7 +8,7 @@ use Rattle.zone_model.specs.Session.{Session}
 use Rattle.xfr_server.specs.Items.{Sending}
 use Rattle.xfr_server.specs.GrantedTransfers.{IsSentWhole}
 use Rattle.zone_devices.specs.Links.{LinkLists, IsHonest}
-use Rattle.xfr_client.specs.SoFar.{Asking, asked_octets}
+use Rattle.xfr_client.specs.SoFar.{Asking, asked_octets, CanAsk}
 use Rattle.zone_sync.specs.Serving.{request_at}
 use Rattle.zone_sync.specs.Fitting.{Fits}
 use Rattle.zone_sync.specs.LinkTransfers.{SyncSays}
@@ -22,13 +22,13 @@ WasHonest (Some old) (Some new) faults_old faults_new = IsHonest old new faults_
 WasHonest _ _ faults_old faults_new = ⊥
 
 -- The premises: a primary makes an offer of a version that fits the secondary, by a key that is one with the secondary's, and grants it: to the secondary's
--- request it sends the pages of the offer's text, signed in sequence with that key; and the request fits the link.
+-- request, if that can be made, it sends the pages of the offer's text, signed in sequence with that key; and the request fits the link.
 pub record IsGranted (Sends : List ℕ → Option (List Sending) → Type 0) (a : Asking) (at longest : ℕ) (v : Version) : Type 0 where
   pub server : TsigKey
   pub offer : Offer
   pub offered : offer.version ≡ v
   pub fits : Fits a server at offer
-  pub grants : (sent : Option (List Sending)) → Sends (asked_octets a) sent → IsSentWhole (request_at (asked_octets a) at) server fits.records_fit.pages sent
+  pub grants : CanAsk a longest → (sent : Option (List Sending)) → Sends (asked_octets a) sent → IsSentWhole (request_at (asked_octets a) at) server fits.records_fit.pages sent
   pub request_fits : length (asked_octets a) ≤ min longest 65535
 
 -- the secondary's current version is the primary's, or memory ran out

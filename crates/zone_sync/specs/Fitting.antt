@@ -101,8 +101,7 @@ pub record Fits (a : Asking) (server : TsigKey) (at : ℕ) (offer : Offer) : Typ
   pub close_moments : AreClose at a.at
   pub one_soa : ArePublished a.mode a.base.version.apex offer
   pub records_fit : RecordsFit a server offer
-  -- the records of request and text have wire forms, as those of writable versions do
-  pub asked : HaveForms (asked_authority a)
+  -- the records of the text have wire forms, as those of writable versions do
   pub sent : HaveForms (sent_text a offer)
   pub base_matches : OnIxfr a.mode (BaseMatches a.base.version offer one_soa.history)
   pub same_zone : AreOfOneZone a.base.version offer.version
@@ -111,9 +110,10 @@ pub record Fits (a : Asking) (server : TsigKey) (at : ℕ) (offer : Offer) : Typ
 
 -- ---- laws
 
--- the law of granted transfers: what such a primary sends makes a course that succeeds, whatever comes in place of a further reply
+-- the law of granted transfers: what such a primary sends to a request whose record has a wire form (as each has that can be made) makes a course that
+-- succeeds, whatever comes in place of a further reply
 abbrev pub GrantedSucceed : Type 0
-GrantedSucceed = (a : Asking) (server : TsigKey) (at : ℕ) (offer : Offer) (gave : Outcome) → (f : Fits a server at offer)
+GrantedSucceed = (a : Asking) (server : TsigKey) (at : ℕ) (offer : Offer) (gave : Outcome) → HaveForms (asked_authority a) → (f : Fits a server at offer)
     → Succeeds (course_so_far a (sent_pages a server at f.records_fit.pages) gave) offer.version
 
 -- what is sent is a message for each page

@@ -1,20 +1,13 @@
 -- Records that have wire forms, and versions of such records (RFC 1035, 3.2.1).
-use Rattle.std.specs.Prelude.{ℕ, ◌<◌, ◌^◌, List, IsTrue}
+use Rattle.std.specs.Prelude.{ℕ, ◌<◌, ◌^◌, IsTrue}
 use Rattle.std.specs.List.{AllByRecursion}
 use Rattle.dns_name.specs.Names.{is_name}
-use Rattle.dns_rdata.specs.Records.{Record, is_data}
-use Rattle.dns_wire.specs.Written.{IsRecord}
+use Rattle.dns_rdata.specs.Records.{is_data}
 use Rattle.zone_model.specs.Version.{RecordSet, Key, Version}
 use Rattle.zone_model.specs.Walk.{Stop}
+pub use Rattle.xfr_client.specs.RecordForms.{HasForm, HaveForms}
 
--- the records have wire forms, and data of their types
-abbrev pub HasForm : Record → Type 0
-HasForm r = IsRecord r × IsTrue (is_data r.rtype r.fields)
-
-abbrev pub HaveForms : List Record → Type 0
-HaveForms rs = AllByRecursion HasForm rs
-
--- .. those of a set of this type, whatever their owner
+-- the records of a set of this type have them, whatever their owner
 pub record IsSetOf (rtype : ℕ) (s : RecordSet) : Type 0 where
   pub ttl : s.ttl < 2 ^ 32
   pub each : AllByRecursion (λ d. IsTrue (is_data rtype d)) s.items

@@ -144,7 +144,7 @@ pub record Ran (SendsOf : Provider → TsigKey → ℕ → List ℕ → Option (
   pub reports : Reports tried.transfer.answer tried.transfer.handles tried.transfer.session tried.script.queries octets status
 
 -- A script whose zones, key and moments fit each other, and whose request fits the link: what is left of the premises of success. The others hold of every
--- script: its primary grants the one key of both sides, both zones are one, and the records of request and text have wire forms.
+-- script: its primary grants the one key of both sides, both zones are one, and the records of the text have wire forms.
 pub record FitsLink (mode : Mode) (script : Script TsigKey) (key : TsigKey) (longest : ℕ) : Type 0 where
   pub keyed : script.key ≡ Some key
   -- a side's MACs are as long as the other takes them

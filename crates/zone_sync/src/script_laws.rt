@@ -23,7 +23,7 @@ pub fn scripts_have_forms()
 {}
 
 /// Of every script that octets spell it holds that both sides have one key, with lengths that its algorithm allows, that the
-/// zones are of one apex and class, and that what is asked and sent has wire forms. So what `FitsLink` asks is all that is left of the premises of success ..
+/// zones are of one apex and class, and that what is sent has wire forms. So what `FitsLink` asks is all that is left of the premises of success ..
 pub fn scripts_fit()
     ensures { (mode : Mode) (text : List ℕ) (script : Script TsigKey) (key : TsigKey) (longest : ℕ)
         → script_of wire_readers text ≡ Ok script → FitsLink mode script key longest

@@ -32,6 +32,11 @@ module _ {K X : Type 0} {R : K → K → Ordering} (o : IsTotalOrder R) where
   pub insert_same : (es : List (K × X)) (k : K) (s : X) → IsStrictlySortedBy R (keys_of es) → lookup (is_at (R k)) es ≡ Some s → insert_entry R es k s ≡ es
   insert_same es k s h f = sym (write_is_insertion es k s s h f) ∙ set_value_same (is_at (R k)) es s f
 
+  -- .. whether the write succeeds or leaves all as it was
+  pub same_either_way : {T E : Type 0} (r : Result T E) (now es : List (K × X)) (k : K) (s : X) → IsStrictlySortedBy R (keys_of es) → lookup (is_at (R k)) es ≡ Some s → OnOk r (now ≡ insert_entry R es k s) → OnErr r (now ≡ es) → now ≡ es
+  same_either_way (Ok x) now es k s h f ok err = ok ∙ insert_same es k s h f
+  same_either_way (Err e) now es k s h f ok err = err
+
 -- an edit of a set that is there counts one
 pub one_counted : (nodes : Nodes) (n : Name) (t : ℕ) (s : RecordSet) (x : Option NodeSets) → is_some (type_in x t) ≡ true → put_steps nodes n t s x ≡ 1
 one_counted nodes n t s None h = absurd (true≢false (sym h))

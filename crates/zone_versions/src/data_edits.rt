@@ -178,7 +178,7 @@ impl VersionTree {
             return Ok(());
         };
         if found.has_others(item) {
-            return self.thin_in_place(owner, ttl, item, steps);
+            return self.thin_in_place(alloc, owner, ttl, item, steps);
         }
         self.remove(alloc, owner, rtype, steps)
     }
@@ -200,7 +200,7 @@ impl VersionTree {
         ensures uncounted { OnErr result (steps.new ≡ steps.old) }
     {
         let rtype = item.rtype();
-        self.edit_in_place(owner, rtype, Appending { alloc, ttl, item }, steps)
+        self.edit_in_place(alloc, owner, rtype, Appending { alloc, ttl, item }, steps)
     }
 
     /// Puts data that a zone opens with in the RRset of their type at an owner, which stands there.
@@ -220,12 +220,13 @@ impl VersionTree {
         ensures uncounted { OnErr result (steps.new ≡ steps.old) }
     {
         let rtype = item.rtype();
-        self.edit_in_place(owner, rtype, Opening { alloc, ttl, item }, steps)
+        self.edit_in_place(alloc, owner, rtype, Opening { alloc, ttl, item }, steps)
     }
 
     /// Takes the data equal to these out of the RRset of their type at an owner, which has others, and puts this TTL in place of the RRset's.
     fn thin_in_place(
         &mut self,
+        alloc: Global,
         owner: &NameKeyRef<'_>,
         ttl: Ttl,
         item: &StoredRecordData,
@@ -239,7 +240,7 @@ impl VersionTree {
         ensures uncounted { OnErr result (steps.new ≡ steps.old) }
     {
         let rtype = item.rtype();
-        self.edit_in_place(owner, rtype, Thinning { ttl, item }, steps)
+        self.edit_in_place(alloc, owner, rtype, Thinning { ttl, item }, steps)
     }
 
     /// Puts data in a new RRset of their type at an owner; `there` tells whether that has a node.

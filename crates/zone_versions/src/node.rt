@@ -79,7 +79,7 @@ impl Model for ZoneNode {
 }
 
 impl ZoneNode {
-    /// A node of these RRsets. Each node is built here.
+    /// A node of these RRsets. Each node is built here, and counted.
     fn build(steps: &mut NodeCount, sets: Vec<SharedRrset>) -> ZoneNode
         requires { IsHeld (held_of sets.items) }
         ensures is { result ≡ held_of sets.items }
@@ -148,6 +148,24 @@ impl ZoneNode {
         Ok(ZoneNode::build(steps, sets))
     }
 
+    /// A copy of the node, which shares its RRsets.
+    pub(crate) fn copy(&self, steps: &mut NodeCount) -> Result<ZoneNode, AllocError>
+        ensures is { IfOk result (λ n. n ≡ self.now) }
+        ensures steps { OnOk result (steps.new ≡ counted steps.old 1) }
+        ensures err { OnErr result (steps.new ≡ steps.old) }
+    {
+        let shared = self.shared_sets()?;
+        Ok(ZoneNode::build(steps, shared))
+    }
+
+    /// The RRsets, shared.
+    fn shared_sets(&self) -> Result<Vec<SharedRrset>, AllocError>
+        ensures same { IfOk result (λ shared. held_of shared.items ≡ self.now) }
+        ensures held { IfOk result (λ shared. IsHeld (held_of shared.items)) }
+    {
+        copied(&self.sets)
+    }
+
     /// Edits the RRset of a type, which stands there and keeps data, in place. Without memory all is as before.
     pub(crate) fn edit<E: SetEdit + Drop>(
         &mut self,
@@ -208,14 +226,4 @@ fn copied(sets: &Vec<SharedRrset>) -> Result<Vec<SharedRrset>, AllocError>
     ensures { IfOk result (λ copy. copy.items ≡ sets.now.items) }
 {
     sets.clone()
-}
-
-impl Clone for ZoneNode {
-    ghost is_clone = { λ s copy. copy ≡ s };
-
-    fn clone(&self) -> Result<ZoneNode, AllocError> {
-        Ok(ZoneNode {
-            sets: copied(&self.sets)?,
-        })
-    }
 }

@@ -7,10 +7,11 @@ ghost use Rattle.std.specs.Map.{keys_of};
 ghost use Rattle.dns_name.specs.Names.{under, canonical_cmp};
 ghost use Rattle.paged_map.specs.Octets.{octets_cmp, begins_with};
 ghost use Rattle.zone_versions.specs.Keyed.{holds_besides, holds_outside, named, AreKeys};
+ghost use Rattle.zone_versions.specs.Held.{counted};
 ghost use Rattle.zone_versions.specs.Trees.{node_at};
 ghost use Rattle.zone_versions.specs.Ways.{put_node, any_held, outside};
 
-use crate::node::ZoneNode;
+use crate::node::{NodeCount, ZoneNode};
 use name_keys::NameKeyRef;
 use paged_map::{Entries, PagedMap, compare};
 use std::alloc::{AllocError, Global};
@@ -117,7 +118,26 @@ impl NodeMap {
         self.pages.insert(alloc, name.as_slice(), node)
     }
 
-    /// The node of a name that has one, to write. Only what copies share with it on the way is copied first. Without memory all is as before.
+    /// Has the node of a name be no copy's too: one that a copy shares is copied. Either way it counts as built.
+    pub(crate) fn own_node(
+        &mut self,
+        alloc: Global,
+        name: &NameKeyRef<'_>,
+        steps: &mut NodeCount,
+    ) -> Result<(), AllocError>
+        ensures same { self.new ≡ self.old }
+        ensures steps { OnOk result (steps.new ≡ counted steps.old 1) }
+        ensures uncounted { OnErr result (steps.new ≡ steps.old) }
+    {
+        if self.pages.is_shared(name.as_slice()) {
+            return copy_node(&mut self.pages, alloc, name.as_slice(), steps);
+        }
+        steps.add_one();
+        Ok(())
+    }
+
+    /// The node of a name that has one and that no copy shares (`own_node`), to write. The page is copied first where copies share that. Without memory
+    /// all is as before.
     pub(crate) fn node_mut(&mut self, name: &NameKeyRef<'_>) -> Result<&mut ZoneNode, AllocError>
         requires { IsSome (node_at self.old name.now) }
         ensures* writes_back { sem 𝓛 (lends_node self.entry name.now result) }
@@ -143,6 +163,29 @@ impl Clone for NodeMap {
             pages: self.pages.clone()?,
         })
     }
+}
+
+/// Puts a copy of a key's node in its place, where there is one. It counts as built, as it does where there is none.
+fn copy_node(
+    pages: &mut PagedMap<ZoneNode>,
+    alloc: Global,
+    key: &[u8],
+    steps: &mut NodeCount,
+) -> Result<(), AllocError>
+    requires { IsStrictlySortedBy octets_cmp (keys_of pages.old) }
+    ensures same { pages.new ≡ pages.old }
+    ensures steps { OnOk result (steps.new ≡ counted steps.old 1) }
+    ensures uncounted { OnErr result (steps.new ≡ steps.old) }
+{
+    let Some(node) = pages.get(key) else {
+        steps.add_one();
+        return Ok(());
+    };
+    let before = steps.get();
+    let copy = node.copy(steps)?;
+    let done = pages.insert(alloc, key, copy);
+    steps.keep_if(done.is_ok(), before);
+    done
 }
 
 /// Whether an entry of a key that begins with a string has RRsets, that of an owner's key aside.

@@ -70,9 +70,10 @@ impl VersionTree {
         Ok(VersionTree { apex, class, nodes })
     }
 
-    /// The same version, which shares all nodes.
-    pub fn fork(&self) -> Result<VersionTree, AllocError>
-        ensures { IfOk result (λ t. t ≡ self.now) }
+    /// The same version, which shares all nodes: none is built.
+    pub fn fork(&self, _steps: &mut NodeCount) -> Result<VersionTree, AllocError>
+        ensures is { IfOk result (λ t. t ≡ self.now) }
+        ensures none_built { _steps.new ≡ _steps.old }
     {
         Ok(VersionTree {
             apex: self.apex.clone()?,
@@ -329,8 +330,8 @@ impl VersionTree {
         done
     }
 
-    /// Edits the RRset of an owner and type, which stands there and keeps data, in place: what another version shares with it on the way is copied first,
-    /// and no node is built. Without memory all is as before.
+    /// Edits the RRset of an owner and type, which stands there and keeps data, in place, in a node that no other version has. No node is built. Without
+    /// memory all is as before.
     fn edit_set<E: SetEdit + Drop>(
         &mut self,
         owner: &NameKeyRef<'_>,
@@ -350,9 +351,24 @@ impl VersionTree {
         edit_set(&mut self.nodes, owner, rtype, edit)
     }
 
-    /// The same, counted as the node that `with_set` would build.
+    /// Has the node of a name be no other version's, and counts it as the node that is built.
+    fn own_node(
+        &mut self,
+        alloc: Global,
+        owner: &NameKeyRef<'_>,
+        steps: &mut NodeCount,
+    ) -> Result<(), AllocError>
+        ensures same { self.new ≡ self.old }
+        ensures steps { OnOk result (steps.new ≡ counted steps.old 1) }
+        ensures uncounted { OnErr result (steps.new ≡ steps.old) }
+    {
+        self.nodes.own_node(alloc, owner, steps)
+    }
+
+    /// The same, counted as the node that `with_set` would build: one that another version has is copied first.
     pub(crate) fn edit_in_place<E: SetEdit + Drop>(
         &mut self,
+        alloc: Global,
         owner: &NameKeyRef<'_>,
         rtype: Rtype,
         edit: E,
@@ -367,9 +383,38 @@ impl VersionTree {
         ensures steps { OnOk result (steps.new ≡ counted steps.old (built self.old self.new owner.now rtype)) }
         ensures uncounted { OnErr result (steps.new ≡ steps.old) }
     {
-        self.edit_set(owner, rtype, edit)?;
-        steps.add_one();
-        Ok(())
+        let before = steps.get();
+        match self.own_node(alloc, owner, steps) {
+            Ok(()) => self.edit_own(owner, rtype, edit, before, steps),
+            Err(error) => {
+                drop(edit);
+                Err(error)
+            }
+        }
+    }
+
+    /// The same in a node that no other version has and that is counted. The count is the one before it again where memory is wanting.
+    fn edit_own<E: SetEdit + Drop>(
+        &mut self,
+        owner: &NameKeyRef<'_>,
+        rtype: Rtype,
+        edit: E,
+        before: u64,
+        steps: &mut NodeCount,
+    ) -> Result<(), AllocError>
+        requires zone { under owner.now self.old.apex ≡ true }
+        requires there { IsSome (set_at self.old owner.now rtype) }
+        requires fits { E.fits edit rtype }
+        requires full { 1 ≤ length (E.edited edit (set_at self.old owner.now rtype)).items }
+        requires one { steps.old ≡ counted before 1 }
+        ensures ok { OnOk result (self.new ≡ trees.with_set self.old owner.now rtype (Some (E.edited edit (set_at self.old owner.now rtype)))) }
+        ensures err { OnErr result (self.new ≡ self.old) }
+        ensures steps { OnOk result (steps.new ≡ counted before (built self.old self.new owner.now rtype)) }
+        ensures uncounted { OnErr result (steps.new ≡ before) }
+    {
+        let done = self.edit_set(owner, rtype, edit);
+        steps.keep_if(done.is_ok(), before);
+        done
     }
 
     /// Takes the RRset of an owner and type out, where there is one.

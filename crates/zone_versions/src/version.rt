@@ -61,7 +61,7 @@ impl Clone for ZoneVersion {
     /// The same version, which shares all nodes.
     fn clone(&self) -> Result<ZoneVersion, AllocError> {
         Ok(ZoneVersion {
-            tree: self.tree.fork()?,
+            tree: self.tree.fork(&mut NodeCount::new())?,
         })
     }
 }

@@ -17,11 +17,11 @@ returns-in_err-push_authority-clause-refused c =
     let is : c.question-questions.result ≡ blank c.args.id = c.question-questions.ensures ∙ c.set_header.ensures.after ∙ rw (c.new-2.ensures, c.in_ok-builder.ensures) refl in
     let asked : c.authority-authority.result ≡ asked_blank c.args.id c.args.question.now =
     c.authority-authority.ensures ∙ c.answer.ensures ∙ question_added c.args.id c.args.question.now c.question-questions.result c.push.new.self is c.in_ok-push.ensures.adds in
-    rw (p.1, p.2) (authority_refused c.args.id c.args.question.now (authority_of (mode_of c.args.mode) c.args.zone.now.version) c.authority-authority.result c.push_authority.new.authority c.in_err-push_authority.field-0.0 asked c.in_err-push_authority.ensures)
+    rw (p.1, p.2) (authority_refused c.args.id c.args.question.now (authority_of (mode_of c.args.mode) c.args.zone.now.version) c.authority-authority.result c.push_authority.new.authority c.in_err-push_authority.field-0.0 asked c.in_err-push_authority.ensures.pushes)
 
 pub returns-clause-ok : goal.returns-clause-ok
 returns-clause-ok c =
     let is : c.question-questions.result ≡ blank c.args.id = c.question-questions.ensures ∙ c.set_header.ensures.after ∙ rw (c.new-2.ensures, c.in_ok-builder.ensures) refl in
     let asked : c.authority-authority.result ≡ asked_blank c.args.id c.args.question.now =
     c.authority-authority.ensures ∙ c.answer.ensures ∙ question_added c.args.id c.args.question.now c.question-questions.result c.push.new.self is c.in_ok-push.ensures.adds in
-    c.additional.ensures ∙ authority_added c.args.id c.args.question.now (mode_of c.args.mode) c.args.zone.now.version c.authority-authority.result c.push_authority.new.authority asked c.in_ok-push_authority.ensures
+    c.additional.ensures ∙ authority_added c.args.id c.args.question.now (mode_of c.args.mode) c.args.zone.now.version c.authority-authority.result c.push_authority.new.authority asked c.in_ok-push_authority.ensures.pushes

@@ -6,5 +6,5 @@ use Rattle.zone_halves.proofs.laws.transfers_deliver.Goals as goal
 
 pub returns : goal.returns
 returns g c primary limits a at v x before handles s answer k grant w steady =
-    rule_delivers limits a v x before handles s answer (λ source. IsWritten (g.P.Service.Sends primary (request_at (asked_octets a) at)) limits source)
+    rule_delivers limits a v x before handles s answer (λ source. IsWritten (g.P.Service.Sends primary (request_at (asked_octets a) at)) limits a source)
     (λ y later t r e written still. c.exchanges_deliver.ensures primary limits a at v y before later t r e grant written still) k w steady

@@ -15,8 +15,8 @@ returns c = λ next provider server a at longest grants f short. record {
   offer = history_offer provider a;
   offered = refl;
   fits = f;
-  grants = λ sent.
+  grants = λ can sent.
       c.granted_transfers_are_sent.ensures next provider server (request_at (asked_octets a) at) server (kind_of a.mode) (zone_serial a.base.version) (history_offer provider a) sent
-      (granted (λ (k : TsigKey). k) (own_key server) (kept_told provider) a server at (history_offer provider a) (history_offers provider server a at grants f) f);
+      (granted (λ (k : TsigKey). k) (own_key server) (kept_told provider) a server at (history_offer provider a) (history_offers provider server a at grants f can.forms) f can.forms);
   request_fits = short;
 }

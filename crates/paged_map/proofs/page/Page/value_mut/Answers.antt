@@ -10,11 +10,11 @@ pub returns : goal.returns
 returns g c =
     let xs = c.self.inside.entries.items in
     let e = c.index_mut.result.now in
-    let h : c.args.at < length xs = subst (λ n. c.args.at < n) (ap length (sym c.self.view_is) ∙ length-map xs arc_value) c.requires.at in (
+    let h : c.args.at < length xs = subst (λ n. c.args.at < n) (ap length (sym c.self.view_is) ∙ length-map xs arc_value) c.requires in (
       (
         refl,
-        (λ w ok. value_written xs c.args.at e (c.shared_value.follows.lender w) c.index_mut.ensures.value h w (c.shared_value.follows.holds w ok) ∙ ap (λ l. with_value l c.args.at w) c.self.view_is),
-        on_err_weaker c.shared_value.result (λ is. value_kept xs c.args.at e c.shared_value.follows.lender-at-none c.index_mut.ensures.value h is ∙ c.self.view_is) c.shared_value.follows.holds-at-none,
+        (λ w ok. value_written xs c.args.at e (c.own_value.follows.lender w) c.index_mut.ensures.value h w (c.own_value.follows.holds w ok) ∙ ap (λ l. with_value l c.args.at w) c.self.view_is),
+        on_err_weaker c.own_value.result (λ is. value_kept xs c.args.at e c.own_value.follows.lender-at-none c.index_mut.ensures.value h is ∙ c.self.view_is) c.own_value.follows.holds-at-none,
       ),
-      record { writes_back = tt; value = IfOk-weaker c.shared_value.result _ _ (λ x is. ap (λ l. option_map (λ e. e.1) (slice_get l c.args.at)) (sym c.self.view_is) ∙ value_got xs c.args.at e e c.index_mut.ensures.value h ∙ ap Some (sym is)) c.shared_value.ensures.value },
+      record { writes_back = tt; value = IfOk-weaker c.own_value.result _ _ (λ x is. ap (λ l. option_map (λ e. e.1) (slice_get l c.args.at)) (sym c.self.view_is) ∙ value_got xs c.args.at e e c.index_mut.ensures.value h ∙ ap Some (sym is)) c.own_value.ensures.value },
     )

@@ -5,7 +5,7 @@ use Rattle.xfr_outcomes.specs.Modes.{mode_of}
 use Rattle.dns_wire.specs.Wire.{message_wire}
 use Rattle.xfr_client.specs.SoFar.{asking, authority_of, asked_octets}
 use Rattle.xfr_client.specs.Standing.{asking_of}
-use Rattle.xfr_client.proofs.Requests.{question_is, built_is, soa_there, soa_lacks, asked_is, too_long_signed, sign_refused, sign_added, same_mac, begins}
+use Rattle.xfr_client.proofs.Requests.{question_is, built_is, soa_there, soa_lacks, forms_there, asked_is, too_long_signed, sign_refused, sign_added, same_mac, begins}
 use Rattle.tsig_port.specs.States.{ClientStands}
 use Rattle.xfr_client.proofs.exchange.Client.request.Goals as goal
 
@@ -75,11 +75,12 @@ returns-clause-ok c =
     let soa = soa_there a (mode_of c.self.inside.mode) c.in_ok-zone.zone c.in_ok-serial.serial (ap (λ s. s.mode) v) zone c.in_ok-serial.ensures in
     let made = sign_added a c.duplicate.result c.in_ok-items.items c.request.new.message c.self.inside.at key is at c.in_ok-sequence.ensures.signed in
     let whole : c.finish-message.result ≡ asked_octets a = c.finish-message.ensures.value ∙ made in
+    let forms = forms_there a (mode_of c.self.inside.mode) c.in_ok-zone.zone (ap (λ s. s.mode) v) zone c.in_ok-items.ensures.forms in
     let short = c.if-as_slice-max_len.false in
     let most = c.finish-message.ensures.most in
     let slice = ap length c.as_slice.ensures.value in
     let size : length c.finish-message.result ≡ length (asked_octets a) = ap length whole in
-    (whole, record { soa = soa.0; fits = omega (arith, short, most, slice, size) })
+    (whole, record { soa = soa.0; fits = omega (arith, short, most, slice, size); forms = forms })
 
 pub returns-clause-begun : goal.returns-clause-begun
 returns-clause-begun c handles =

@@ -7,7 +7,7 @@ use Rattle.xfr_client.proofs.Adding.{update_passed}
 use Rattle.xfr_client.proofs.updater_state.UpdaterState.add.Goals as goal
 
 pub returns-then-self-clause-ok : goal.returns-then-self-clause-ok
-returns-then-self-clause-ok c before fin =
+returns-then-self-clause-ok g c before fin =
     let u = c.args.self.now in
     let rep : u.replacing ≡ true = ap (λ v. v.replacing) (sym c.self.view_is) ∙ c.if-self.true in
     let said = rw c.in-Err-Incompatible.field-0-is at c.in-Err-Incompatible.ensures in

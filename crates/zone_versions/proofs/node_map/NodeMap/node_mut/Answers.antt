@@ -11,8 +11,8 @@ use Rattle.paged_map.proofs.MarkOrder.{octets_total}
 use Rattle.zone_versions.proofs.Written.{insert_same}
 use Rattle.zone_versions.proofs.node_map.NodeMap.node_mut.Goals as goal
 
-pub value_mut-requires-clause-there : goal.value_mut-requires-clause-there
-value_mut-requires-clause-there c =
+pub value_mut-requires : goal.value_mut-requires
+value_mut-requires c =
     ap is_some (ap (λ k. lookup (is_at (octets_cmp k)) c.self.inside.pages) c.as_slice.ensures.value ∙ get_named c.self.inside.pages c.args.name.now c.self.invariant.0 ∙ ap (λ m. node_at m c.args.name.now) c.self.view_is)
     ∙ c.requires
 
