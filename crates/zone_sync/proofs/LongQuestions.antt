@@ -7,12 +7,15 @@ use Rattle.xfr_services.specs.LongReplies.{HasLongQuestions, FailsOnlyWhereLong}
 use Rattle.xfr_services.specs.declared.services.ServiceError.{ServiceError}
 use Rattle.xfr_services.specs.declared.services.ServiceError.TheVariants as service
 use Rattle.xfr_course.specs.Courses.{has_header}
+use Rattle.xfr_client.specs.SoFar.{Asking, CantAsk}
 use Rattle.xfr_client.specs.Transfers.{ComesLater}
 use Rattle.zone_devices.specs.Links.{LinkLists, LinkWentOn}
+use Rattle.zone_devices.specs.declared.links.LinkError.{LinkError}
+use Rattle.zone_devices.specs.declared.links.LinkError.TheVariants as links
 use Rattle.zone_sync.specs.Serving.{request_at, SentOf, FailsAfter, HandedTo, IsServed}
 use Rattle.zone_sync.specs.LinkTransfers.{Serves, SendsItems}
 use Rattle.zone_sync.specs.LongQuestions.{WasHandedLong, WasHandedTooLong}
-use Rattle.xfr_outcomes.specs.Refusals.{of_service}
+use Rattle.xfr_outcomes.specs.Refusals.{of_link, of_service}
 use Rattle.xfr_outcomes.specs.declared.outcome.SyncOk.{SyncOk}
 use Rattle.xfr_outcomes.specs.declared.outcome.SyncError.{SyncError}
 use Rattle.xfr_outcomes.specs.declared.outcome.SyncError.TheVariants as why
@@ -72,6 +75,13 @@ handed_long Sends old told new asked heard answer l whole k long = record {
   long = long;
 }
 
--- a transfer whose replies came isn't answered so
+-- no other part of a transfer answers with a primary's error
+pub not_unmade : {P : Type 0} (a : Asking) (most : ℕ) (x : SyncError) (e : ServiceError) → CantAsk a most x → x ≡ why.Primary e → P
+not_unmade a most x e cant h = absurd (subst (CantAsk a most) h cant)
+
+pub not_of_link : {P : Type 0} (x : LinkError) (e : ServiceError) → of_link x ≡ why.Primary e → P
+not_of_link links.Failed e h = absurd (cc h)
+not_of_link links.Memory e h = absurd (cc h)
+
 pub not_of_replies : {P : Type 0} (answer : Result SyncOk SyncError) (e : ServiceError) → ComesLater answer → answer ≡ Err (why.Primary e) → P
 not_of_replies answer e later h = absurd (subst ComesLater h later)

@@ -9,7 +9,7 @@ use Rattle.xfr_client.specs.Standing.{asking_of}
 use Rattle.zone_sync.proofs.Passing.{nothing_more, request_taken, request_handed, requests_ended, link_on}
 use Rattle.xfr_client.proofs.Checking.{headed}
 use Rattle.zone_sync.proofs.Exchanges.{not_made, not_carried, not_handed, no_message, headless, not_served, replied, under_way}
-use Rattle.zone_sync.proofs.LongQuestions.{the_error, handed_long, not_of_replies}
+use Rattle.zone_sync.proofs.LongQuestions.{the_error, handed_long, not_unmade, not_of_link, not_of_replies}
 use Rattle.zone_sync.proofs.sync.exchange.Goals as goal
 
 pub returns-in_err-request-clause-says : goal.returns-in_err-request-clause-says
@@ -150,6 +150,33 @@ returns-clause-failed g c h =
     let st = c.in_ok-request.ensures.begun before in
     let steady = c.in_ok-serve.ensures.steady (λ k. absurd (cc k)) ∙ c.in_ok-asked.ensures.steady (λ k. absurd (cc k)) ∙ (rw c.in_ok-sent.was at c.send_request-sent.ensures.steady) (λ k. absurd (cc k)) in
     subst (λ n. Rose n (g.L.Link.faults c.take_replies.new.link)) steady (c.take_replies.ensures.failed a before st h)
+
+pub returns-in_err-request-clause-long : goal.returns-in_err-request-clause-long
+returns-in_err-request-clause-long g c e h =
+    let p = err_from_is_err_and c.from_residual.result c.from_residual.ensures.1 in
+    let is = sym p.2 ∙ the_error c.from_residual.result p.0 (why.Primary e) p.1 h in
+    not_unmade (asking_of c.args.client.now.client c.args.client.now.session.current) c.max_len.result c.in_err-request.field-0.0 e c.in_err-request.ensures.refused is
+
+pub returns-in_err-sent-clause-long : goal.returns-in_err-sent-clause-long
+returns-in_err-sent-clause-long g c e h =
+    let p = err_from_is_err_and c.from_residual-in_err-sent.result c.from_residual-in_err-sent.ensures.1 in
+    let is = sym p.2 ∙ the_error c.from_residual-in_err-sent.result p.0 (why.Primary e) p.1 h in
+    not_of_link c.in_err-sent.field-0.0 e is
+
+pub returns-in_err-asked-clause-long : goal.returns-in_err-asked-clause-long
+returns-in_err-asked-clause-long g c e h =
+    let p = err_from_is_err_and c.from_residual-in_err-asked.result c.from_residual-in_err-asked.ensures.1 in
+    let is = sym p.2 ∙ the_error c.from_residual-in_err-asked.result p.0 (why.Primary e) p.1 h in
+    not_of_link c.in_err-asked.field-0.0 e is
+
+pub returns-in_default-clause-long : goal.returns-in_default-clause-long
+returns-in_default-clause-long g c e h = absurd (cc h)
+
+pub returns-in_err-from_octets-clause-long : goal.returns-in_err-from_octets-clause-long
+returns-in_err-from_octets-clause-long g c e h =
+    let p = err_from_is_err_and c.from_residual-in_err-from_octets.result c.from_residual-in_err-from_octets.ensures.1 in
+    let is = sym p.2 ∙ the_error c.from_residual-in_err-from_octets.result p.0 (why.Primary e) p.1 h in
+    absurd (cc is)
 
 pub returns-in_err-serve-clause-long : goal.returns-in_err-serve-clause-long
 returns-in_err-serve-clause-long g c e h =

@@ -31,3 +31,6 @@ pub returns-clause-handles : goal.returns-clause-handles
 returns-clause-handles g c =
     let says = rw (c.new-client.ensures.client, c.new-client.ensures.session) at c.exchange.ensures.says in
     keeps_handles c.args.session.now.current c.args.made.now.items c.exchange.new.made.items c.exchange.new.client.session says.transfers.versions says.transfers.made
+
+pub returns-clause-long : goal.returns-clause-long
+returns-clause-long g c = c.exchange.ensures.long
