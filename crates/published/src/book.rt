@@ -151,9 +151,7 @@ impl<E: Numbered + Drop> Front<E> {
         ensures { IfSome result (λ f. (f.book ≡ self.now.book) × (f.list ≡ self.now.list ++ next ∷ []) × (f.last ≡ next)) }
     {
         let mut seen = self.seen.again();
-        let mut offer: Offer<E, u64, Law, Nothing> = seen.plain::<Nothing, E, Add>(
-            &next,
-        );
+        let mut offer: Offer<E, u64, Law, Nothing> = seen.plain::<Nothing, E, Add>(&next);
         let mut pen = seen.no_pen();
         let found = count.compare_exchange::<Add, Nothing>(
             added,

@@ -100,7 +100,11 @@ fn newer<E: Numbered + Drop>(shown: &Front<E>, held: u64) -> Option<Result<Front
 }
 
 /// Shows what goes on from what is shown.
-pub fn publish<E: Numbered + Drop, R: Wait>(rt: &R, writer: PairWriter<E>, next: Front<E>) -> PairWriter<E>
+pub fn publish<E: Numbered + Drop, R: Wait>(
+    rt: &R,
+    writer: PairWriter<E>,
+    next: Front<E>,
+) -> PairWriter<E>
 where
     Front<E>: Absorb<(), State = ()>,
     requires { GoesOn writer.desk.shown.value next }
@@ -146,7 +150,12 @@ where
 }
 
 /// A publishing end that shows this, and has taken no step yet.
-pub fn untold_pair<E: Numbered + Drop>(alloc: Global, first: Front<E>, second: Front<E>, readers: usize) -> Result<PairWriter<E>, AllocError>
+pub fn untold_pair<E: Numbered + Drop>(
+    alloc: Global,
+    first: Front<E>,
+    second: Front<E>,
+    readers: usize,
+) -> Result<PairWriter<E>, AllocError>
 where
     Front<E>: Absorb<(), State = ()>,
     requires same { second ≡ first }

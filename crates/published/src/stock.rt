@@ -62,7 +62,10 @@ pub type StockPass<E> = Pass<PairReader<E>, Option<Front<E>>>;
 const ATTEMPTS: usize = 64;
 
 /// An empty stock, with room for so many.
-pub fn empty<E: Numbered + Drop>(alloc: Global, room: usize) -> Result<(Stock<E>, StockPass<E>), AllocError>
+pub fn empty<E: Numbered + Drop>(
+    alloc: Global,
+    room: usize,
+) -> Result<(Stock<E>, StockPass<E>), AllocError>
     requires { 0 < room }
     ensures { IfOk result (λ s. IsPassOf s.0 s.1 × (known_by s.1 ≡ None)) }
 {
@@ -70,7 +73,11 @@ pub fn empty<E: Numbered + Drop>(alloc: Global, room: usize) -> Result<(Stock<E>
 }
 
 /// Puts the first reader there, whose history the stock is then of.
-pub fn begin<E: Numbered + Drop>(stock: &Stock<E>, pass: &mut StockPass<E>, reader: PairReader<E>) -> bool
+pub fn begin<E: Numbered + Drop>(
+    stock: &Stock<E>,
+    pass: &mut StockPass<E>,
+    reader: PairReader<E>,
+) -> bool
     requires pass { IsPassOf stock.now pass.old × (known_by pass.old ≡ None) }
     requires reader { AreOfOne (seen_by reader.place) (seen_by reader.place) }
     ensures pass { IsPassOf stock.now pass.new }

@@ -28,10 +28,18 @@ fn sixteen_other_readers(rt: HostRuntime) {
     let alloc = rt.alloc();
     let (mut reader, publisher) = opened(&rt, alloc, 7, 17).expect(&rt, "memory");
     let (first, is_place) = others(alloc, &mut reader, 20).expect(&rt, "memory");
-    is(&rt, (first.len(), reader.refused(), is_place), (16, 4, true));
+    is(
+        &rt,
+        (first.len(), reader.refused(), is_place),
+        (16, 4, true),
+    );
     drop(first);
     let (second, is_place) = others(alloc, &mut reader, 17).expect(&rt, "memory");
-    is(&rt, (second.len(), reader.refused(), is_place), (16, 5, true));
+    is(
+        &rt,
+        (second.len(), reader.refused(), is_place),
+        (16, 5, true),
+    );
     publisher.close(&rt);
     drop(second);
     drop(reader);
@@ -54,7 +62,11 @@ fn the_most_places(rt: HostRuntime) {
     let alloc = rt.alloc();
     let (mut reader, publisher) = opened(&rt, alloc, 7, 4095).expect(&rt, "memory");
     let (all, is_place) = others(alloc, &mut reader, 4095).expect(&rt, "memory");
-    is(&rt, (all.len(), reader.refused(), is_place), (4094, 1, true));
+    is(
+        &rt,
+        (all.len(), reader.refused(), is_place),
+        (4094, 1, true),
+    );
     publisher.close(&rt);
     drop(all);
     drop(reader);
@@ -69,6 +81,11 @@ fn says<R: Abort, T: Display>(rt: &R, alloc: Global, value: &T, wanted: &str) {
 
 #[test]
 fn texts_of_refusals_print(rt: HostRuntime) {
-    says(&rt, rt.alloc(), &ReaderError::NoPlace, "no place for another reader");
+    says(
+        &rt,
+        rt.alloc(),
+        &ReaderError::NoPlace,
+        "no place for another reader",
+    );
     says(&rt, rt.alloc(), &ReaderError::Memory, "out of memory");
 }

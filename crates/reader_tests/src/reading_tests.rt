@@ -69,7 +69,11 @@ fn learnt<R: Wait>(rt: &R, alloc: Global) -> Result<(u64, u64, u64), AllocError>
 
 #[test]
 fn a_receipt_is_learnt(rt: HostRuntime) {
-    is(&rt, learnt(&rt, rt.alloc()).expect(&rt, "memory"), (7, 8, 8));
+    is(
+        &rt,
+        learnt(&rt, rt.alloc()).expect(&rt, "memory"),
+        (7, 8, 8),
+    );
 }
 
 fn receipt_of<R: Wait>(rt: &R, alloc: Global, number: u64) -> Result<Receipt<Entry>, AllocError> {
@@ -88,7 +92,11 @@ fn receipts_of_another_history(rt: HostRuntime) {
     let after_older = reader.read_after(&older).expect(&rt, "memory");
     is(&rt, after_older.number(), 7);
     let after_newer = reader.read_after(&newer).expect(&rt, "memory");
-    is(&rt, (after_newer.number(), after_newer.is_whole()), (9, true));
+    is(
+        &rt,
+        (after_newer.number(), after_newer.is_whole()),
+        (9, true),
+    );
     is(&rt, held_number(&reader), 7);
     publisher.close(&rt);
     drop(after_newer);

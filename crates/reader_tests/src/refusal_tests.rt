@@ -60,7 +60,14 @@ fn another_reader_or_none_in_want_of_memory(rt: HostRuntime) {
     let alloc = rt.alloc();
     let (mut reader, publisher) = opened(&rt, alloc, 7, 2).expect(&rt, "memory");
     let other = reader.another();
-    is(&rt, other.as_ref().err().is_none_or(|refused| *refused == ReaderError::Memory), true);
+    is(
+        &rt,
+        other
+            .as_ref()
+            .err()
+            .is_none_or(|refused| *refused == ReaderError::Memory),
+        true,
+    );
     is(&rt, (held_number(&reader), reader.refused()), (7, 0));
     publisher.close(&rt);
     drop(other);
@@ -73,7 +80,11 @@ fn a_history_opens_or_not_in_want_of_memory(rt: HostRuntime) {
     let Ok((reader, publisher)) = opened(&rt, alloc, 7, 17) else {
         return;
     };
-    is(&rt, (held_number(&reader), publisher.current().number()), (7, 7));
+    is(
+        &rt,
+        (held_number(&reader), publisher.current().number()),
+        (7, 7),
+    );
     publisher.close(&rt);
     drop(reader);
 }

@@ -34,7 +34,11 @@ fn rises(reader: Reader<Entry>) -> bool {
 }
 
 /// The other readers.
-fn others(alloc: Global, reader: &mut Reader<Entry>, count: usize) -> Result<Vec<Reader<Entry>>, AllocError> {
+fn others(
+    alloc: Global,
+    reader: &mut Reader<Entry>,
+    count: usize,
+) -> Result<Vec<Reader<Entry>>, AllocError> {
     let mut others = Vec::new(alloc);
     for _ in 0..count {
         if let Ok(other) = reader.another() {
@@ -80,7 +84,12 @@ fn beside<R: Threads + Wait + Sync>(
     let refreshed = reader.refresh();
     publisher.close(rt);
     refreshed?;
-    Ok((rose, committed, held_number(&reader), others(alloc, &mut reader, 17)?.len()))
+    Ok((
+        rose,
+        committed,
+        held_number(&reader),
+        others(alloc, &mut reader, 17)?.len(),
+    ))
 }
 
 #[test]
@@ -116,7 +125,10 @@ fn rises_under<R: Wait>(rt: &R, reader: &Mutex<AnyReader<Entry>>) -> bool {
     true
 }
 
-fn under_a_lock<R: Threads + Wait + Sync>(rt: &R, alloc: Global) -> Result<(bool, bool, Option<u64>), AllocError> {
+fn under_a_lock<R: Threads + Wait + Sync>(
+    rt: &R,
+    alloc: Global,
+) -> Result<(bool, bool, Option<u64>), AllocError> {
     let (reader, mut publisher) = open_locked(alloc, Entry::new(alloc, FIRST)?, 1)?;
     let reader = Mutex::new(reader);
     let (rose, committed) = join_mut(

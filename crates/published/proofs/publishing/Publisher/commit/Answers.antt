@@ -1,5 +1,5 @@
-use Rattle.std.proofs.Common.{rules, ◌≡◌, ◌++◌, ◌∷◌, List, [], Some, None, sym, ap, subst, ◌∙◌, arith}
-use Rattle.published.specs.Commits.{latest, MayFollow}
+use Rattle.std.proofs.Common.{rules, ◌≡◌, sym, subst, arith}
+use Rattle.published.specs.Commits.{MayFollow}
 use Rattle.published.specs.History.{Past}
 use Rattle.published.proofs.Lists.{length_fits}
 use Rattle.published.proofs.Steps.{goes_on_equal}
