@@ -97,7 +97,10 @@ where
     {
         Ok(Receipt::of(self.front.again()?))
     }
+}
 
+// Without a bound of its own on `Front`: no caller of a method that takes `self` by value under such a bound is covered by the toolchain's borrow checker.
+impl<E: Numbered + Drop> Publisher<E> {
     /// Ends publishing, after which readers keep what they hold. It takes no memory, and waits for readers that are within a call.
     pub fn close<R: Wait>(self, rt: &R) {
         let Publisher {

@@ -1,8 +1,10 @@
 // What one reader sees, learns and holds.
+ghost use Rattle.std.specs.Prelude.{◌≡◌, IfOk};
 
 use crate::common::{Entry, commit_next, held_number, is, opened, read_number};
 use published::{Numbered, Publisher, Reader, Receipt, open, open_locked};
 use std::alloc::{AllocError, Global};
+use std::marker::Model;
 use std::sync::{Arc, Wait};
 
 #[test]
@@ -143,15 +145,23 @@ fn a_reader_without_rt(rt: HostRuntime) {
     drop(reader);
 }
 
-/// An entry whose copies share what it holds.
+/// An entry whose copies share what it holds. Contracts see it as its number.
 #[derive(Drop)]
 struct Shared {
     number: u64,
     held: Arc<u64>,
 }
 
+impl Model for Shared {
+    ghost use Rattle.std.specs.Prelude.{ℕ};
+
+    ghost Value = { ℕ };
+
+    ghost view = { λ s. s.number };
+}
+
 impl Numbered for Shared {
-    ghost number_of = { λ s. s.number };
+    ghost number_of = { λ s. s };
 
     fn number(&self) -> u64 {
         self.number
@@ -160,12 +170,14 @@ impl Numbered for Shared {
     fn again(&self) -> Result<Shared, AllocError> {
         Ok(Shared {
             number: self.number,
-            held: self.held.clone()?,
+            held: Arc::try_clone(&self.held)?,
         })
     }
 }
 
-fn shared_entry(alloc: Global, number: u64) -> Result<Shared, AllocError> {
+fn shared_entry(alloc: Global, number: u64) -> Result<Shared, AllocError>
+    ensures { IfOk result (λ s. s ≡ number) }
+{
     let held = Arc::new(alloc, number)?;
     Ok(Shared { number, held })
 }
