@@ -4,18 +4,27 @@ ghost use Rattle.std.specs.Prelude.{◌≡◌, ◌≤◌, ◌<◌, ◌∷◌, []
 use published::{Numbered, Publisher, Reader, open};
 use std::alloc::{AllocError, Global};
 use std::fmt::Debug;
+use std::marker::Model;
 use std::process::Abort;
 use std::sync::Wait;
 
-/// An entry whose copies take memory. Its octets say its number a second time.
+/// An entry whose copies take memory. Its octets say its number a second time; contracts see it as the number.
 #[derive(Drop)]
 pub(crate) struct Entry {
     number: u64,
     octets: Vec<u8>,
 }
 
+impl Model for Entry {
+    ghost use Rattle.std.specs.Prelude.{ℕ};
+
+    ghost Value = { ℕ };
+
+    ghost view = { λ e. e.number };
+}
+
 impl Numbered for Entry {
-    ghost number_of = { λ e. e.number };
+    ghost number_of = { λ e. e };
 
     fn number(&self) -> u64 {
         self.number
@@ -31,7 +40,7 @@ impl Numbered for Entry {
 
 impl Entry {
     pub(crate) fn new(alloc: Global, number: u64) -> Result<Entry, AllocError>
-        ensures { IfOk result (λ e. e.number ≡ number) }
+        ensures { IfOk result (λ e. e ≡ number) }
     {
         let octets = Vec::from_slice(alloc, number.to_be_bytes().as_slice())?;
         Ok(Entry { number, octets })
