@@ -77,7 +77,9 @@ pub fn look<E: Numbered + Drop>(
     reader: PairReader<E>,
     held: u64,
 ) -> (PairReader<E>, Option<Option<Result<Front<E>, AllocError>>>)
-    ensures { MatchOption result.1 (view result.0.place ≡ view reader.place) (λ found. (x : Past E) × GoesOnFrom (view reader.place) x × (view result.0.place ≡ Some x) × IfSome found (λ f. IfOk f (λ y. y ≡ x))) }
+    ensures { MatchOption result.1
+        (view result.0.place ≡ view reader.place)
+        (λ found. (x : Past E) × GoesOnFrom (view reader.place) x × (view result.0.place ≡ Some x) × IfSome found (λ f. IfOk f (λ y. y ≡ x))) }
 {
     match reader.enter_as::<Looks>() {
         Ok(reading) => {

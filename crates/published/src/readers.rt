@@ -52,7 +52,8 @@ impl<E: Numbered + Drop> Model for Reader<E> {
 
     ghost view = { λ z. record { book = z.front.book; list = z.front.list; last = z.front.last; refused = z.refused } };
 
-    ghost invariant = { λ z. IsThereOf (λ r. seen_by r.place) z.front.book z.reader × IsPassOf (arc_value z.stock) z.pass × IsOf z.front.book (known_by z.pass) };
+    ghost invariant = { λ z. IsThereOf (λ r. seen_by r.place) z.front.book z.reader
+        × IsPassOf (arc_value z.stock) z.pass × IsOf z.front.book (known_by z.pass) };
 }
 
 fn one_more(count: u64) -> u64
