@@ -26,12 +26,15 @@ is_whole xs ys [] e n = sym (append-nil xs) ∙ e
 is_whole xs ys (r ∷ rest) e n = absurd (omega (arith, n, ap length e, length-append xs (r ∷ rest)))
 
 -- the last number follows from the first and the length
-pub last_number : {X : Type 0} (number : X → ℕ) (d : Option X) (c a : X) (xs : List X) → IsNumbered number (c ∷ xs) → last_or d (c ∷ xs) ≡ Some a → number a ≡ number c + length xs
+pub last_number : {X : Type 0} (number : X → ℕ) (d : Option X) (c a : X) (xs : List X)
+    → IsNumbered number (c ∷ xs) → last_or d (c ∷ xs) ≡ Some a → number a ≡ number c + length xs
 last_number number d c a [] h e = let same : c ≡ a = ap (λ o. unwrap_or o c) e in omega (arith, ap number same)
 last_number number d c a (x ∷ xs) h e = omega (arith, h.0, last_number number (Some c) x a xs h.1 e)
 
 -- of two beginnings of one history, the one with the lesser last number begins the other
-pub begins_later : {X : Type 0} (number : X → ℕ) (xs ys zs : List X) (a b : X) → IsPrefix xs zs → IsPrefix ys zs → IsNumbered number xs → IsNumbered number ys → latest xs ≡ Some a → latest ys ≡ Some b → number a ≤ number b → IsPrefix xs ys
+pub begins_later : {X : Type 0} (number : X → ℕ) (xs ys zs : List X) (a b : X)
+    → IsPrefix xs zs → IsPrefix ys zs → IsNumbered number xs → IsNumbered number ys
+    → latest xs ≡ Some a → latest ys ≡ Some b → number a ≤ number b → IsPrefix xs ys
 begins_later number [] ys zs a b p q m n e f le = absurd (cc e)
 begins_later number (x ∷ xs) [] zs a b p q m n e f le = absurd (cc f)
 begins_later number (x ∷ xs) (y ∷ ys) [] a b p q m n e f le = absurd (cc (p.1))
@@ -61,9 +64,15 @@ numbered_begins number (c ∷ []) rest h = tt
 numbered_begins number (c ∷ d ∷ more) rest h = (h.0, numbered_begins number (d ∷ more) rest h.1)
 
 -- what goes on from a beginning ends with no lesser number
-pub begins_no_later : {X : Type 0} (number : X → ℕ) (xs ys : List X) (a b : X) → IsPrefix xs ys → IsNumbered number ys → latest xs ≡ Some a → latest ys ≡ Some b → number a ≤ number b
+pub begins_no_later : {X : Type 0} (number : X → ℕ) (xs ys : List X) (a b : X)
+    → IsPrefix xs ys → IsNumbered number ys → latest xs ≡ Some a → latest ys ≡ Some b → number a ≤ number b
 begins_no_later number [] ys a b p n e f = absurd (cc e)
 begins_no_later number (x ∷ xs) ys a b p n e f =
     let whole : IsNumbered number (x ∷ xs ++ p.0) = subst (IsNumbered number) (sym p.1) n in
     let ends : latest (x ∷ xs ++ p.0) ≡ Some b = subst (λ l. latest l ≡ Some b) (sym p.1) f in
-    omega (arith, last_number number None x a xs (numbered_begins number (x ∷ xs) p.0 whole) e, last_number number None x b (xs ++ p.0) whole ends, length-append xs p.0)
+    omega (
+      arith,
+      last_number number None x a xs (numbered_begins number (x ∷ xs) p.0 whole) e,
+      last_number number None x b (xs ++ p.0) whole ends,
+      length-append xs p.0,
+    )
