@@ -6,13 +6,14 @@ use crate::exchanges::{Primary, at, primary_of};
 use dns_wire::MessageBuf;
 use std::alloc::Global;
 use std::process::Abort;
+use std::sync::Wait;
 use tsig_port::{Key, Time48};
 use xfr_server::{CallResult, ReplyStream, Request, Service, TransportSpecificContext};
 use zone_store::{ReadZone, WriteZone};
 use zone_sync::{SyncError, SyncOk, XfrClient, XfrMode};
 
 /// Brings a session's zone to what the primary at the other end has, whose replies the key signs.
-fn fetch_zone<R>(
+fn fetch_zone<R: Wait>(
     rt: &R,
     connection: &mut Connection,
     session: &mut WriteZone<'_>,
@@ -26,7 +27,7 @@ fn fetch_zone<R>(
 }
 
 /// Sends the request of a client, and gives it the replies.
-fn exchange<R>(
+fn exchange<R: Wait>(
     rt: &R,
     connection: &mut Connection,
     client: &mut XfrClient<'_, '_>,
@@ -57,7 +58,7 @@ struct Connection {
 
 impl Connection {
     /// Sends a request.
-    fn send<R>(&mut self, rt: &R, octets: &[u8]) -> Result<(), SyncError> {
+    fn send<R: Wait>(&mut self, rt: &R, octets: &[u8]) -> Result<(), SyncError> {
         let request = request_of(self.alloc, octets)?;
         let mut items = self.primary.call(rt, self.alloc, request)?;
         let taken = take_items(&mut self.replies, &mut items);

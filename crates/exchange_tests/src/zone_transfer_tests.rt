@@ -11,6 +11,7 @@ use dns_wire::{
 use hex::FromHexError;
 use std::alloc::Global;
 use std::process::Abort;
+use std::sync::Wait;
 use tsig_port::{Key, ServerSequence, Time48, ValidationError};
 use xfr_client::{protocol, update};
 use xfr_server::laws::made_replies_do_not_fail;
@@ -146,7 +147,7 @@ impl Service<Option<Key>> for Sender {
 
     ghost Sends = { λ s request sent. Unit {0} };
 
-    fn call<R>(
+    fn call<R: Wait>(
         &self,
         _rt: &R,
         alloc: Global,

@@ -7,6 +7,7 @@ use dns_numbers::{Class, Rtype, Ttl};
 use dns_rdata::{StoredRecord, record_from_octets};
 use std::alloc::Global;
 use std::process::Abort;
+use std::sync::Wait;
 use zone_store::{EditError, InsertError, NodeCount, ReadZone, WriteZone, ZoneBuilder};
 
 const A: &[u8] = b"\x01a\x07example\x00";
@@ -355,7 +356,7 @@ fn current_of<R: Abort>(rt: &R, session: &mut WriteZone<'_>) -> (u64, bool, bool
 }
 
 /// Whether a commit is made.
-fn commits<R>(rt: &R, session: &mut WriteZone<'_>) -> bool {
+fn commits<R: Wait>(rt: &R, session: &mut WriteZone<'_>) -> bool {
     let told = session.commit(rt, false);
     let is_made = told.is_ok();
     drop(told);

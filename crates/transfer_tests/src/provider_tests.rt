@@ -9,6 +9,7 @@ use dns_rdata::Soa;
 use dns_wire::{Header, MessageBuf, MessageBuilder, Question};
 use std::alloc::Global;
 use std::process::Abort;
+use std::sync::Wait;
 use tsig_port::Key;
 use xfr_server::{
     HistoryProvider, Request, TransportSpecificContext, XfrDataProvider, XfrDataProviderError,
@@ -176,7 +177,7 @@ fn a_serial_that_comes_back(rt: HostRuntime) {
 }
 
 /// How many differences a provider gives, or why it gives nothing.
-fn told<R, M: Drop, X: XfrDataProvider<M>>(
+fn told<R: Wait, M: Drop, X: XfrDataProvider<M>>(
     rt: &R,
     alloc: Global,
     provider: &X,

@@ -16,6 +16,7 @@ use dns_wire::{
 use std::alloc::Global;
 use std::process::Abort;
 use std::str::FromStr;
+use std::sync::Wait;
 use tsig_port::{Algorithm, Key, Time48};
 use xfr_server::laws::made_replies_do_not_fail;
 use xfr_server::{
@@ -90,7 +91,7 @@ impl Service<Option<Key>> for Sender {
 
     ghost Sends = { λ s request sent. Unit {0} };
 
-    fn call<R>(
+    fn call<R: Wait>(
         &self,
         _rt: &R,
         alloc: Global,
@@ -275,7 +276,7 @@ impl Service<Option<Key>> for Large {
 
     ghost Sends = { λ s request sent. Unit {0} };
 
-    fn call<R>(
+    fn call<R: Wait>(
         &self,
         _rt: &R,
         alloc: Global,

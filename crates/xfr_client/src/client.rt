@@ -12,6 +12,7 @@ use crate::exchange::Client;
 use dns_wire::MessageBuf;
 use std::alloc::Global;
 use std::marker::Model;
+use std::sync::Wait;
 use tsig_port::{Key, Time48};
 use xfr_outcomes::{SyncError, SyncOk};
 use xfr_services::XfrMode;
@@ -107,12 +108,12 @@ impl<'s, 'z> XfrClient<'s, 'z> {
     /// Takes a reply: checks its signature, and applies the updates that it says. The outcome, where the transfer ends with it, is
     /// told, and so is a refusal; after either the client isn't open and nothing is pending. `UpToDate` is told where the first reply
     /// to a question for what is newer is one SOA record alone, with the serial that was asked with (RFC 1995, 2); with another serial
-    /// that is `Iteration(SingleSoaIxfrTcpRetrySignal)`. Each version that is committed gives a handle at the end of `made`. Nothing
-    /// waits, so nothing is asked of `rt`.
+    /// that is `Iteration(SingleSoaIxfrTcpRetrySignal)`. Each version that is committed gives a handle at the end of `made`. It may
+    /// wait where it commits.
     ///
     /// `Memory` comes too where the reply adds a record to a set that has as many as it may, which `has_full_set` tells then; that
     /// record isn't added, and what the updates before it committed stays.
-    pub fn take<R>(
+    pub fn take<R: Wait>(
         &mut self,
         rt: &R,
         octets: Vec<u8>,

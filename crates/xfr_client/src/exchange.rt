@@ -34,6 +34,7 @@ use dns_wire::{
 };
 use std::alloc::Global;
 use std::marker::Model;
+use std::sync::Wait;
 use tsig_port::{ClientSequence, Key, Time48};
 use xfr_outcomes::{SyncError, SyncOk, ZoneUpdate, protocol, update};
 use xfr_services::XfrMode;
@@ -175,12 +176,12 @@ impl Client {
     /// Takes a reply: checks its signature, and applies the updates that it says. The outcome, where the transfer ends with it, is
     /// told, and so is a refusal; after either the client isn't open and nothing is pending. `UpToDate` is told where the first reply
     /// to a question for what is newer is one SOA record alone, with the serial that was asked with (RFC 1995, 2); with another serial
-    /// that is `Iteration(SingleSoaIxfrTcpRetrySignal)`. Each version that is committed gives a handle at the end of `made`. Nothing
-    /// waits, so nothing is asked of `rt`.
+    /// that is `Iteration(SingleSoaIxfrTcpRetrySignal)`. Each version that is committed gives a handle at the end of `made`. It may
+    /// wait where it commits.
     ///
     /// `Memory` comes too where the reply adds a record to a set that has as many as it may, which `has_full_set` tells then; that
     /// record isn't added, and what the updates before it committed stays.
-    pub(crate) fn take<R>(
+    pub(crate) fn take<R: Wait>(
         &mut self,
         rt: &R,
         session: &mut WriteZone<'_>,
@@ -235,7 +236,7 @@ impl Client {
 
 impl Exchange {
     /// Takes a reply: its signature, its tests and its updates.
-    fn take<R>(
+    fn take<R: Wait>(
         &mut self,
         rt: &R,
         session: &mut WriteZone<'_>,
@@ -437,7 +438,7 @@ fn push_soa(authority: &mut AuthorityBuilder, zone: &ReadZone) -> Result<(), Pus
 }
 
 /// Applies the updates of one message in order, and adds a handle for each version that they commit.
-fn apply_all<R>(
+fn apply_all<R: Wait>(
     rt: &R,
     session: &mut WriteZone<'_>,
     updater: &mut UpdaterState,
@@ -463,7 +464,7 @@ fn apply_all<R>(
 
 /// Applies one update, and adds a handle for the version that it commits, for which there is room beforehand. What a commit tells isn't
 /// looked at. A record isn't added to a set that has as many as it may.
-fn apply_one<R>(
+fn apply_one<R: Wait>(
     rt: &R,
     session: &mut WriteZone<'_>,
     updater: &mut UpdaterState,

@@ -15,6 +15,7 @@ use dns_rdata::{Record, ZoneRecordData};
 use std::alloc::{AllocError, Global};
 use std::convert::AsSlice;
 use std::marker::Model;
+use std::sync::Wait;
 use xfr_outcomes::ZoneUpdate;
 use xfr_outcomes::update::Error;
 use zone_diffs::InMemoryZoneDiff;
@@ -79,13 +80,13 @@ impl<'s, 'z> ZoneUpdater<'s, 'z> {
 
     /// Applies one update of a record of any names and data. What it commits is published without a new serial, and the difference that the commit
     /// tells is told (RFC 1995, 4), where one was wanted of it: after `BeginBatchDelete` one is wanted of the next commit. None is told of an
-    /// update that commits nothing; `ZoneUpdate::commits` says beforehand which does. Nothing waits, so nothing is asked of `rt`.
+    /// update that commits nothing; `ZoneUpdate::commits` says beforehand which does. It may wait where it commits.
     ///
     /// `Finished` comes after the end and after `IncompatibleUpdate`; after the other refusals the updater goes on.
     /// After `Memory` or `VersionsExhausted` the same update may be applied again; where it was `Finished` the new SOA
     /// may be pending already. An update that lacks both memory and a number is answered by either. Want of memory hides neither `Finished` nor
     /// `NotSoaRecord`; the data of a record are put in memory of their own first, so it may hide the other three.
-    pub fn apply<R, O: AsSlice<u8> + Drop, N: Labelled + Drop>(
+    pub fn apply<R: Wait, O: AsSlice<u8> + Drop, N: Labelled + Drop>(
         &mut self,
         rt: &R,
         update: ZoneUpdate<Record<N, ZoneRecordData<O, N>>>,

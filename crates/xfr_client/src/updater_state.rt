@@ -20,6 +20,7 @@ use dns_rdata::{Record, RecordData, Soa, ZoneRecordData};
 use std::alloc::Global;
 use std::convert::AsSlice;
 use std::marker::Model;
+use std::sync::Wait;
 use xfr_outcomes::ZoneUpdate;
 use xfr_outcomes::update::Error;
 use zone_diffs::InMemoryZoneDiff;
@@ -64,7 +65,7 @@ impl UpdaterState {
 
     /// Applies one update, as `ZoneUpdater::apply` says it.
     #[tactic(auto, using(crate::proofs::Hiding::hides_clear, crate::proofs::Hiding::hides_delete, crate::proofs::Hiding::hides_add, crate::proofs::Hiding::hides_begin, crate::proofs::Hiding::hides_soa, crate::proofs::Hiding::hides_end))]
-    pub(crate) fn apply<R, O: AsSlice<u8> + Drop, N: Labelled + Drop>(
+    pub(crate) fn apply<R: Wait, O: AsSlice<u8> + Drop, N: Labelled + Drop>(
         &mut self,
         rt: &R,
         session: &mut WriteZone<'_>,
@@ -134,7 +135,7 @@ impl UpdaterState {
     }
 
     // What is pending is published, and told is what the commit tells.
-    fn publish<R>(
+    fn publish<R: Wait>(
         &mut self,
         rt: &R,
         session: &mut WriteZone<'_>,
@@ -254,7 +255,7 @@ fn put_data(session: &mut WriteZone<'_>, ttl: Ttl, data: Soa<StoredName>) -> Res
 }
 
 // What is pending is published, and told is what the commit tells.
-fn commit<R>(rt: &R, session: &mut WriteZone<'_>) -> Result<Option<InMemoryZoneDiff>, Error>
+fn commit<R: Wait>(rt: &R, session: &mut WriteZone<'_>) -> Result<Option<InMemoryZoneDiff>, Error>
     ensures ok { OnOk result (session.new ≡ committed session.old false) }
     ensures difference { IfOk result (λ told. told ≡ told_difference session.old false) }
     ensures err { IfErr result (λ e. (session.new ≡ session.old) × (update_fault_of e ≡ None)) }

@@ -13,7 +13,7 @@ use dns_numbers::Serial;
 use dns_wire::Question;
 use std::alloc::{AllocError, Global};
 use std::marker::Model;
-use std::sync::Arc;
+use std::sync::{Arc, Wait};
 use thiserror::Error;
 use tsig_port::{Algorithm, Key, KeyRef};
 use xfr_services::Request;
@@ -173,7 +173,7 @@ pub trait XfrDataProvider<M> {
 
     /// What is sent in answer to this request, of which the requestor has the version of this serial, if any. `rt` is for a provider that
     /// reads a zone, as `Zone::read` takes it. Want of memory is told only where there is an offer, never for a refusal.
-    fn request<R>(
+    fn request<R: Wait>(
         &self,
         rt: &R,
         alloc: Global,
@@ -328,7 +328,7 @@ impl<K: KeyRef> XfrDataProvider<Option<K>> for HistoryProvider {
 
     ghost told = { λ p message key asked. answer_to p (sole_question_in message) (option_map (λ k. key_id (K.the_key k)) key) asked };
 
-    fn request<R>(
+    fn request<R: Wait>(
         &self,
         _rt: &R,
         alloc: Global,

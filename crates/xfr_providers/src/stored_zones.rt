@@ -5,6 +5,7 @@ ghost use Rattle.xfr_providers.specs.Offers.{offer_alone};
 use crate::providers::{XfrData, XfrDataProvider, XfrDataProviderError};
 use dns_numbers::Serial;
 use std::alloc::{AllocError, Global};
+use std::sync::Wait;
 use xfr_services::Request;
 use zone_reads::ReadZone;
 use zone_tree::{AtApex, ZoneTree};
@@ -18,12 +19,12 @@ pub trait StoredZone {
     ghost current: { Self → Version };
 
     /// A read handle of the current version.
-    fn read_current<R>(&self, rt: &R) -> Result<ReadZone, AllocError>
+    fn read_current<R: Wait>(&self, rt: &R) -> Result<ReadZone, AllocError>
         ensures { IfOk result (λ z. z.version ≡ current self.now) };
 }
 
 /// The current version of a zone, without differences.
-pub fn current_data<R, Z: StoredZone>(
+pub fn current_data<R: Wait, Z: StoredZone>(
     rt: &R,
     alloc: Global,
     zone: &Z,
@@ -42,7 +43,7 @@ impl<M, Z: AtApex + StoredZone> XfrDataProvider<M> for ZoneTree<Z> {
 
     ghost told = { λ zones message metadata asked. zones_answer Z.current zones (sole_question_in message) };
 
-    fn request<R>(
+    fn request<R: Wait>(
         &self,
         rt: &R,
         alloc: Global,

@@ -27,9 +27,9 @@ pub fn texts_are_chosen()
 /// A signed request for a transfer that a primary accepts and its provider grants is answered with the whole text, be it the zone, the
 /// differences or the SOA alone: a message for each of its pages, signed one after another.
 pub fn granted_transfers_are_sent<
-    KS: KeyStore + Drop,
-    N: Service<Option<KS::Key>> + Drop,
-    X: XfrDataProvider<Option<KS::Key>> + Drop,
+    KS: KeyStore,
+    N: Service<Option<KS::Key>>,
+    X: XfrDataProvider<Option<KS::Key>>,
 >()
     ensures { (next : N) (provider : X) (keys : KS) (r : RequestOf (Unit {0})) (key : TsigKey) (mode : ModeOf) (serial : ℕ) (offer : Offer) (sent : Option (List Sending))
         → SendsWhole (⟦<PrimaryStack<N, X, KS> as Service<()>>⟧.Sends ((next, provider), keys)) KS.Key.the_key (KS.key_of keys) (X.told provider) r key mode serial offer sent }
@@ -38,9 +38,9 @@ pub fn granted_transfers_are_sent<
 /// A signed request that a primary accepts, by whatever transport: where it asks for a transfer, what is chosen of the provider's offer is told
 /// in messages that are signed one after another; any other is answered by the next service, and its replies are signed.
 pub fn signed_requests_are_answered<
-    KS: KeyStore + Drop,
-    N: Service<Option<KS::Key>> + Drop,
-    X: XfrDataProvider<Option<KS::Key>> + Drop,
+    KS: KeyStore,
+    N: Service<Option<KS::Key>>,
+    X: XfrDataProvider<Option<KS::Key>>,
 >()
     ensures transfers { (next : N) (provider : X) (keys : KS) (r : RequestOf (Unit {0})) (key : TsigKey) (mode : ModeOf) (sent : Option (List Sending))
         → TransferIsAnswered (⟦<PrimaryStack<N, X, KS> as Service<()>>⟧.Sends ((next, provider), keys)) KS.Key.the_key (KS.key_of keys) (X.told provider) r key mode sent }
@@ -62,17 +62,17 @@ pub fn granted_transfers_are_taken()
 /// Above a service that fails only for questions past 65,535 octets, the transfer service fails only for such questions.
 pub fn transfers_fail_where_long<
     M: Default + Drop,
-    N: Service<M> + Drop,
-    X: XfrDataProvider<M> + Drop,
+    N: Service<M>,
+    X: XfrDataProvider<M>,
 >()
     ensures { (next : N) (provider : X) → FailsWhereLong (N.Sends next) → FailsWhereLong (⟦<XfrMiddlewareSvc<N, X> as Service<M>>⟧.Sends (next, provider)) }
 {}
 
 /// So does a primary, but that a signature counts with the questions of a request that it accepts.
 pub fn primaries_fail_where_long<
-    KS: KeyStore + Drop,
-    N: Service<Option<KS::Key>> + Drop,
-    X: XfrDataProvider<Option<KS::Key>> + Drop,
+    KS: KeyStore,
+    N: Service<Option<KS::Key>>,
+    X: XfrDataProvider<Option<KS::Key>>,
 >()
     ensures { (next : N) (provider : X) (keys : KS) → FailsWhereLong (N.Sends next) → (r : RequestOf (Unit {0})) (sent : Option (List Sending))
         → ⟦<PrimaryStack<N, X, KS> as Service<()>>⟧.Sends ((next, provider), keys) r sent → fails sent ≡ true → IsTooLong r (verdict (KS.key_of keys) r.at r.message) }

@@ -20,6 +20,7 @@ use dns_wire::{Message, MessageBuf, PushError, RecordSection};
 use std::alloc::Global;
 use std::cmp::Ordering;
 use std::marker::Model;
+use std::sync::Wait;
 use xfr_providers::{XfrData, XfrDataProvider, XfrDataProviderError};
 use xfr_replies::{TransferReplies, TransferText, are_sendable};
 use xfr_services::{
@@ -36,18 +37,18 @@ const MAX_STREAM_LEN: u16 = 65535;
 
 /// Answers transfer requests from a provider's zones, and hands others on. Contracts see the next service and the provider.
 #[derive(Drop)]
-pub struct XfrMiddlewareSvc<N: Drop, X: Drop> {
+pub struct XfrMiddlewareSvc<N, X> {
     next: N,
     provider: X,
 }
 
-impl<N: Drop, X: Drop> Model for XfrMiddlewareSvc<N, X> {
+impl<N, X> Model for XfrMiddlewareSvc<N, X> {
     ghost Value = { N × X };
 
     ghost view = { λ s. (s.next, s.provider) };
 }
 
-impl<N: Drop, X: Drop> XfrMiddlewareSvc<N, X> {
+impl<N, X> XfrMiddlewareSvc<N, X> {
     /// The service that has other requests answered by the next one.
     pub fn new(next: N, provider: X) -> XfrMiddlewareSvc<N, X>
         ensures { result ≡ (next, provider) }
@@ -90,7 +91,7 @@ impl<S: ReplyStream> ReplyStream for XfrMiddlewareStream<S> {
     }
 }
 
-impl<M: Default + Drop, N: Service<M> + Drop, X: XfrDataProvider<M> + Drop> Service<M>
+impl<M: Default + Drop, N: Service<M>, X: XfrDataProvider<M>> Service<M>
     for XfrMiddlewareSvc<N, X> {
     ghost use Rattle.xfr_server.specs.Items.{Calls};
     ghost use Rattle.xfr_server.specs.Serving.{SendsTransfer};
@@ -101,7 +102,7 @@ impl<M: Default + Drop, N: Service<M> + Drop, X: XfrDataProvider<M> + Drop> Serv
     ghost Sends = { λ s. SendsTransfer M.is_default (N.Sends s.0) (X.told s.1) };
 
     #[tactic(auto, using(crate::proofs::LongRequests::answers_only))]
-    fn call<R>(
+    fn call<R: Wait>(
         &self,
         rt: &R,
         alloc: Global,
@@ -162,7 +163,7 @@ impl Reply {
 }
 
 /// The replies to a transfer request.
-fn answer_transfer<R, M: Drop, X: XfrDataProvider<M>, S: ReplyStream>(
+fn answer_transfer<R: Wait, M: Drop, X: XfrDataProvider<M>, S: ReplyStream>(
     rt: &R,
     alloc: Global,
     provider: &X,
@@ -222,7 +223,7 @@ fn sent_once<S: ReplyStream>(
 }
 
 /// What is sent in answer, by the first test that applies.
-fn choose_reply<R, M, X: XfrDataProvider<M>>(
+fn choose_reply<R: Wait, M, X: XfrDataProvider<M>>(
     rt: &R,
     alloc: Global,
     provider: &X,

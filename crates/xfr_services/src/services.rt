@@ -9,6 +9,7 @@ use dns_wire::{AdditionalBuilder, PushError};
 use std::alloc::{AllocError, Global};
 use std::collections::VecDeque;
 use std::marker::Model;
+use std::sync::Wait;
 use thiserror::Error;
 
 /// What a service tells the one that sends its replies.
@@ -140,7 +141,7 @@ pub trait Service<M> {
     ghost Sends: { Self → RequestOf M → Option (List Sending) → Type 0 };
 
     /// The replies to a request. `rt` is for what reads a zone on the way, as `Zone::read` takes it.
-    fn call<R>(
+    fn call<R: Wait>(
         &self,
         rt: &R,
         alloc: Global,
@@ -231,7 +232,7 @@ impl<M: Drop> Service<M> for RefuseSvc {
     ghost Sends = { λ s request sent. sent ≡ error_sends request.message refused };
 
     #[tactic(auto, using(crate::proofs::LongReplies::refusals_fail))]
-    fn call<R>(&self, _rt: &R, alloc: Global, request: Request<M>) -> Result<Replies, ServiceError>
+    fn call<R: Wait>(&self, _rt: &R, alloc: Global, request: Request<M>) -> Result<Replies, ServiceError>
         ensures calls { Calls (λ sent. sent ≡ error_sends request.message refused) (λ s items. items ≡ all_given s) result }
         ensures failing { Calls (FailsOnlyWhereLong request.message) (λ s items. items ≡ all_given s) result }
     {

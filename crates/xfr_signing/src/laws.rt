@@ -18,7 +18,7 @@ pub fn refusals_fail_where_long()
 
 /// Above a service that fails only for questions past 65,535 octets, the one that checks and signs fails only where the questions, with the
 /// key's TSIG where the request was accepted, pass that as they came, or as they are handed on.
-pub fn signed_replies_fail_where_long<N: Service<Option<KS::Key>> + Drop, KS: KeyStore + Drop>()
+pub fn signed_replies_fail_where_long<N: Service<Option<KS::Key>>, KS: KeyStore>()
     ensures { (next : N) (keys : KS) → FailsWhereLong (N.Sends next) → (r : RequestOf (Unit {0})) (sent : Option (List Sending))
         → ⟦<TsigMiddlewareSvc<N, KS> as Service<()>>⟧.Sends (next, keys) r sent → fails sent ≡ true → IsTooLong r (verdict (KS.key_of keys) r.at r.message) }
 {}

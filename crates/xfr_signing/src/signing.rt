@@ -14,6 +14,7 @@ use crate::refusing::{refusal_reply, tell_short};
 use dns_wire::{AdditionalBuilder, MessageBuf, PushError};
 use std::alloc::Global;
 use std::marker::Model;
+use std::sync::Wait;
 use tsig_port::{KeyRef, KeyStore, ServerSequence, Time48};
 use xfr_services::{
     CallResult, ReplyStream, Request, Service, ServiceError, ServiceFeedback, replies,
@@ -23,18 +24,18 @@ use xfr_services::{
 /// reply that tells its TSIG error (RFC 8945, 5.2; BADTRUNC unsigned), and `InternalError` where that would pass 65,535 octets.
 /// Contracts see the next service and the keys.
 #[derive(Drop)]
-pub struct TsigMiddlewareSvc<S: Drop, KS: Drop> {
+pub struct TsigMiddlewareSvc<S, KS> {
     next: S,
     keys: KS,
 }
 
-impl<S: Drop, KS: Drop> Model for TsigMiddlewareSvc<S, KS> {
+impl<S, KS> Model for TsigMiddlewareSvc<S, KS> {
     ghost Value = { S × KS };
 
     ghost view = { λ s. (s.next, s.keys) };
 }
 
-impl<S: Drop, KS: Drop> TsigMiddlewareSvc<S, KS> {
+impl<S, KS> TsigMiddlewareSvc<S, KS> {
     /// The service that knows these keys and has requests answered by the next one.
     pub fn new(next: S, keys: KS) -> TsigMiddlewareSvc<S, KS>
         ensures { result ≡ (next, keys) }
@@ -245,8 +246,8 @@ impl<K: KeyRef> PostprocessingState<K> {
 
 impl<S, KS> Service<()> for TsigMiddlewareSvc<S, KS>
 where
-    S: Service<Option<KS::Key>> + Drop,
-    KS: KeyStore + Drop,
+    S: Service<Option<KS::Key>>,
+    KS: KeyStore,
 {
     ghost use Rattle.xfr_signing.specs.SignedServing.{SendsChecked};
 
@@ -255,7 +256,7 @@ where
     ghost Sends = { λ s. SendsChecked KS.Key.the_key (KS.key_of s.1) (S.Sends s.0) };
 
     #[tactic(auto, using(crate::proofs::Received::came))]
-    fn call<R>(
+    fn call<R: Wait>(
         &self,
         rt: &R,
         alloc: Global,
@@ -286,11 +287,11 @@ where
 
 impl<S, KS> TsigMiddlewareSvc<S, KS>
 where
-    S: Service<Option<KS::Key>> + Drop,
-    KS: KeyStore + Drop,
+    S: Service<Option<KS::Key>>,
+    KS: KeyStore,
 {
     /// The replies to a request whose signature was accepted.
-    fn call_signed<R>(
+    fn call_signed<R: Wait>(
         &self,
         rt: &R,
         alloc: Global,

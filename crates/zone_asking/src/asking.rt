@@ -25,6 +25,7 @@ use message_frames::laws::octets_are_cut_frame_by_frame;
 use message_frames::reading::read_frame;
 use message_frames::writing::{WriteFrameError, write_frame};
 use std::alloc::Global;
+use std::sync::Wait;
 use tsig_port::{Key, Time48};
 use xfr_client::{MOST_REPLIES, XfrClient};
 use xfr_outcomes::{SyncError, SyncOk};
@@ -40,11 +41,11 @@ const MOST_OCTETS: usize = 65_535;
 /// Brings a zone up to date over a stream each way (RFC 5936, 4.2): what was pending is dropped, the signed request goes to the sink
 /// after its length, and replies are read of the source, each after its length, checked and applied before the next, until the
 /// outcome is met, or a further one would pass a limit. `made` gains a handle of each version that is committed, as they come,
-/// whatever the answer is; nothing is pending afterwards. Nothing waits, so nothing is asked of `rt`; a source or a sink may.
+/// whatever the answer is; nothing is pending afterwards. It may wait where it commits, and for a source or a sink.
 ///
 /// For what is newer alone the request has the first apex SOA of the current version; `Transfer(NoSoa)` where there is none, before
 /// anything is written. `UpToDate` says that the primary has nothing newer. Which answer comes for what is told in docs/ERRORS.md.
-pub fn ask_zone<R, S: Source, K: Sink>(
+pub fn ask_zone<R: Wait, S: Source, K: Sink>(
     rt: &R,
     alloc: Global,
     session: &mut WriteZone<'_>,
@@ -78,7 +79,7 @@ pub fn ask_zone<R, S: Source, K: Sink>(
 
 /// The same, where replies with this id, of an exchange before, are passed over: they aren't checked, and nothing of them is taken.
 /// They count for the limits.
-pub(crate) fn ask_passing_over<R, S: Source, K: Sink>(
+pub(crate) fn ask_passing_over<R: Wait, S: Source, K: Sink>(
     rt: &R,
     alloc: Global,
     session: &mut WriteZone<'_>,
@@ -109,7 +110,7 @@ pub(crate) fn ask_passing_over<R, S: Source, K: Sink>(
 }
 
 /// The same: puts the answer into `told`, and lends the session back.
-fn exchange_and_lend<'s, 'z, R, S: Source, K: Sink>(
+fn exchange_and_lend<'s, 'z, R: Wait, S: Source, K: Sink>(
     rt: &R,
     alloc: Global,
     session: &'s mut WriteZone<'z>,
@@ -160,7 +161,7 @@ fn client_within<'s, 'z>(
 }
 
 /// The request, and what the secondary makes of the replies.
-fn exchange<R, S: Source, K: Sink>(
+fn exchange<R: Wait, S: Source, K: Sink>(
     rt: &R,
     alloc: Global,
     client: &mut XfrClient<'_, '_>,
@@ -201,7 +202,7 @@ fn send_request<K: Sink>(sink: &mut K, octets: &[u8]) -> Result<(), AskError>
 }
 
 /// Takes replies until the outcome is met.
-fn take_replies<R, S: Source>(
+fn take_replies<R: Wait, S: Source>(
     rt: &R,
     alloc: Global,
     client: &mut XfrClient<'_, '_>,

@@ -23,6 +23,7 @@ use crate::limits::{Limit, Limits};
 use crate::retrying::transfer_zone;
 use crate::words::wish_of;
 use std::alloc::{AllocError, Global};
+use std::sync::Wait;
 use tsig_port::Time48;
 use xfr_outcomes::{SyncError, SyncOk};
 use xfr_services::XfrMode;
@@ -34,6 +35,7 @@ use zone_reads::ReadZone;
 use zone_report::report::report_octets;
 use zone_report::{Status, append_answers, append_walk};
 use zone_script::script::{Script, ScriptError, parse};
+use zone_sessions::ZoneApex;
 
 /// The usage line.
 const USAGE: &[u8] =
@@ -66,8 +68,8 @@ impl RunEnd {
 /// Runs the program: reads the script in the file that its words name, where that was opened, brings the zone of its secondary up to date over a source and a
 /// sink, within the limits that the words set, and writes the report to another sink. Of the script the zone, the key, the records of the secondary and the
 /// questions count; the rest of it is read, and tested as ever. The moment, where it is known, is that at which the request is signed and the replies are
-/// checked. Nothing waits, so nothing is asked of `rt`; the streams may.
-pub fn run_secondary<R, F: Source, S: Source, K: Sink, E: Sink>(
+/// checked. It may wait where it commits, and for the streams.
+pub fn run_secondary<R: Wait, F: Source, S: Source, K: Sink, E: Sink>(
     rt: &R,
     alloc: Global,
     words: &[String],
@@ -96,7 +98,7 @@ pub fn run_secondary<R, F: Source, S: Source, K: Sink, E: Sink>(
 }
 
 /// The same of words that ask for a transfer.
-fn run_wish<R, F: Source, S: Source, K: Sink, E: Sink>(
+fn run_wish<R: Wait, F: Source, S: Source, K: Sink, E: Sink>(
     rt: &R,
     alloc: Global,
     mode: XfrMode,
@@ -122,7 +124,7 @@ fn run_wish<R, F: Source, S: Source, K: Sink, E: Sink>(
 }
 
 /// The same of a file that was opened.
-fn run_at<R, F: Source, S: Source, K: Sink, E: Sink>(
+fn run_at<R: Wait, F: Source, S: Source, K: Sink, E: Sink>(
     rt: &R,
     alloc: Global,
     mode: XfrMode,
@@ -156,7 +158,7 @@ fn notify<E: Sink>(report: &mut E, notice: &[u8], end: RunEnd) -> RunEnd
 }
 
 /// Reads the script, makes the transfer of this kind, and writes the report.
-fn run_mode<R, F: Source, S: Source, K: Sink, E: Sink>(
+fn run_mode<R: Wait, F: Source, S: Source, K: Sink, E: Sink>(
     rt: &R,
     alloc: Global,
     mode: XfrMode,
@@ -208,7 +210,7 @@ fn write_last<E: Sink>(report: &mut E, octets: &[u8], status: Status) -> Status
 }
 
 /// Reads a script and runs it.
-fn run_script<R, S: Source, K: Sink, E: Sink>(
+fn run_script<R: Wait, S: Source, K: Sink, E: Sink>(
     rt: &R,
     alloc: Global,
     mode: XfrMode,
@@ -251,7 +253,7 @@ fn write_bad_line<E: Sink>(alloc: Global, report: &mut E, number: u64) -> Status
 }
 
 /// Makes the transfer, and writes the report.
-fn run_transfer<R, S: Source, K: Sink, E: Sink>(
+fn run_transfer<R: Wait, S: Source, K: Sink, E: Sink>(
     rt: &R,
     alloc: Global,
     mode: XfrMode,
@@ -354,7 +356,7 @@ fn limit_report(
 }
 
 /// Makes the transfer of a script's secondary; what is to be written, and the status.
-fn transfer<R, S: Source, K: Sink>(
+fn transfer<R: Wait, S: Source, K: Sink>(
     rt: &R,
     alloc: Global,
     mode: XfrMode,
@@ -383,7 +385,7 @@ fn transfer<R, S: Source, K: Sink>(
     drop(opening);
     drop(commits);
     let mut made = Vec::new(alloc);
-    let mut zone = secondary;
+    let mut zone = ZoneApex::of(secondary);
     let mut session = zone.write(alloc);
     let answer = transfer_zone(
         rt,

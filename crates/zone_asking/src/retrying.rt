@@ -13,6 +13,7 @@ use crate::errors::AskError;
 use crate::limits::Limits;
 use dns_numbers::Rcode;
 use std::alloc::Global;
+use std::sync::Wait;
 use tsig_port::{Key, Time48};
 use xfr_outcomes::protocol::IterationError;
 use xfr_outcomes::{SyncError, SyncOk};
@@ -26,7 +27,7 @@ use zone_sessions::WriteZone;
 /// record alone with another serial (RFC 1995, 4), or by FORMERR, NOTIMP or REFUSED in a signed reply, the whole zone is asked for
 /// over the same streams, in a second exchange that begins with nothing pending. It is signed for the next moment, so that its request
 /// has another id, and passes over what comes with the first one's. What the first one committed stays; each has the limits for itself.
-pub fn transfer_zone<R, S: Source, K: Sink>(
+pub fn transfer_zone<R: Wait, S: Source, K: Sink>(
     rt: &R,
     alloc: Global,
     session: &mut WriteZone<'_>,

@@ -12,7 +12,8 @@ use crate::records::{apex, host_record, ns, soa};
 use dns_numbers::Class;
 use dns_rdata::StoredRecord;
 use std::alloc::{AllocError, Global};
-use zone_sessions::{InsertError, ZoneApex, ZoneBuilder};
+use zone_reads::ReadZone;
+use zone_sessions::{InsertError, ZoneBuilder};
 
 /// Puts a record that the zone can't refuse: its owner is the apex or below it, and it is no alias.
 fn put(builder: &mut ZoneBuilder, added: StoredRecord) -> Result<(), AllocError>
@@ -63,14 +64,14 @@ fn put_all(
     put_hosts(alloc, builder, count, drawn)
 }
 
-/// The zone of those records.
-fn zone_of(alloc: Global, count: u32, drawn: &[u64]) -> Result<ZoneApex, AllocError>
+/// The version of those records.
+fn zone_of(alloc: Global, count: u32, drawn: &[u64]) -> Result<ReadZone, AllocError>
     requires { 1 ≤ count }
     ensures { IfOk result (λ z. z ≡ record { number = 0; version = close (fold opened_with generated.empty (soa_record ∷ ns_record ∷ map (generated.host_record count) drawn.now)) }) }
 {
     let mut builder = ZoneBuilder::new(alloc, apex(alloc)?, Class::IN);
     match put_all(alloc, &mut builder, count, drawn) {
-        Ok(()) => builder.build(),
+        Ok(()) => builder.into_read(0),
         Err(error) => {
             drop(builder);
             Err(error)
@@ -78,9 +79,9 @@ fn zone_of(alloc: Global, count: u32, drawn: &[u64]) -> Result<ZoneApex, AllocEr
     }
 }
 
-/// The zone `example.` of so many draws after the seed, its version numbered 0: an SOA and an NS record at the apex, and the A record of each draw's
+/// The version of the zone `example.` of so many draws after the seed, numbered 0: an SOA and an NS record at the apex, and the A record of each draw's
 /// host. Equal records count once. The hosts are put in the order of their owners.
-pub fn generated(alloc: Global, count: u32, seed: u64) -> Result<ZoneApex, AllocError>
+pub fn generated(alloc: Global, count: u32, seed: u64) -> Result<ReadZone, AllocError>
     requires { 1 ≤ count }
     ensures { IfOk result (λ z. z ≡ record { number = 0; version = generated.generated count seed }) }
 {
@@ -90,9 +91,9 @@ pub fn generated(alloc: Global, count: u32, seed: u64) -> Result<ZoneApex, Alloc
     zone
 }
 
-/// The zone before it has records, its version numbered 0.
-pub fn empty(alloc: Global) -> Result<ZoneApex, AllocError>
+/// The version of that zone before it has records, numbered 0.
+pub fn empty(alloc: Global) -> Result<ReadZone, AllocError>
     ensures { IfOk result (λ z. z ≡ record { number = 0; version = generated.empty }) }
 {
-    ZoneApex::new(alloc, apex(alloc)?, Class::IN)
+    ZoneBuilder::new(alloc, apex(alloc)?, Class::IN).into_read(0)
 }

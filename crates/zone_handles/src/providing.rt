@@ -7,6 +7,7 @@ use dns_name::{ParsedName, ToName};
 use dns_numbers::Serial;
 use dns_wire::Question;
 use std::alloc::{AllocError, Global};
+use std::sync::Wait;
 use xfr_providers::{StoredZone, XfrData, XfrDataProvider, XfrDataProviderError, current_data};
 use xfr_services::Request;
 use zone_reads::ReadZone;
@@ -15,7 +16,7 @@ use zone_sessions::ZoneApex;
 impl StoredZone for Zone<ZoneApex> {
     ghost current = { λ z. z.version };
 
-    fn read_current<R>(&self, rt: &R) -> Result<ReadZone, AllocError> {
+    fn read_current<R: Wait>(&self, rt: &R) -> Result<ReadZone, AllocError> {
         self.read(rt)
     }
 }
@@ -37,7 +38,7 @@ impl<M> XfrDataProvider<M> for Zone<ZoneApex> {
 
     ghost told = { λ z message metadata asked. zone_answer z.version (sole_question_in message) };
 
-    fn request<R>(
+    fn request<R: Wait>(
         &self,
         rt: &R,
         alloc: Global,

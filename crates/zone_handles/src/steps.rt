@@ -11,6 +11,7 @@ use crate::zone_edits::{ZoneEdit, make_edit};
 use dns_name::ToName;
 use dns_numbers::Rtype;
 use std::alloc::{AllocError, Global};
+use std::sync::Wait;
 use zone_lookup::{AnswerRef, look_up};
 use zone_reads::ReadZone;
 use zone_sessions::{CommitError, WriteZone};
@@ -34,9 +35,8 @@ pub enum Step {
     Copy(usize),
 }
 
-/// Makes a step. It is refused where memory or version numbers run out, and nothing has happened then. Nothing waits, so nothing is asked
-/// of `rt`.
-pub fn make_step<'z, R>(
+/// Makes a step. It is refused where memory or version numbers run out, and nothing has happened then. It may wait where it commits.
+pub fn make_step<'z, R: Wait>(
     rt: &R,
     alloc: Global,
     session: WriteZone<'z>,
@@ -82,7 +82,7 @@ pub fn make_step<'z, R>(
 }
 
 /// Makes steps in turn, up to the first that is refused for want of memory or of version numbers, and tells how many were made.
-pub fn make_steps<'z, R>(
+pub fn make_steps<'z, R: Wait>(
     rt: &R,
     alloc: Global,
     session: WriteZone<'z>,
@@ -151,7 +151,7 @@ fn open_and_lend<'s, 'z>(session: &'s mut WriteZone<'z>, create_diff: bool) -> &
 }
 
 /// Commits.
-fn commit<R>(rt: &R, session: &mut WriteZone<'_>, bumps: bool) -> Result<(), CommitError>
+fn commit<R: Wait>(rt: &R, session: &mut WriteZone<'_>, bumps: bool) -> Result<(), CommitError>
     ensures made { OnOk result ((handles : CommitList) → Leads (events_of (Step.Commit bumps)) session.old handles session.new handles) }
     ensures err { OnErr result (session.new ≡ session.old) }
     ensures wish { OnOk result (session.new.compares ≡ false) }
@@ -162,7 +162,7 @@ fn commit<R>(rt: &R, session: &mut WriteZone<'_>, bumps: bool) -> Result<(), Com
 }
 
 /// Commits, and keeps no difference.
-fn publish<R>(rt: &R, session: &mut WriteZone<'_>, bumps: bool) -> Result<(), CommitError>
+fn publish<R: Wait>(rt: &R, session: &mut WriteZone<'_>, bumps: bool) -> Result<(), CommitError>
     ensures ok { OnOk result (session.new ≡ committed session.old bumps) }
     ensures err { OnErr result (session.new ≡ session.old) }
     ensures exhausted { (result ≡ Err CommitError.VersionsExhausted) ↔ (session.old.current.number ≡ 2 ^ 64 - 1) }

@@ -6,6 +6,7 @@ use dns_name::StoredName;
 use dns_numbers::Class;
 use std::alloc::{AllocError, Global};
 use std::marker::Model;
+use std::sync::Wait;
 use zone_reads::ReadZone;
 use zone_sessions::{WriteZone, ZoneApex};
 use zone_tree::AtApex;
@@ -38,8 +39,8 @@ pub trait ZoneStore {
         ensures is { result.now ≡ apex_of self.now }
         ensures given { (c : Commit) → MayGive self.now c → c.version.apex ≡ result.now };
 
-    /// A read handle. It doesn't wait, so nothing is asked of `rt`.
-    fn read<R>(&self, rt: &R) -> Result<Self::Read, AllocError>
+    /// A read handle. A store under a lock may wait for it.
+    fn read<R: Wait>(&self, rt: &R) -> Result<Self::Read, AllocError>
         ensures { IfOk result (λ z. MayGive self.now (Self.Read.commit_of z)) };
 }
 
@@ -63,24 +64,24 @@ impl ZoneStore for ZoneApex {
         self.name()
     }
 
-    fn read<R>(&self, rt: &R) -> Result<ReadZone, AllocError> {
+    fn read<R: Wait>(&self, rt: &R) -> Result<ReadZone, AllocError> {
         ZoneApex::read(self, rt)
     }
 }
 
 /// A zone, whatever keeps it.
 #[derive(Drop)]
-pub struct Zone<S: ZoneStore + Drop> {
+pub struct Zone<S: ZoneStore> {
     store: S,
 }
 
-impl<S: ZoneStore + Drop> Model for Zone<S> {
+impl<S: ZoneStore> Model for Zone<S> {
     ghost Value = { S };
 
     ghost view = { λ z. z.store };
 }
 
-impl<S: ZoneStore + Drop> Zone<S> {
+impl<S: ZoneStore> Zone<S> {
     /// The zone that is kept so.
     pub fn new(store: S) -> Zone<S>
         ensures { result ≡ store }
@@ -103,7 +104,7 @@ impl<S: ZoneStore + Drop> Zone<S> {
     }
 }
 
-impl<S: ZoneStore + Drop> AsRef<S> for Zone<S> {
+impl<S: ZoneStore> AsRef<S> for Zone<S> {
     /// What keeps the zone, as `store` lends it.
     fn as_ref(&self) -> &S
         ensures { result.now ≡ self.now }
@@ -112,7 +113,7 @@ impl<S: ZoneStore + Drop> AsRef<S> for Zone<S> {
     }
 }
 
-impl<S: ZoneStore + Drop> ZoneStore for Zone<S> {
+impl<S: ZoneStore> ZoneStore for Zone<S> {
     type Read = S::Read;
 
     ghost MayGive = { S.MayGive };
@@ -129,13 +130,13 @@ impl<S: ZoneStore + Drop> ZoneStore for Zone<S> {
         self.store.apex_name()
     }
 
-    fn read<R>(&self, rt: &R) -> Result<S::Read, AllocError> {
+    fn read<R: Wait>(&self, rt: &R) -> Result<S::Read, AllocError> {
         self.store.read(rt)
     }
 }
 
 /// A zone stands in a tree of zones by its class and apex.
-impl<S: ZoneStore + Drop> AtApex for Zone<S> {
+impl<S: ZoneStore> AtApex for Zone<S> {
     ghost use Rattle.std.specs.Prelude.{◌≡◌};
 
     ghost class_of = { S.class_of };

@@ -9,6 +9,7 @@ use crate::errors::PrimaryError;
 use crate::making::Primary;
 use crate::running::run_primary;
 use std::alloc::Global;
+use std::sync::Wait;
 use tsig_port::Time48;
 use xfr_services::Service;
 use zone_devices::sinks::Sink;
@@ -26,7 +27,7 @@ pub fn file_of(words: &[String]) -> Option<&String>
 }
 
 /// Runs the program, as `run_primary`: its one word names the script's file, which was opened or wasn't, and the moment is known or isn't.
-pub fn run_words<R, F: Source, S: Source, K: Sink>(
+pub fn run_words<R: Wait, F: Source, S: Source, K: Sink>(
     rt: &R,
     alloc: Global,
     words: &[String],
@@ -52,7 +53,7 @@ pub fn run_words<R, F: Source, S: Source, K: Sink>(
 }
 
 /// The same where the words are one.
-fn run_opened<R, F: Source, S: Source, K: Sink>(
+fn run_opened<R: Wait, F: Source, S: Source, K: Sink>(
     rt: &R,
     alloc: Global,
     opened: bool,
@@ -75,7 +76,7 @@ fn run_opened<R, F: Source, S: Source, K: Sink>(
 }
 
 /// The same of a file that was opened.
-fn run_at<R, F: Source, S: Source, K: Sink>(
+fn run_at<R: Wait, F: Source, S: Source, K: Sink>(
     rt: &R,
     alloc: Global,
     script: &mut F,

@@ -8,6 +8,7 @@ ghost use Rattle.zone_primary_run.specs.PrimaryRuns.{IsRefusedAsLong, MakesPrima
 use crate::errors::PrimaryError;
 use crate::making::{Primary, primary_of};
 use std::alloc::{AllocError, Global};
+use std::sync::Wait;
 use tsig_port::Time48;
 use xfr_services::Service;
 use zone_devices::read_to_end::read_whole;
@@ -17,9 +18,9 @@ use zone_script::script::{Script, parse};
 use zone_serving::{ServeError, Served, serve_stream};
 
 /// Reads a script, and has its primary serve a stream of requests to its end, at this moment: of the script its zone, the history and the key count
-/// (docs/SCRIPT.md); what concerns the secondary alone is read and left. Nothing waits, so nothing is asked of `rt`.
+/// (docs/SCRIPT.md); what concerns the secondary alone is read and left. It may wait where it reads a zone, and for the streams.
 #[tactic(auto, using(crate::proofs::Runs::not_read, crate::proofs::Runs::refused_as_long))]
-pub fn run_primary<R, F: Source, S: Source, K: Sink>(
+pub fn run_primary<R: Wait, F: Source, S: Source, K: Sink>(
     rt: &R,
     alloc: Global,
     script: &mut F,
@@ -45,7 +46,7 @@ pub fn run_primary<R, F: Source, S: Source, K: Sink>(
 }
 
 /// Has the primary of a text that is a script serve a stream.
-fn serve_text<R, S: Source, K: Sink>(
+fn serve_text<R: Wait, S: Source, K: Sink>(
     rt: &R,
     alloc: Global,
     text: Vec<u8>,
@@ -67,7 +68,7 @@ fn serve_text<R, S: Source, K: Sink>(
 }
 
 /// The primary of a text that is a script.
-fn read_primary<R>(rt: &R, alloc: Global, text: &[u8]) -> Result<Primary, PrimaryError>
+fn read_primary<R: Wait>(rt: &R, alloc: Global, text: &[u8]) -> Result<Primary, PrimaryError>
     ensures { MakesPrimary text.now result }
 {
     let script = parse(rt, alloc, text)?;

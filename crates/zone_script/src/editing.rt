@@ -18,6 +18,7 @@ use dns_name::StoredName;
 use dns_numbers::{Class, Rtype};
 use dns_rdata::StoredRecord;
 use std::alloc::{AllocError, Global};
+use std::sync::Wait;
 use zone_diffs::InMemoryZoneDiff;
 use zone_lookup::Queries;
 use zone_sessions::{CommitError, EditError, WriteZone};
@@ -45,7 +46,7 @@ impl Editing {
     }
 
     /// Reads the line of this number. There are fewer commits than lines, so their numbers don't run out.
-    fn read<R>(
+    fn read<R: Wait>(
         &mut self,
         rt: &R,
         alloc: Global,
@@ -68,7 +69,7 @@ impl Editing {
     }
 
     /// Takes a line where it may stand.
-    fn take<R>(
+    fn take<R: Wait>(
         &mut self,
         rt: &R,
         session: &mut WriteZone<'_>,
@@ -109,7 +110,7 @@ impl Editing {
     }
 
     /// Makes an edit where it may come.
-    fn take_change<R>(
+    fn take_change<R: Wait>(
         &mut self,
         rt: &R,
         session: &mut WriteZone<'_>,
@@ -129,7 +130,7 @@ impl Editing {
     }
 
     /// Makes an edit.
-    fn make_change<R>(
+    fn make_change<R: Wait>(
         &mut self,
         rt: &R,
         session: &mut WriteZone<'_>,
@@ -149,7 +150,7 @@ impl Editing {
     }
 
     /// Publishes what is pending, and keeps the version with its difference from the one before.
-    fn commit<R>(
+    fn commit<R: Wait>(
         &mut self,
         rt: &R,
         session: &mut WriteZone<'_>,
@@ -219,7 +220,7 @@ fn late<T: Drop>(line: T, number: u64) -> Result<(), ScriptError>
 
 /// Publishes what is pending, and tells the difference. The session is asked for it each time, since its wish ends with a commit.
 #[tactic(auto, using(crate::proofs::EditCauses::told_is))]
-fn publish<R>(
+fn publish<R: Wait>(
     rt: &R,
     session: &mut WriteZone<'_>,
     number: u64,
@@ -249,7 +250,7 @@ fn cause_of(number: u64, refused: EditError) -> ScriptError
 }
 
 /// Reads lines, the first of which has this number.
-pub(crate) fn read_rest<R>(
+pub(crate) fn read_rest<R: Wait>(
     rt: &R,
     alloc: Global,
     session: &mut WriteZone<'_>,

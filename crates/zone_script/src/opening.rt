@@ -8,8 +8,9 @@ use dns_name::StoredName;
 use dns_numbers::Class;
 use dns_rdata::StoredRecord;
 use std::alloc::Global;
+use zone_reads::ReadZone;
 use zone_records::{FileError, Zonefile};
-use zone_sessions::{ZoneApex, ZoneBuilder};
+use zone_sessions::ZoneBuilder;
 use zone_values::RecordError;
 
 /// A zone as its opening records are read.
@@ -55,14 +56,14 @@ impl OpeningZone {
         self.file.class()
     }
 
-    /// The zone with these records as its version 0; the line of the last one, where they make no zone.
-    pub(crate) fn build(self) -> Result<ZoneApex, ScriptError>
+    /// The version of these records, numbered 0; the line of the last one, where they make no zone.
+    pub(crate) fn build(self) -> Result<ReadZone, ScriptError>
         ensures ok { IfOk result (λ z. (z ≡ keeping.commit_of self) × (keeping.refusal self ≡ None)) }
         ensures bad { IfErr result (λ e. IfSome (line_in e) (λ n. keeping.refusal self ≡ Some n)) }
     {
         let number = self.last_line;
         match ZoneBuilder::try_from(self.file) {
-            Ok(builder) => Ok(builder.build()?),
+            Ok(builder) => Ok(builder.into_read(0)?),
             Err(FileError::Memory) => Err(ScriptError::Memory),
             Err(FileError::Errors(faults)) => {
                 drop(faults);

@@ -14,7 +14,7 @@ use dns_numbers::Class;
 use dns_rdata::StoredRecord;
 use std::alloc::{AllocError, Global};
 use tsig_port::{Key, Time48};
-use zone_sessions::ZoneApex;
+use zone_reads::ReadZone;
 
 /// The two zones as they are read.
 #[derive(Drop)]
@@ -82,8 +82,8 @@ pub(crate) struct Opened {
     pub(crate) key: Key,
     pub(crate) at_primary: Time48,
     pub(crate) at_secondary: Time48,
-    pub(crate) primary: ZoneApex,
-    pub(crate) secondary: ZoneApex,
+    pub(crate) primary: ReadZone,
+    pub(crate) secondary: ReadZone,
 }
 
 impl Reading {

@@ -13,6 +13,7 @@ use crate::editing::{Editing, read_rest};
 use crate::lines::next_line;
 use crate::reading::{Opened, Reading};
 use std::alloc::{AllocError, Global};
+use std::sync::Wait;
 use thiserror::Error;
 use tsig_port::{Key, Time48};
 use zone_lookup::Queries;
@@ -33,8 +34,8 @@ pub struct Script {
     pub opening: ReadZone,
     /// The versions that the primary's zone gets after it.
     pub commits: Commits,
-    /// The secondary's zone, of the same apex and class.
-    pub secondary: ZoneApex,
+    /// The version with which the secondary's zone opens, of the same apex and class.
+    pub secondary: ReadZone,
     /// The questions to the secondary's zone after the transfer.
     pub queries: Queries,
 }
@@ -61,8 +62,8 @@ impl From<AllocError> for ScriptError {
     }
 }
 
-/// Reads a script, as docs/SCRIPT.md says. The answer `Line` has the number of its first bad line. Nothing waits, so nothing is asked of `rt`.
-pub fn parse<R>(rt: &R, alloc: Global, text: &[u8]) -> Result<Script, ScriptError>
+/// Reads a script, as docs/SCRIPT.md says. The answer `Line` has the number of its first bad line.
+pub fn parse<R: Wait>(rt: &R, alloc: Global, text: &[u8]) -> Result<Script, ScriptError>
     // What is read is what the definition says.
     ensures ok { IfOk result (λ s. (t : scripts.Script TsigKey) × (scripts.script_of wire_readers text.now ≡ Ok t) × Gives t s) }
     // A line is named exactly where the definition names it, but for want of memory.
@@ -92,7 +93,7 @@ pub fn parse<R>(rt: &R, alloc: Global, text: &[u8]) -> Result<Script, ScriptErro
 }
 
 /// Opens the zones, and reads the edits and questions, which begin at the line of this number.
-fn finish<R>(
+fn finish<R: Wait>(
     rt: &R,
     alloc: Global,
     reading: Reading,
@@ -111,7 +112,7 @@ fn finish<R>(
 }
 
 /// Reads the edits and questions, which begin at the line of this number.
-fn read_on<R>(
+fn read_on<R: Wait>(
     rt: &R,
     alloc: Global,
     opened: Opened,
@@ -149,10 +150,10 @@ fn read_on<R>(
 }
 
 /// The opening version of the primary's zone, and what the edits and questions say, which begin at the line of this number.
-fn read_edits<R>(
+fn read_edits<R: Wait>(
     rt: &R,
     alloc: Global,
-    primary: ZoneApex,
+    primary: ReadZone,
     number: u64,
     rest: &[u8],
 ) -> Result<(ReadZone, Editing), ScriptError>
@@ -162,14 +163,14 @@ fn read_edits<R>(
     ensures ok { IfOk result (λ r. keeping.read_edits primary number (script_lines rest.now) ≡ Ok r.1) }
     ensures bad { IfErr result (λ e. IfSome (line_in e) (λ n. keeping.read_edits primary number (script_lines rest.now) ≡ Err n)) }
 {
-    let mut zone = primary;
+    let mut zone = ZoneApex::of(primary);
     let told = edit_zone(rt, alloc, &mut zone, number, rest);
     drop(zone);
     told
 }
 
 /// The same of a zone that is lent.
-fn edit_zone<R>(
+fn edit_zone<R: Wait>(
     rt: &R,
     alloc: Global,
     zone: &mut ZoneApex,

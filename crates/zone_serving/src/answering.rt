@@ -12,6 +12,7 @@ use dns_numbers::{Opcode, Rcode};
 use dns_wire::{AdditionalBuilder, Message, MessageBuf, Question};
 use std::alloc::{AllocError, Global};
 use std::marker::Model;
+use std::sync::Wait;
 use xfr_providers::StoredZone;
 use xfr_services::{Replies, Request, Service, ServiceError, TransportSpecificContext, replies};
 use zone_lookup::{Answer, AnswerRef, OutOfZone, look_up};
@@ -29,17 +30,17 @@ const MAX_STREAM_LEN: u16 = 65535;
 /// but a response gets no reply. A reply leaves the octets free that the request reserves, for its signature; where the records have no room, it says so
 /// by TC (RFC 2181, 9). Questions for a transfer are `XfrMiddlewareSvc`'s, and don't come here from there. Contracts see the zone.
 #[derive(Drop)]
-pub struct ZoneQueries<Z: Drop> {
+pub struct ZoneQueries<Z> {
     zone: Z,
 }
 
-impl<Z: Drop> Model for ZoneQueries<Z> {
+impl<Z> Model for ZoneQueries<Z> {
     ghost Value = { Z };
 
     ghost view = { λ s. s.zone };
 }
 
-impl<Z: Drop> ZoneQueries<Z> {
+impl<Z> ZoneQueries<Z> {
     /// The service that answers from this zone.
     pub fn new(zone: Z) -> ZoneQueries<Z>
         ensures { result ≡ zone }
@@ -55,7 +56,7 @@ impl<Z: Drop> ZoneQueries<Z> {
     }
 }
 
-impl<M: Drop, Z: StoredZone + Drop> Service<M> for ZoneQueries<Z> {
+impl<M: Drop, Z: StoredZone> Service<M> for ZoneQueries<Z> {
     ghost use Rattle.std.specs.Prelude.{◌≡◌, false, Err};
     ghost use Rattle.dns_wire.specs.Wire.{header_in};
     ghost use Rattle.xfr_services.specs.Items.{Calls, all_given};
@@ -68,7 +69,7 @@ impl<M: Drop, Z: StoredZone + Drop> Service<M> for ZoneQueries<Z> {
     ghost Sends = { λ s request sent. sent ≡ query_sends (Z.current s) request };
 
     /// Want of memory is told only where there is a reply to make: a response has none.
-    fn call<R>(&self, rt: &R, alloc: Global, request: Request<M>) -> Result<Replies, ServiceError>
+    fn call<R: Wait>(&self, rt: &R, alloc: Global, request: Request<M>) -> Result<Replies, ServiceError>
         ensures calls { Calls (λ sent. sent ≡ query_sends (Z.current self.now) request) (λ s items. items ≡ all_given s) result }
         ensures failing { Calls (FailsOnlyWhereLong request.message) (λ s items. items ≡ all_given s) result }
         ensures memory { result ≡ Err Memory → (header_in request.message).qr ≡ false }
@@ -90,7 +91,7 @@ fn room(transport: TransportSpecificContext, reserved: u16) -> usize
 }
 
 /// The replies to a message.
-fn answer<R, Z: StoredZone>(
+fn answer<R: Wait, Z: StoredZone>(
     rt: &R,
     alloc: Global,
     zone: &Z,
@@ -114,7 +115,7 @@ fn answer<R, Z: StoredZone>(
 }
 
 /// The reply to a request's one question: what the zone's current version has for it, or REFUSED.
-fn answer_question<R, Z: StoredZone>(
+fn answer_question<R: Wait, Z: StoredZone>(
     rt: &R,
     alloc: Global,
     zone: &Z,

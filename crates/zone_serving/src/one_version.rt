@@ -3,6 +3,7 @@ ghost use Rattle.std.specs.Prelude.{◌≡◌, IfOk};
 
 use std::alloc::AllocError;
 use std::marker::Model;
+use std::sync::Wait;
 use xfr_providers::StoredZone;
 use zone_reads::ReadZone;
 
@@ -32,7 +33,7 @@ impl OneVersion {
 impl StoredZone for OneVersion {
     ghost current = { λ z. z };
 
-    fn read_current<R>(&self, _rt: &R) -> Result<ReadZone, AllocError> {
+    fn read_current<R: Wait>(&self, _rt: &R) -> Result<ReadZone, AllocError> {
         self.handle.clone()
     }
 }

@@ -10,6 +10,7 @@ use message_frames::laws::octets_are_cut_frame_by_frame;
 use message_frames::reading::read_frame;
 use message_frames::writing::write_frame;
 use std::alloc::Global;
+use std::sync::Wait;
 use tsig_port::Time48;
 use xfr_services::{ReplyStream, Request, Service, TransportSpecificContext};
 use zone_devices::sinks::Sink;
@@ -27,11 +28,11 @@ pub struct Served {
 
 /// Serves a stream of requests to its end: each is read as a frame, asked of the service as one that came by a stream at this moment, and each
 /// reply to it is written as a frame before the next request is read (RFC 1035, 4.2.2; RFC 7766, 6.2.1). Nothing is written that isn't a reply to the
-/// request that was read last, and nothing is read behind that. Nothing waits, so nothing is asked of `rt`.
+/// request that was read last, and nothing is read behind that. It may wait where the primary reads its zone, and for the streams.
 ///
 /// A stream ends well at the end of a frame. A request without a header of 12 octets ends it with `Short`: no reply could have its id, and what
 /// sends that speaks no DNS.
-pub fn serve_stream<R, S: Source, K: Sink, P: Service<()>>(
+pub fn serve_stream<R: Wait, S: Source, K: Sink, P: Service<()>>(
     rt: &R,
     alloc: Global,
     primary: &P,
@@ -62,7 +63,7 @@ pub fn serve_stream<R, S: Source, K: Sink, P: Service<()>>(
 }
 
 /// Reads the next request and answers it; whether there was one.
-fn serve_next<R, S: Source, K: Sink, P: Service<()>>(
+fn serve_next<R: Wait, S: Source, K: Sink, P: Service<()>>(
     rt: &R,
     alloc: Global,
     primary: &P,
@@ -84,7 +85,7 @@ fn serve_next<R, S: Source, K: Sink, P: Service<()>>(
 }
 
 /// Asks the service a request, and writes its replies.
-fn answer_request<R, K: Sink, P: Service<()>>(
+fn answer_request<R: Wait, K: Sink, P: Service<()>>(
     rt: &R,
     alloc: Global,
     primary: &P,

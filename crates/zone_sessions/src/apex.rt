@@ -12,7 +12,7 @@ use dns_name::{Labelled, StoredName, ToName};
 use dns_numbers::{Class, Rtype};
 use std::alloc::{AllocError, Global};
 use std::marker::Model;
-use std::sync::Arc;
+use std::sync::{Arc, Wait};
 use zone_reads::{NodeChildren, NodeRrsets, ReadZone};
 use zone_values::{OutOfZone, RelNameRevIter, Rrset, rel_name_rev_iter};
 use zone_versions::ZoneVersion;
@@ -66,8 +66,8 @@ impl ZoneApex {
         Ok(ZoneApex::of(ReadZone::of(version, contents)))
     }
 
-    /// A zone with this current version.
-    pub(crate) fn of(current: ReadZone) -> ZoneApex
+    /// A zone whose current version is this one.
+    pub fn of(current: ReadZone) -> ZoneApex
         ensures { result ≡ current }
     {
         ZoneApex { current }
@@ -133,8 +133,8 @@ impl ZoneApex {
         self.current.version_number()
     }
 
-    /// A read handle of the current version. It doesn't wait, so nothing is asked of `rt`.
-    pub fn read<R>(&self, _rt: &R) -> Result<ReadZone, AllocError>
+    /// A read handle of the current version.
+    pub fn read<R: Wait>(&self, _rt: &R) -> Result<ReadZone, AllocError>
         ensures { IfOk result (λ z. z ≡ self.now) }
     {
         self.current.clone()

@@ -237,8 +237,15 @@ impl ZoneBuilder {
     pub fn build_at(self, number: u64) -> Result<ZoneApex, AllocError>
         ensures { IfOk result (λ z. z ≡ record { number = number; version = edits.close self }) }
     {
+        Ok(ZoneApex::of(self.into_read(number)?))
+    }
+
+    /// A handle of the version with which a zone of these records opens, under this number, and no zone: that without DS sets below the apex that lack NS.
+    pub fn into_read(self, number: u64) -> Result<ReadZone, AllocError>
+        ensures { IfOk result (λ z. z ≡ record { number = number; version = edits.close self }) }
+    {
         let version = Arc::new(self.alloc, self.version.into_closed(self.alloc)?)?;
-        Ok(ZoneApex::of(ReadZone::of(number, version)))
+        Ok(ReadZone::of(number, version))
     }
 }
 

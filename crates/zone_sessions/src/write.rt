@@ -23,6 +23,7 @@ use dns_rdata::{Record, RecordData, Soa, StoredRecord, StoredRecordData, ZoneRec
 use std::alloc::{AllocError, Global};
 use std::convert::AsSlice;
 use std::marker::Model;
+use std::sync::Wait;
 use zone_changes::{ClosedDraft, Draft};
 use zone_diffs::InMemoryZoneDiff;
 use zone_reads::ReadZone;
@@ -337,9 +338,8 @@ impl<'z> WriteZone<'z> {
     /// Publishes what is pending, without DS sets below the apex that lack NS (RFC 4035, 2.4), as the zone's current version with the next number.
     /// With `bump_soa_serial` a pending SOA that is absent, or as published, becomes the published one with the next serial (RFC 1982, 3.1).
     /// Told is the difference to the version before (RFC 1995, 4), where it was asked for since the last commit or rollback (`open`), both
-    /// versions have an SOA record at the apex, and the new serial is neither the old one nor before it. It doesn't wait, so nothing is asked
-    /// of `rt`.
-    pub fn commit<R>(
+    /// versions have an SOA record at the apex, and the new serial is neither the old one nor before it.
+    pub fn commit<R: Wait>(
         &mut self,
         _rt: &R,
         bump_soa_serial: bool,

@@ -28,6 +28,7 @@ use crate::number_laws::generated_zones_are_granted;
 use crate::sync::{Moments, sync_zone};
 use dns_name::Labelled;
 use std::alloc::{AllocError, Global};
+use std::sync::Wait;
 use tsig_port::{Key, Time48};
 use xfr_outcomes::{SyncError, SyncOk};
 use xfr_server::{
@@ -62,9 +63,9 @@ fn status_of(outcome: &Result<SyncOk, SyncError>) -> Status
     }
 }
 
-/// Runs the program: tests its words, reads the script, transfers the zone over the link, and writes the report. Nothing
-/// waits, so nothing is asked of `rt`.
-pub fn run<R, S: Source, K: Sink, L: Link>(
+/// Runs the program: tests its words, reads the script, transfers the zone over the link, and writes the report. It may
+/// wait where it reads a zone or commits.
+pub fn run<R: Wait, S: Source, K: Sink, L: Link>(
     rt: &R,
     alloc: Global,
     words: &[String],
@@ -113,7 +114,7 @@ pub fn run<R, S: Source, K: Sink, L: Link>(
 }
 
 /// Runs the program as `run`, over words that could be read or couldn't; those have no form.
-pub fn run_words<R, S: Source, K: Sink, L: Link>(
+pub fn run_words<R: Wait, S: Source, K: Sink, L: Link>(
     rt: &R,
     alloc: Global,
     words: Option<&[String]>,
@@ -159,7 +160,7 @@ pub fn run_words<R, S: Source, K: Sink, L: Link>(
 }
 
 /// Reads the script, makes the transfer of this kind, and writes the report.
-fn run_mode<R, S: Source, K: Sink, L: Link>(
+fn run_mode<R: Wait, S: Source, K: Sink, L: Link>(
     rt: &R,
     alloc: Global,
     mode: XfrMode,
@@ -206,7 +207,7 @@ fn write_last<K: Sink>(out: &mut K, octets: &[u8], status: Status) -> Status
 }
 
 /// Reads a script and runs it.
-fn run_script<R, K: Sink, L: Link>(
+fn run_script<R: Wait, K: Sink, L: Link>(
     rt: &R,
     alloc: Global,
     mode: XfrMode,
@@ -256,7 +257,7 @@ fn write_bad_line<K: Sink>(alloc: Global, out: &mut K, number: u64) -> Status
 }
 
 /// Transfers the zone, and writes the report.
-fn run_transfer<R, K: Sink, L: Link>(
+fn run_transfer<R: Wait, K: Sink, L: Link>(
     rt: &R,
     alloc: Global,
     mode: XfrMode,
@@ -359,11 +360,11 @@ struct Ended {
 }
 
 /// Transfers a zone from a primary to a secondary.
-fn transfer_to<R, L: Link>(
+fn transfer_to<R: Wait, L: Link>(
     rt: &R,
     alloc: Global,
     primary: &Primary,
-    secondary: ZoneApex,
+    secondary: ReadZone,
     key: &Key,
     mode: XfrMode,
     moments: Moments,
@@ -382,7 +383,7 @@ fn transfer_to<R, L: Link>(
     ensures link_fails { IfOk result (λ e. L.faults link.old < L.faults link.new → e.status ≡ Status.LinkFault) }
 {
     let mut made = Vec::new(alloc);
-    let mut zone = secondary;
+    let mut zone = ZoneApex::of(secondary);
     let mut session = zone.write(alloc);
     let ended = transfer_into(
         rt,
@@ -402,7 +403,7 @@ fn transfer_to<R, L: Link>(
 }
 
 /// Transfers a zone from a primary into a session, with a new list of handles.
-fn transfer_into<R, L: Link>(
+fn transfer_into<R: Wait, L: Link>(
     rt: &R,
     alloc: Global,
     primary: &Primary,
@@ -442,12 +443,12 @@ fn transfer_into<R, L: Link>(
 }
 
 /// Transfers a zone from the primary that opened with a version and committed these after it.
-fn transfer_from<R, L: Link>(
+fn transfer_from<R: Wait, L: Link>(
     rt: &R,
     alloc: Global,
     opening: ReadZone,
     commits: Commits,
-    secondary: ZoneApex,
+    secondary: ReadZone,
     key: &Key,
     mode: XfrMode,
     moments: Moments,
@@ -482,7 +483,7 @@ fn transfer_from<R, L: Link>(
 }
 
 /// Transfers the zone; what is to be written, and the status.
-fn transfer<R, L: Link>(
+fn transfer<R: Wait, L: Link>(
     rt: &R,
     alloc: Global,
     mode: XfrMode,
@@ -543,7 +544,7 @@ fn transfer<R, L: Link>(
 }
 
 /// Makes the zone of so many hosts, transfers it to an empty one, and writes the report.
-fn run_generated<R, K: Sink, L: Link>(
+fn run_generated<R: Wait, K: Sink, L: Link>(
     rt: &R,
     alloc: Global,
     size: u32,
@@ -575,7 +576,7 @@ fn run_generated<R, K: Sink, L: Link>(
 }
 
 /// Makes the zone of so many hosts, and transfers it to an empty one; what is to be written, and the status.
-fn transfer_generated<R, L: Link>(
+fn transfer_generated<R: Wait, L: Link>(
     rt: &R,
     alloc: Global,
     size: u32,
@@ -599,7 +600,7 @@ fn transfer_generated<R, L: Link>(
     ensures link_fails { IfOk result (λ r. L.faults link.old < L.faults link.new → r.1 ≡ Status.LinkFault) }
     ensures others { IfOk result (λ r. IsTrue (is_reported r.1)) }
 {
-    let sent = generated_version(rt, alloc, size, seed)?;
+    let sent = generated(alloc, size, seed)?;
     match transfer_sent(rt, alloc, &sent, link) {
         Ok(ended) => {
             let report = counts_octets(alloc, &ended.outcome, ended.made, &ended.last, &sent);
@@ -615,19 +616,8 @@ fn transfer_generated<R, L: Link>(
     }
 }
 
-/// The version of the zone of so many hosts.
-fn generated_version<R>(rt: &R, alloc: Global, size: u32, seed: u64) -> Result<ReadZone, AllocError>
-    requires { 1 ≤ size }
-    ensures { IfOk result (λ z. z.version ≡ numbers.generated size seed) }
-{
-    let zone = generated(alloc, size, seed)?;
-    let sent = zone.read(rt);
-    drop(zone);
-    sent
-}
-
 /// Transfers a version to a zone without records, with the key of zones that numbers make.
-fn transfer_sent<R, L: Link>(
+fn transfer_sent<R: Wait, L: Link>(
     rt: &R,
     alloc: Global,
     sent: &ReadZone,

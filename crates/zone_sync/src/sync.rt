@@ -16,6 +16,7 @@ ghost use Rattle.xfr_client.specs.Handles.{KeepsHandles};
 
 use dns_wire::MessageBuf;
 use std::alloc::Global;
+use std::sync::Wait;
 use tsig_port::{Key, Time48};
 use xfr_client::{MOST_REPLIES, XfrClient};
 use xfr_outcomes::{SyncError, SyncOk};
@@ -36,11 +37,11 @@ pub struct Moments {
 
 /// Brings a secondary's zone up to date with a primary's, over a link: what was pending is dropped, the request goes to the
 /// primary, and its replies come back, each checked and applied before the next. `made` gains a handle of each version
-/// that is committed, as they come, whatever the answer is; nothing is pending afterwards. Nothing waits, so nothing is asked of `rt`.
+/// that is committed, as they come, whatever the answer is; nothing is pending afterwards. It may wait where the primary reads its zone, and where it commits.
 ///
 /// For what is newer alone the request has the first apex SOA of the current version; `NoSoa` where there is none, before anything
 /// is asked. `UpToDate` says that the primary has nothing newer. Which answer comes for what is told in docs/ERRORS.md.
-pub fn sync_zone<R, P: Service<()>, L: Link>(
+pub fn sync_zone<R: Wait, P: Service<()>, L: Link>(
     rt: &R,
     alloc: Global,
     primary: &P,
@@ -76,7 +77,7 @@ pub fn sync_zone<R, P: Service<()>, L: Link>(
 }
 
 /// The same: puts the answer into `told`, and lends the session back.
-fn exchange_and_lend<'s, 'z, R, P: Service<()>, L: Link>(
+fn exchange_and_lend<'s, 'z, R: Wait, P: Service<()>, L: Link>(
     rt: &R,
     alloc: Global,
     primary: &P,
@@ -112,7 +113,7 @@ fn exchange_and_lend<'s, 'z, R, P: Service<()>, L: Link>(
 }
 
 /// The request, the primary's replies, and what the secondary makes of them.
-fn exchange<R, P: Service<()>, L: Link>(
+fn exchange<R: Wait, P: Service<()>, L: Link>(
     rt: &R,
     alloc: Global,
     primary: &P,
@@ -148,7 +149,7 @@ fn exchange<R, P: Service<()>, L: Link>(
 }
 
 /// Has a primary reply to a request, and gives its replies to the link.
-fn serve<R, P: Service<()>, L: Link>(
+fn serve<R: Wait, P: Service<()>, L: Link>(
     rt: &R,
     alloc: Global,
     primary: &P,
@@ -182,7 +183,7 @@ fn send_replies<S: ReplyStream, L: Link>(replies: S, link: &mut L) -> Result<(),
 }
 
 /// Takes replies until the outcome is met.
-fn take_replies<R, L: Link>(
+fn take_replies<R: Wait, L: Link>(
     rt: &R,
     client: &mut XfrClient<'_, '_>,
     link: &mut L,

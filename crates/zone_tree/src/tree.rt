@@ -92,7 +92,7 @@ impl<Z: AtApex> ZoneTree<Z> {
 }
 
 // Edits.
-impl<Z: AtApex + Drop> ZoneTree<Z> {
+impl<Z: AtApex> ZoneTree<Z> {
     /// Puts a zone in. Without memory, and where there is a zone of that class and apex, the zone is handed back and the tree stays as it was.
     pub fn insert_zone(&mut self, zone: Z) -> Result<(), InsertZoneError<Z>>
         ensures ok { OnOk result
@@ -169,7 +169,7 @@ impl<Z: AtApex + Drop> ZoneTree<Z> {
 }
 
 /// Puts a zone at a key in place of the one there. Without memory it is handed back.
-fn put_at<Z: AtApex + Drop>(
+fn put_at<Z: AtApex>(
     entries: &mut BTreeMap<ZoneKey, Z>,
     key: ZoneKey,
     zone: Z,
