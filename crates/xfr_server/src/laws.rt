@@ -60,11 +60,7 @@ pub fn granted_transfers_are_taken()
 {}
 
 /// Above a service that fails only for questions past 65,535 octets, the transfer service fails only for such questions.
-pub fn transfers_fail_where_long<
-    M: Default + Drop,
-    N: Service<M>,
-    X: XfrDataProvider<M>,
->()
+pub fn transfers_fail_where_long<M: Default + Drop, N: Service<M>, X: XfrDataProvider<M>>()
     ensures { (next : N) (provider : X) → FailsWhereLong (N.Sends next) → FailsWhereLong (⟦<XfrMiddlewareSvc<N, X> as Service<M>>⟧.Sends (next, provider)) }
 {}
 

@@ -232,7 +232,12 @@ impl<M: Drop> Service<M> for RefuseSvc {
     ghost Sends = { λ s request sent. sent ≡ error_sends request.message refused };
 
     #[tactic(auto, using(crate::proofs::LongReplies::refusals_fail))]
-    fn call<R: Wait>(&self, _rt: &R, alloc: Global, request: Request<M>) -> Result<Replies, ServiceError>
+    fn call<R: Wait>(
+        &self,
+        _rt: &R,
+        alloc: Global,
+        request: Request<M>,
+    ) -> Result<Replies, ServiceError>
         ensures calls { Calls (λ sent. sent ≡ error_sends request.message refused) (λ s items. items ≡ all_given s) result }
         ensures failing { Calls (FailsOnlyWhereLong request.message) (λ s items. items ≡ all_given s) result }
     {

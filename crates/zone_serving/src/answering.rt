@@ -69,7 +69,12 @@ impl<M: Drop, Z: StoredZone> Service<M> for ZoneQueries<Z> {
     ghost Sends = { λ s request sent. sent ≡ query_sends (Z.current s) request };
 
     /// Want of memory is told only where there is a reply to make: a response has none.
-    fn call<R: Wait>(&self, rt: &R, alloc: Global, request: Request<M>) -> Result<Replies, ServiceError>
+    fn call<R: Wait>(
+        &self,
+        rt: &R,
+        alloc: Global,
+        request: Request<M>,
+    ) -> Result<Replies, ServiceError>
         ensures calls { Calls (λ sent. sent ≡ query_sends (Z.current self.now) request) (λ s items. items ≡ all_given s) result }
         ensures failing { Calls (FailsOnlyWhereLong request.message) (λ s items. items ≡ all_given s) result }
         ensures memory { result ≡ Err Memory → (header_in request.message).qr ≡ false }

@@ -169,11 +169,7 @@ impl<Z: AtApex> ZoneTree<Z> {
 }
 
 /// Puts a zone at a key in place of the one there. Without memory it is handed back.
-fn put_at<Z: AtApex>(
-    entries: &mut BTreeMap<ZoneKey, Z>,
-    key: ZoneKey,
-    zone: Z,
-) -> Result<(), Z>
+fn put_at<Z: AtApex>(entries: &mut BTreeMap<ZoneKey, Z>, key: ZoneKey, zone: Z) -> Result<(), Z>
     ensures ok { OnOk result
         (entries.new.entries ≡ insert_entry zone_key_cmp entries.old.entries key zone) }
     ensures err { OnErr result (entries.new.entries ≡ entries.old.entries) }
