@@ -6,6 +6,7 @@ use dns_numbers::{Class, Rcode, Rtype};
 use dns_rdata::RecordData;
 use std::alloc::Global;
 use std::process::Abort;
+use std::sync::Wait;
 use zone_store::{QueryError, ReadZone, ReadableZone, Zone, ZoneApex, ZoneStore, is_same};
 
 pub(crate) fn zone<R: Abort>(rt: &R, alloc: Global) -> Zone<ZoneApex> {
@@ -14,7 +15,7 @@ pub(crate) fn zone<R: Abort>(rt: &R, alloc: Global) -> Zone<ZoneApex> {
 }
 
 /// Commits this address beside what the zone has.
-fn commit<R: Abort>(rt: &R, alloc: Global, zone: &mut Zone<ZoneApex>, owner: &[u8], last: u8) {
+fn commit<R: Abort + Wait>(rt: &R, alloc: Global, zone: &mut Zone<ZoneApex>, owner: &[u8], last: u8) {
     let mut session = zone.write(alloc);
     session
         .add_record(address(rt, alloc, owner, last))
@@ -25,7 +26,7 @@ fn commit<R: Abort>(rt: &R, alloc: Global, zone: &mut Zone<ZoneApex>, owner: &[u
 }
 
 /// Commits these two addresses together.
-fn commit_two<R: Abort>(
+fn commit_two<R: Abort + Wait>(
     rt: &R,
     alloc: Global,
     zone: &mut Zone<ZoneApex>,

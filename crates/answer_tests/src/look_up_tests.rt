@@ -7,6 +7,7 @@ use dns_rdata::ComposeRecord;
 use dns_wire::{Message, MessageBuf};
 use std::alloc::Global;
 use std::process::Abort;
+use std::sync::Wait;
 use zone_store::{ReadZone, ZoneBuilder, look_up};
 use zone_types::{AnswerRecords, OutOfZone};
 
@@ -95,7 +96,7 @@ const SPARSE: &str = "\
 ";
 
 /// The zone of these lines.
-fn opened<R: Abort>(rt: &R, alloc: Global, apex: &[u8], rows: &str) -> ReadZone {
+fn opened<R: Abort + Wait>(rt: &R, alloc: Global, apex: &[u8], rows: &str) -> ReadZone {
     let apex = name(rt, alloc, apex);
     let mut builder = ZoneBuilder::new(alloc, apex, Class::IN);
     for row in rows.trim_end().split('\n') {

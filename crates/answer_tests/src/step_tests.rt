@@ -6,6 +6,7 @@ use dns_name::OwnedLabel;
 use dns_numbers::{Rcode, Rtype};
 use std::alloc::Global;
 use std::process::Abort;
+use std::sync::Wait;
 use zone_store::{HandleError, NodeEdit, ReadZone, Step, WriteZone, ZoneEdit, ask, make_steps};
 
 fn then<R: Abort>(rt: &R, steps: &mut Vec<Step>, step: Step) {
@@ -20,7 +21,7 @@ fn write<R: Abort>(rt: &R, alloc: Global, steps: &mut Vec<Step>, owner: &[u8], l
 }
 
 /// Makes all steps.
-fn make<'z, R: Abort>(
+fn make<'z, R: Abort + Wait>(
     rt: &R,
     alloc: Global,
     session: WriteZone<'z>,

@@ -117,7 +117,7 @@ fn set_count(version: &ReadZone) -> usize {
 
 /// Fetches a zone of a primary over a link that gives so many replies, and then publishes what is pending: the answer, the version's number
 /// then, and how many RRsets it has.
-fn fetched<R: Abort>(
+fn fetched<R: Abort + Wait>(
     rt: &R,
     alloc: Global,
     key: &Key,

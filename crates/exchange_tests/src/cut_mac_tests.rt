@@ -7,6 +7,7 @@ use dns_rdata::record_from_octets;
 use dns_wire::MessageBuf;
 use std::alloc::Global;
 use std::process::Abort;
+use std::sync::Wait;
 use tsig_port::ValidationError;
 use xfr_server::{
     HistoryProvider, RefuseSvc, ReplyStream, Request, Service, TransportSpecificContext,
@@ -39,7 +40,7 @@ pub(crate) fn add<R: Abort>(rt: &R, session: &mut WriteZone<'_>, octets: Vec<u8>
 }
 
 /// The zone of these two records.
-fn large_zone<R: Abort>(rt: &R, alloc: Global) -> ReadZone {
+fn large_zone<R: Abort + Wait>(rt: &R, alloc: Global) -> ReadZone {
     let mut zone = empty_zone(rt, alloc);
     let mut session = zone.write(alloc);
     add(rt, &mut session, octets_of(rt, alloc, SOA));
@@ -52,7 +53,7 @@ fn large_zone<R: Abort>(rt: &R, alloc: Global) -> ReadZone {
 }
 
 /// The replies of a primary of that zone, which it signs by that key, the last one first.
-fn large_replies<R: Abort>(rt: &R, alloc: Global, request: MessageBuf) -> Vec<Vec<u8>> {
+fn large_replies<R: Abort + Wait>(rt: &R, alloc: Global, request: MessageBuf) -> Vec<Vec<u8>> {
     let key = short_key(rt);
     let mut provider = HistoryProvider::new(alloc, large_zone(rt, alloc));
     let name = key.name().duplicate();
@@ -77,7 +78,7 @@ fn large_replies<R: Abort>(rt: &R, alloc: Global, request: MessageBuf) -> Vec<Ve
 }
 
 /// What a client says of a reply, and how many versions there are then.
-fn takes<R: Abort>(
+fn takes<R: Abort + Wait>(
     rt: &R,
     client: &mut XfrClient<'_, '_>,
     made: &mut Vec<ReadZone>,
@@ -98,7 +99,7 @@ fn next_reply<R: Abort>(rt: &R, replies: &mut Vec<Vec<u8>>, len: usize) -> Vec<u
 }
 
 /// Asserts what a client makes of the transfer; the second message is as it was sent, or the last octet of its MAC isn't.
-fn transfers<R: Abort>(rt: &R, alloc: Global, is_damaged: bool) {
+fn transfers<R: Abort + Wait>(rt: &R, alloc: Global, is_damaged: bool) {
     let key = short_key(rt);
     let mut zone = empty_zone(rt, alloc);
     let mut session = zone.write(alloc);

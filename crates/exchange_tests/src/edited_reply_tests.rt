@@ -9,6 +9,7 @@ use crate::zone_transfer_tests::{reply, signed_soa};
 use std::alloc::Global;
 use std::process::Abort;
 use std::str::SplitAsciiWhitespace;
+use std::sync::Wait;
 use tsig_port::{Key, ServerSequence};
 use zone_store::WriteZone;
 use zone_sync::{MemoryLink, ReplyEdit, XfrClient, XfrMode};
@@ -112,7 +113,7 @@ fn edits_of<R: Abort>(rt: &R, alloc: Global, text: &str) -> Vec<ReplyEdit> {
 }
 
 /// A primary whose zone opened with an SOA record of serial 1, and has one of serial 2 and a TXT record of 65,400 octets of data since.
-pub(crate) fn large_primary<R: Abort>(rt: &R, alloc: Global, key: &Key) -> Primary {
+pub(crate) fn large_primary<R: Abort + Wait>(rt: &R, alloc: Global, key: &Key) -> Primary {
     let mut zone = zone_of(rt, alloc, "soa-1", 0);
     let mut session = zone.write(alloc);
     let mut provider = provider_of(rt, alloc, &mut session, key);
@@ -127,7 +128,7 @@ pub(crate) fn large_primary<R: Abort>(rt: &R, alloc: Global, key: &Key) -> Prima
 }
 
 /// Asserts what a row says of a secondary that has the serial 1: afterwards its version is the last that was made.
-fn is_so<R: Abort>(
+fn is_so<R: Abort + Wait>(
     rt: &R,
     alloc: Global,
     primary: &Primary,
@@ -167,7 +168,7 @@ fn is_so<R: Abort>(
 }
 
 /// Asserts the rows of a table.
-fn are_so<R: Abort>(rt: &R, alloc: Global, key: &Key, mode: XfrMode, table: &'static str) {
+fn are_so<R: Abort + Wait>(rt: &R, alloc: Global, key: &Key, mode: XfrMode, table: &'static str) {
     let primary = large_primary(rt, alloc, key);
     for row in table.split('\n') {
         is_so(rt, alloc, &primary, key, mode, row);
@@ -238,7 +239,7 @@ fn replies_with<R: Abort>(
 }
 
 /// Asserts that the first unsigned reply of these is refused, and that nothing is committed.
-fn refuses_unsigned<R: Abort>(rt: &R, alloc: Global, count: u8, is_signed: bool) {
+fn refuses_unsigned<R: Abort + Wait>(rt: &R, alloc: Global, count: u8, is_signed: bool) {
     let key = shared_key(rt);
     let mut zone = empty_zone(rt, alloc);
     let mut session = zone.write(alloc);

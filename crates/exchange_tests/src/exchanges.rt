@@ -9,6 +9,7 @@ use dns_rdata::{StoredRecord, record_from_octets};
 use std::alloc::Global;
 use std::process::Abort;
 use std::str::SplitAsciiWhitespace;
+use std::sync::Wait;
 use tsig_port::{Key, Time48};
 use xfr_server::{
     HistoryProvider, PrimaryStack, RefuseSvc, TsigMiddlewareSvc, XfrMiddlewareSvc,
@@ -126,7 +127,7 @@ fn four_edits<R: Abort>(
 }
 
 /// Commits what is pending, and pushes it with the difference that the commit tells.
-pub(crate) fn commit_and_push<R: Abort>(
+pub(crate) fn commit_and_push<R: Abort + Wait>(
     rt: &R,
     session: &mut WriteZone<'_>,
     provider: &mut HistoryProvider,
@@ -142,7 +143,7 @@ pub(crate) fn commit_and_push<R: Abort>(
 }
 
 /// Makes these edits, at most eight, commits them, and pushes the version with its difference.
-fn push_edits<R: Abort>(
+fn push_edits<R: Abort + Wait>(
     rt: &R,
     alloc: Global,
     session: &mut WriteZone<'_>,
@@ -184,7 +185,7 @@ pub(crate) fn stack_of(provider: HistoryProvider, key: &Key) -> Primary {
 }
 
 /// A primary whose zone opened with the records of words; its commits are two with `|` between their edits, one, or none.
-pub(crate) fn primary_of<R: Abort>(
+pub(crate) fn primary_of<R: Abort + Wait>(
     rt: &R,
     alloc: Global,
     opening: &str,
@@ -211,7 +212,7 @@ pub(crate) fn primary_of<R: Abort>(
 }
 
 /// A transfer over a link, at whose both ends it is the same moment.
-pub(crate) fn transfer<R: Abort>(
+pub(crate) fn transfer<R: Abort + Wait>(
     rt: &R,
     alloc: Global,
     primary: &Primary,

@@ -6,6 +6,7 @@ use crate::exchanges::{at, spelt_versions, versions_of, zone_of};
 use crate::incremental_vectors::{STREAMS, VERSIONS};
 use std::alloc::Global;
 use std::process::Abort;
+use std::sync::Wait;
 use zone_store::{ReadZone, WriteZone};
 use zone_sync::{XfrClient, XfrMode};
 
@@ -43,7 +44,7 @@ fn stream_of(word: &str) -> Option<(&'static str, &'static str)> {
 }
 
 /// Makes the request of a client, which is the one that dnspython makes, and gives it the replies: what is answered to each of them.
-fn answers<R: Abort>(
+fn answers<R: Abort + Wait>(
     rt: &R,
     alloc: Global,
     session: &mut WriteZone<'_>,
@@ -100,7 +101,7 @@ fn versions_at<R: Abort>(rt: &R, alloc: Global, text: &'static str) -> Vec<u8> {
 }
 
 /// What the pending version has, which is committed.
-fn pending_of<R: Abort>(rt: &R, alloc: Global, session: &mut WriteZone<'_>) -> Vec<u8> {
+fn pending_of<R: Abort + Wait>(rt: &R, alloc: Global, session: &mut WriteZone<'_>) -> Vec<u8> {
     drop(session.commit(rt, false).expect(rt, "a version"));
     current_of(rt, alloc, session)
 }
@@ -117,7 +118,7 @@ fn current_of<R: Abort>(rt: &R, alloc: Global, session: &mut WriteZone<'_>) -> V
 }
 
 /// Asserts what a row says of a secondary whose zone opens so; nothing is pending afterwards.
-fn is_so<R: Abort>(rt: &R, alloc: Global, opening: &'static str, mode: XfrMode, row: &'static str) {
+fn is_so<R: Abort + Wait>(rt: &R, alloc: Global, opening: &'static str, mode: XfrMode, row: &'static str) {
     let (word, rest) = row.split_once(';').expect(rt, "a stream");
     let (told, committed) = rest.split_once(';').expect(rt, "answers");
     let mut zone = zone_of(rt, alloc, opening, 0);
@@ -139,7 +140,7 @@ fn is_so<R: Abort>(rt: &R, alloc: Global, opening: &'static str, mode: XfrMode, 
 }
 
 /// Asserts the rows of a table.
-fn are_so<R: Abort>(
+fn are_so<R: Abort + Wait>(
     rt: &R,
     alloc: Global,
     opening: &'static str,

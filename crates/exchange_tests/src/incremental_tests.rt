@@ -7,6 +7,7 @@ use dns_rdata::record_from_octets;
 use dns_wire::PushError;
 use std::alloc::Global;
 use std::process::Abort;
+use std::sync::Wait;
 use zone_store::{CommitError, ReadZone, ReadableZone, WriteZone};
 use zone_sync::{MemoryLink, SyncError, SyncOk, XfrMode};
 use zone_types::AnswerRecords;
@@ -67,7 +68,7 @@ fn case_of(row: &'static str) -> Option<Case> {
 }
 
 /// What the secondary of a case answers; the versions are added to `made`.
-fn answer_to<R: Abort>(
+fn answer_to<R: Abort + Wait>(
     rt: &R,
     alloc: Global,
     case: Case,
@@ -124,7 +125,7 @@ pub(crate) fn replies<R: Abort>(rt: &R, alloc: Global, version: &ReadZone, quest
 }
 
 /// Asserts what a case says.
-fn is_so<R: Abort>(rt: &R, alloc: Global, case: Case) {
+fn is_so<R: Abort + Wait>(rt: &R, alloc: Global, case: Case) {
     let mut zone = zone_of(rt, alloc, case.secondary, 0);
     let mut session = zone.write(alloc);
     let mut made = Vec::new(alloc);
@@ -161,7 +162,7 @@ fn what_is_newer_comes(rt: HostRuntime) {
 
 /// Asserts what a secondary whose only record is an SOA of serial 1, in the version of this number, answers a primary whose zone opened
 /// alike and has these commits since, over a link that takes requests of so many octets, and how many versions it makes.
-fn says<R: Abort>(
+fn says<R: Abort + Wait>(
     rt: &R,
     alloc: Global,
     number: u64,
@@ -196,7 +197,7 @@ fn says<R: Abort>(
 }
 
 /// Asserts that a request has too many octets for a link.
-fn is_too_long<R: Abort>(rt: &R, alloc: Global, max_len: usize, mode: XfrMode) {
+fn is_too_long<R: Abort + Wait>(rt: &R, alloc: Global, max_len: usize, mode: XfrMode) {
     let refused = Err(SyncError::Request(PushError::ShortBuf));
     says(rt, alloc, 0, "", max_len, mode, (refused, 0));
 }
@@ -214,7 +215,7 @@ fn requests_of_101_and_of_142_octets(rt: HostRuntime) {
 }
 
 /// Asserts the same of one commit, with room for each request.
-fn says_after<R: Abort>(
+fn says_after<R: Abort + Wait>(
     rt: &R,
     alloc: Global,
     number: u64,
@@ -225,13 +226,13 @@ fn says_after<R: Abort>(
 }
 
 /// Asserts that no version number is left for it, after so many versions.
-fn is_exhausted<R: Abort>(rt: &R, alloc: Global, number: u64, mode: XfrMode, count: usize) {
+fn is_exhausted<R: Abort + Wait>(rt: &R, alloc: Global, number: u64, mode: XfrMode, count: usize) {
     let exhausted = Err(SyncError::VersionsExhausted);
     says_after(rt, alloc, number, mode, (exhausted, count));
 }
 
 /// Asserts that it comes, in so many versions.
-fn is_updated<R: Abort>(rt: &R, alloc: Global, number: u64, mode: XfrMode, count: usize) {
+fn is_updated<R: Abort + Wait>(rt: &R, alloc: Global, number: u64, mode: XfrMode, count: usize) {
     let updated = Ok(SyncOk::Updated);
     says_after(rt, alloc, number, mode, (updated, count));
 }

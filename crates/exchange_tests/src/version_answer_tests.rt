@@ -5,6 +5,7 @@ use crate::exchanges::{primary_of, transfer, zone_of};
 use crate::incremental_tests::replies;
 use std::alloc::Global;
 use std::process::Abort;
+use std::sync::Wait;
 use zone_store::{ReadZone, WriteZone};
 use zone_sync::{MemoryLink, ReplyEdit, SyncError, SyncOk, XfrMode};
 
@@ -38,7 +39,7 @@ fn answer_so<R: Abort>(rt: &R, alloc: Global, versions: &[ReadZone]) {
 }
 
 /// A transfer from a primary whose zone opened with the serial 1 and an address, and has these commits since.
-fn fetch<R: Abort>(
+fn fetch<R: Abort + Wait>(
     rt: &R,
     alloc: Global,
     session: &mut WriteZone<'_>,
@@ -58,7 +59,7 @@ fn fetch<R: Abort>(
 }
 
 /// Asserts what a transfer answers, and how many versions there are then, all of which still answer as they did.
-fn gives<R: Abort>(
+fn gives<R: Abort + Wait>(
     rt: &R,
     alloc: Global,
     session: &mut WriteZone<'_>,

@@ -280,7 +280,7 @@ fn append_number<R: Abort>(rt: &R, alloc: Global, all: &mut Vec<u8>, number: u64
 
 /// What a secondary without records answers to the replies of a case over a link that takes requests of up to so many octets; the
 /// versions are added to `made`.
-fn answer_to<R: Abort>(
+fn answer_to<R: Abort + Wait>(
     rt: &R,
     alloc: Global,
     case: usize,
@@ -296,7 +296,7 @@ fn answer_to<R: Abort>(
 }
 
 /// The same of the secondary that a session is of.
-fn answer_in<R: Abort>(
+fn answer_in<R: Abort + Wait>(
     rt: &R,
     alloc: Global,
     case: usize,
@@ -322,14 +322,14 @@ fn answer_in<R: Abort>(
 }
 
 /// Asserts what a case says.
-fn is_so<R: Abort>(rt: &R, alloc: Global, number: usize, case: Case) {
+fn is_so<R: Abort + Wait>(rt: &R, alloc: Global, number: usize, case: Case) {
     let mut made = Vec::new(alloc);
     let answer = answer_to(rt, alloc, number, 65_535, &mut made);
     says(rt, alloc, answer, made, case);
 }
 
 /// The same of a secondary that asks for what is newer.
-fn is_newer<R: Abort>(rt: &R, alloc: Global, number: usize, case: Case) {
+fn is_newer<R: Abort + Wait>(rt: &R, alloc: Global, number: usize, case: Case) {
     let mut zone = empty_zone(rt, alloc);
     let mut session = zone.write(alloc);
     let mut first = Vec::new(alloc);
@@ -452,7 +452,7 @@ pub(crate) fn signed_soa<R: Abort>(
 }
 
 /// Asserts what a client says of a reply, and that it makes nothing.
-fn makes_nothing<R: Abort>(
+fn makes_nothing<R: Abort + Wait>(
     rt: &R,
     alloc: Global,
     client: &mut XfrClient<'_, '_>,
@@ -516,7 +516,7 @@ fn versions<R: Abort>(rt: &R, alloc: Global, first: usize, last: usize) -> Vec<u
 }
 
 /// The answer to the replies of the first case, and where it is Ok to those of the second.
-fn answers<R: Abort>(
+fn answers<R: Abort + Wait>(
     rt: &R,
     alloc: Global,
     session: &mut WriteZone<'_>,

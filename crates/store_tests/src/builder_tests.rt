@@ -9,6 +9,7 @@ use dns_numbers::{Class, Rtype, Ttl};
 use dns_rdata::StoredRecord;
 use std::alloc::Global;
 use std::process::Abort;
+use std::sync::Wait;
 use zone_file::{InsertCnameError, InsertCutError, InsertZoneError, ZoneBuilder, ZoneTree};
 use zone_store::{CommitError, InsertError, ReadZone, ReadableZone, Zone, ZoneApex};
 use zone_types::{Rrset, SharedRr, SharedRrset};
@@ -29,7 +30,7 @@ fn builder<R: Abort>(rt: &R, alloc: Global) -> ZoneBuilder {
 }
 
 /// The version that a zone opens with.
-fn opened<R: Abort>(rt: &R, builder: ZoneBuilder) -> ReadZone {
+fn opened<R: Abort + Wait>(rt: &R, builder: ZoneBuilder) -> ReadZone {
     let zone = builder.build().expect(rt, "memory");
     let read = zone.read(rt).expect(rt, "memory");
     drop(zone);

@@ -6,6 +6,7 @@ use dns_numbers::{Rtype, Serial};
 use dns_rdata::ZoneRecordData;
 use std::alloc::Global;
 use std::process::Abort;
+use std::sync::Wait;
 use zone_store::{ReadZone, WriteZone, ZoneApex};
 use zone_types::{InMemoryZoneDiff, ZoneDiff};
 
@@ -21,7 +22,7 @@ fn put<R: Abort>(rt: &R, alloc: Global, session: &mut WriteZone<'_>, ttl: u32) {
 }
 
 /// A zone of an SOA with this serial and the three addresses.
-fn opened<R: Abort>(rt: &R, alloc: Global, serial: u32) -> ZoneApex {
+fn opened<R: Abort + Wait>(rt: &R, alloc: Global, serial: u32) -> ZoneApex {
     let mut zone = zone(rt, alloc);
     let mut session = zone.write(alloc);
     put_soa(rt, alloc, &mut session, serial);
@@ -49,13 +50,13 @@ fn counts(diff: &InMemoryZoneDiff) -> (usize, usize) {
 }
 
 /// The difference that a commit tells.
-fn told<R: Abort>(rt: &R, session: &mut WriteZone<'_>, bumps: bool) -> InMemoryZoneDiff {
+fn told<R: Abort + Wait>(rt: &R, session: &mut WriteZone<'_>, bumps: bool) -> InMemoryZoneDiff {
     let told = session.commit(rt, bumps).expect(rt, "a version");
     told.expect(rt, "a difference")
 }
 
 /// Asserts that a commit tells nothing.
-fn tells_nothing<R: Abort>(rt: &R, session: &mut WriteZone<'_>) {
+fn tells_nothing<R: Abort + Wait>(rt: &R, session: &mut WriteZone<'_>) {
     let told = session.commit(rt, false).expect(rt, "a version");
     assert!(rt; told.is_none());
     drop(told);

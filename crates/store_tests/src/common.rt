@@ -8,6 +8,7 @@ use dns_rdata::{
 use std::alloc::Global;
 use std::fmt::{self, Debug, Write};
 use std::process::Abort;
+use std::sync::Wait;
 use zone_store::{WriteZone, ZoneApex};
 use zone_types::{AnswerRecords, InMemoryZoneDiff, Rrset, SharedRrset, ZoneDiff, ZoneDiffItem};
 
@@ -199,13 +200,13 @@ pub(crate) fn put_soa<R: Abort>(rt: &R, alloc: Global, session: &mut WriteZone<'
 }
 
 /// Commits what is pending, and leaves aside what is told of it.
-pub(crate) fn commit<R: Abort>(rt: &R, session: &mut WriteZone<'_>) {
+pub(crate) fn commit<R: Abort + Wait>(rt: &R, session: &mut WriteZone<'_>) {
     let told = session.commit(rt, false).expect(rt, "a version");
     drop(told);
 }
 
 /// A zone of the SOA 1, a server, and addresses at ns and at a.
-pub(crate) fn filled<R: Abort>(rt: &R, alloc: Global) -> ZoneApex {
+pub(crate) fn filled<R: Abort + Wait>(rt: &R, alloc: Global) -> ZoneApex {
     let mut zone = zone(rt, alloc);
     let mut session = zone.write(alloc);
     let first = address(rt, alloc, b"\x02ns\x07EXAMPLE\x00", 60, 2);

@@ -6,7 +6,7 @@ use dns_numbers::{Class, Rtype, Ttl};
 use dns_rdata::StoredRecord;
 use std::alloc::Global;
 use std::process::Abort;
-use std::sync::Arc;
+use std::sync::{Arc, Wait};
 use zone_changes::{Draft, TouchedKeys};
 use zone_types::InMemoryZoneDiff;
 use zone_versions::{NodeCount, SetKey, ZoneVersion};
@@ -100,7 +100,7 @@ fn a_whole_zone_in_place_of_the_old_one(rt: HostRuntime) {
 }
 
 /// Asserts that nothing is told of a change from the serial 1 to this one.
-fn tells_nothing<R: Abort>(rt: &R, alloc: Global, serial: u32) {
+fn tells_nothing<R: Abort + Wait>(rt: &R, alloc: Global, serial: u32) {
     let told = told(rt, alloc, serial);
     assert!(rt; told.is_none());
     drop(told);

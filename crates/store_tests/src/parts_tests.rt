@@ -7,6 +7,7 @@ use dns_name::{Label, ToName};
 use dns_numbers::{Class, Rtype};
 use std::alloc::Global;
 use std::process::Abort;
+use std::sync::Wait;
 use zone_store::{CommitError, NodeChildren, NodeRrsets, Special, ZoneApex, ZoneNode};
 
 const CUT: &[u8] = b"\x03sub\x07example\x00";
@@ -14,7 +15,7 @@ const CUT: &[u8] = b"\x03sub\x07example\x00";
 const CUT_SERVER: &[u8] = b"\x02ns\x03sub\x07example\x00";
 
 /// A zone with a cut, an alias, and the name b, which has no RRset and exists for the name below it.
-fn parted<R: Abort>(rt: &R, alloc: Global) -> ZoneApex {
+fn parted<R: Abort + Wait>(rt: &R, alloc: Global) -> ZoneApex {
     let mut zone = zone(rt, alloc);
     let mut session = zone.write(alloc);
     put_soa(rt, alloc, &mut session, 1);

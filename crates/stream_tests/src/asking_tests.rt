@@ -6,6 +6,7 @@ use dns_name::{Labelled, NameRef};
 use dns_numbers::Class;
 use std::alloc::Global;
 use std::process::Abort;
+use std::sync::Wait;
 use tsig_port::{Algorithm, Key};
 use zone_asking::{AskError, Limit, Limits, ask_zone};
 use zone_devices::sinks::MemorySink;
@@ -71,7 +72,7 @@ pub(crate) fn empty_zone<R: Abort>(rt: &R, alloc: Global) -> ZoneApex {
 }
 
 /// Asks for the zone, of which there is nothing yet: the answer, how many versions came, and the number of the current one.
-fn ask<R: Abort, S: Source>(
+fn ask<R: Abort + Wait, S: Source>(
     rt: &R,
     alloc: Global,
     src: &mut S,
@@ -81,7 +82,7 @@ fn ask<R: Abort, S: Source>(
 }
 
 /// The same within limits.
-fn ask_within<R: Abort, S: Source>(
+fn ask_within<R: Abort + Wait, S: Source>(
     rt: &R,
     alloc: Global,
     limits: Limits,
@@ -116,7 +117,7 @@ fn ask_within<R: Abort, S: Source>(
 }
 
 /// Asserts an error, that nothing was committed, and that the sink took the first octets of the request's frame.
-fn refuses<R: Abort>(
+fn refuses<R: Abort + Wait>(
     rt: &R,
     alloc: Global,
     src: &mut MemorySource,
@@ -133,7 +134,7 @@ fn refuses<R: Abort>(
 }
 
 /// The same of a source, where the whole request goes out.
-fn refused<R: Abort>(rt: &R, alloc: Global, mut src: MemorySource, error: AskError) {
+fn refused<R: Abort + Wait>(rt: &R, alloc: Global, mut src: MemorySource, error: AskError) {
     let mut out = sink(alloc);
     refuses(rt, alloc, &mut src, &mut out, error, 103);
     drop(out);
@@ -199,7 +200,7 @@ fn failing_writes_end_the_transfer(rt: HostRuntime) {
 }
 
 /// What comes of the reply with addresses within limits: the answer, and how many versions came.
-fn within<R: Abort>(rt: &R, alloc: Global, limits: Limits) -> (Result<SyncOk, AskError>, usize) {
+fn within<R: Abort + Wait>(rt: &R, alloc: Global, limits: Limits) -> (Result<SyncOk, AskError>, usize) {
     let octets = octets_of(rt, alloc, ADDRESSES);
     let mut src = source(rt, alloc, octets.as_slice(), 203, Vec::new(alloc));
     drop(octets);

@@ -5,6 +5,7 @@ use crate::asking_tests::{empty_zone, shared_key};
 use crate::common::{at, is, sink, source, words_of};
 use std::alloc::Global;
 use std::process::Abort;
+use std::sync::Wait;
 use xfr_services::RefuseSvc;
 use xfr_signing::TsigMiddlewareSvc;
 use zone_asking::{AskError, Limit, Limits, RunEnd, run_secondary, transfer_zone};
@@ -64,7 +65,7 @@ key 034b455900 hmac-sha256 000102 16 16
 ";
 
 /// The replies of a script's primary to the requests of a stream.
-pub(crate) fn served<R: Abort>(rt: &R, alloc: Global, script: &str, requests: &[u8]) -> Vec<u8> {
+pub(crate) fn served<R: Abort + Wait>(rt: &R, alloc: Global, script: &str, requests: &[u8]) -> Vec<u8> {
     let mut file = source(rt, alloc, script.as_bytes(), script.len(), Vec::new(alloc));
     let mut src = source(rt, alloc, requests, requests.len(), Vec::new(alloc));
     let mut out = sink(alloc);
@@ -86,7 +87,7 @@ fn words_for(mode: XfrMode) -> &'static str {
 }
 
 /// How the program ends with these words over a script and these replies; its requests go to one sink, its report to another.
-pub(crate) fn run_with<R: Abort>(
+pub(crate) fn run_with<R: Abort + Wait>(
     rt: &R,
     alloc: Global,
     text: &str,
@@ -116,7 +117,7 @@ pub(crate) fn run_with<R: Abort>(
 }
 
 /// What a script's secondary asks over these replies.
-fn asked<R: Abort>(rt: &R, alloc: Global, mode: XfrMode, script: &str, replies: &[u8]) -> Vec<u8> {
+fn asked<R: Abort + Wait>(rt: &R, alloc: Global, mode: XfrMode, script: &str, replies: &[u8]) -> Vec<u8> {
     let mut out = sink(alloc);
     let mut report = sink(alloc);
     let _ended = run_with(
@@ -135,7 +136,7 @@ fn asked<R: Abort>(rt: &R, alloc: Global, mode: XfrMode, script: &str, replies: 
 }
 
 /// The replies of a primary to a secondary that makes so many requests, one after another.
-pub(crate) fn replies_to<R: Abort>(
+pub(crate) fn replies_to<R: Abort + Wait>(
     rt: &R,
     alloc: Global,
     mode: XfrMode,
@@ -154,7 +155,7 @@ pub(crate) fn replies_to<R: Abort>(
 }
 
 /// Asserts how a secondary ends that makes so many requests of a primary, and what it reports.
-fn ends<R: Abort>(
+fn ends<R: Abort + Wait>(
     rt: &R,
     alloc: Global,
     mode: XfrMode,
@@ -312,7 +313,7 @@ rr 0 076578616d706c65000006000100000e1000160000000000010000000000000000000000000
 }
 
 /// The signed REFUSED to each request of a stream.
-fn refused<R: Abort>(rt: &R, alloc: Global, requests: &[u8]) -> Vec<u8> {
+fn refused<R: Abort + Wait>(rt: &R, alloc: Global, requests: &[u8]) -> Vec<u8> {
     let service = TsigMiddlewareSvc::new(RefuseSvc, shared_key(rt));
     let mut src = source(rt, alloc, requests, requests.len(), Vec::new(alloc));
     let mut out = sink(alloc);
@@ -326,7 +327,7 @@ fn refused<R: Abort>(rt: &R, alloc: Global, requests: &[u8]) -> Vec<u8> {
 }
 
 /// What a secondary asks where each of these requests gets a signed REFUSED.
-fn asked_after_refused<R: Abort>(rt: &R, alloc: Global, mode: XfrMode, requests: &[u8]) -> Vec<u8> {
+fn asked_after_refused<R: Abort + Wait>(rt: &R, alloc: Global, mode: XfrMode, requests: &[u8]) -> Vec<u8> {
     let replies = refused(rt, alloc, requests);
     let more = asked(rt, alloc, mode, SAME, replies.as_slice());
     drop(replies);
@@ -354,7 +355,7 @@ fn asked_again_after_refused(rt: HostRuntime) {
 }
 
 /// The answer of a transfer of the whole zone within limits, and how many versions came.
-fn within<R: Abort>(rt: &R, alloc: Global, limits: Limits) -> (Result<SyncOk, AskError>, usize) {
+fn within<R: Abort + Wait>(rt: &R, alloc: Global, limits: Limits) -> (Result<SyncOk, AskError>, usize) {
     let replies = replies_to(rt, alloc, XfrMode::Axfr, ADDRESSES, ADDRESSES, 1);
     let mut src = source(
         rt,

@@ -4,6 +4,7 @@ use crate::common::{at, is, sink, source, words_of};
 use crate::halves_tests::served;
 use std::alloc::Global;
 use std::process::Abort;
+use std::sync::Wait;
 use tsig_port::Time48;
 use zone_primary_run::{exit_status, run_words};
 
@@ -36,7 +37,7 @@ fn octets_of<R: Abort>(rt: &R, alloc: Global, digits: &str) -> Vec<u8> {
 }
 
 /// Asserts the reply of a line of `ROWS`.
-fn row_is_served<R: Abort>(rt: &R, alloc: Global, row: &str) {
+fn row_is_served<R: Abort + Wait>(rt: &R, alloc: Global, row: &str) {
     let (request, reply) = row.split_once(' ').expect(rt, "two words");
     let request = octets_of(rt, alloc, request);
     let reply = octets_of(rt, alloc, reply);
@@ -55,7 +56,7 @@ fn signed_requests_are_served(rt: HostRuntime) {
 }
 
 /// How the program ends over words, over streams without octets.
-fn ended<R: Abort>(rt: &R, alloc: Global, text: &str, opened: bool, moment: Option<Time48>) -> u8 {
+fn ended<R: Abort + Wait>(rt: &R, alloc: Global, text: &str, opened: bool, moment: Option<Time48>) -> u8 {
     let words = words_of(rt, alloc, text);
     let mut file = source(rt, alloc, SCRIPT.as_bytes(), SCRIPT.len(), Vec::new(alloc));
     let mut src = source(rt, alloc, b"", 0, Vec::new(alloc));

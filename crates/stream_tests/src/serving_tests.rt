@@ -4,6 +4,7 @@
 use crate::common::{at, is, next_len, only, sink, source};
 use std::alloc::Global;
 use std::process::Abort;
+use std::sync::Wait;
 use xfr_services::RefuseSvc;
 use zone_devices::sinks::MemorySink;
 use zone_devices::sources::{Source, StdSource};
@@ -32,7 +33,7 @@ const EMPTY: &[u8] = b"\0\x0c\x9a\xbc\0\0\0\0\0\0\0\0\0\0\
 const REPLY_TO_NOTHING: &[u8] = b"\0\x0c\x9a\xbc\x80\x05\0\0\0\0\0\0\0\0";
 
 /// Asserts how a stream ends, and what a sink takes of the replies.
-fn ends<R: Abort, S: Source>(
+fn ends<R: Abort + Wait, S: Source>(
     rt: &R,
     alloc: Global,
     src: &mut S,

@@ -4,6 +4,7 @@ use crate::common::{is, sink, source, words_of};
 use crate::halves_tests::{ADDRESSES, replies_to, run_with};
 use std::alloc::Global;
 use std::process::Abort;
+use std::sync::Wait;
 use zone_asking::{RunEnd, run_secondary};
 use zone_sync::{Status, XfrMode};
 
@@ -39,7 +40,7 @@ axfr script octets 1 records 1 octets 1
 ixfr script set-records 1 records";
 
 /// Asserts how the program ends with these words over the replies of a primary to it, and what it reports.
-fn reports<R: Abort>(rt: &R, alloc: Global, text: &str, status: Status, wanted: &str) {
+fn reports<R: Abort + Wait>(rt: &R, alloc: Global, text: &str, status: Status, wanted: &str) {
     let replies = replies_to(rt, alloc, XfrMode::Axfr, ADDRESSES, ADDRESSES, 1);
     let mut out = sink(alloc);
     let mut report = sink(alloc);
@@ -60,7 +61,7 @@ fn reports<R: Abort>(rt: &R, alloc: Global, text: &str, status: Status, wanted: 
 }
 
 /// Asserts that the limits of a row of `PASSED` end the transfer so.
-fn passes<R: Abort>(rt: &R, alloc: Global, row: &str) {
+fn passes<R: Abort + Wait>(rt: &R, alloc: Global, row: &str) {
     let (name, limits) = row.split_once(' ').expect(rt, "two words");
     let text = format!(in alloc; "axfr script {limits}").expect(rt, "memory");
     let wanted = format!(in alloc; "refused limit {name}\n").expect(rt, "memory");
@@ -95,7 +96,7 @@ fn words_without_a_form(rt: HostRuntime) {
 }
 
 /// Asserts how the program ends over words where its file isn't opened or is, and the moment isn't known, and what it tells.
-fn lacks<R: Abort>(rt: &R, alloc: Global, text: &str, opened: bool, code: u8, wanted: &str) {
+fn lacks<R: Abort + Wait>(rt: &R, alloc: Global, text: &str, opened: bool, code: u8, wanted: &str) {
     let words = words_of(rt, alloc, text);
     let mut file = source(rt, alloc, b"", 0, Vec::new(alloc));
     let mut src = source(rt, alloc, b"", 0, Vec::new(alloc));

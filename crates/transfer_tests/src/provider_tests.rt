@@ -37,7 +37,7 @@ fn put_serial<R: Abort>(rt: &R, session: &mut WriteZone<'_>, serial: u32)
 }
 
 /// A provider that keeps a version with this serial, and grants it to the key.
-fn first_provider<R: Abort>(
+fn first_provider<R: Abort + Wait>(
     rt: &R,
     alloc: Global,
     session: &mut WriteZone<'_>,
@@ -57,7 +57,7 @@ fn first_provider<R: Abort>(
 }
 
 /// Commits a version with this serial, and pushes it with what the commit tells, which is asked for or not.
-fn push_serial<R: Abort>(
+fn push_serial<R: Abort + Wait>(
     rt: &R,
     session: &mut WriteZone<'_>,
     provider: &mut HistoryProvider,
@@ -99,7 +99,7 @@ fn request_of<M>(message: MessageBuf, metadata: M) -> Request<M> {
 }
 
 /// Where the differences begin and end, oldest first, that the provider gives to one who has the serial.
-fn spans<R: Abort>(rt: &R, alloc: Global, provider: &HistoryProvider, serial: u32) -> Vec<u32> {
+fn spans<R: Abort + Wait>(rt: &R, alloc: Global, provider: &HistoryProvider, serial: u32) -> Vec<u32> {
     let key = Some(shared_key(rt, KEY));
     let request = request_of(question(rt, alloc, EXAMPLE, Class::IN), key);
     let given = provider.request(rt, alloc, &request, Some(Serial::from(serial)));
@@ -117,7 +117,7 @@ fn spans<R: Abort>(rt: &R, alloc: Global, provider: &HistoryProvider, serial: u3
 }
 
 /// Asserts these spans in answer to this serial.
-fn gives<R: Abort>(rt: &R, alloc: Global, provider: &HistoryProvider, serial: u32, wanted: &[u32]) {
+fn gives<R: Abort + Wait>(rt: &R, alloc: Global, provider: &HistoryProvider, serial: u32, wanted: &[u32]) {
     let found = spans(rt, alloc, provider, serial);
     let numbers = found.as_slice();
     is(rt, numbers, wanted);
@@ -224,7 +224,7 @@ fn whom_a_history_is_denied(rt: HostRuntime) {
 }
 
 /// What a zone and a tree of it alone tell those who ask without a key for this name and class.
-fn both_told<R: Abort>(
+fn both_told<R: Abort + Wait>(
     rt: &R,
     alloc: Global,
     tree: &ZoneTree<Zone<ZoneApex>>,

@@ -8,6 +8,7 @@ use dns_rdata::{ComposeRecord, ReadRecord};
 use dns_wire::MessageBuf;
 use std::alloc::Global;
 use std::process::Abort;
+use std::sync::Wait;
 use xfr_client::protocol::IterationError;
 use xfr_client::{XfrResponseInterpreter, XfrZoneUpdateIterator, ZoneUpdate, ZoneUpdater};
 use zone_store::WriteZone;
@@ -152,7 +153,7 @@ fn one_soa_asks_again(rt: HostRuntime) {
 }
 
 /// Applies the updates of a message, the end too where it is wanted.
-fn apply_message<R: Abort>(
+fn apply_message<R: Abort + Wait>(
     rt: &R,
     updater: &mut ZoneUpdater<'_, '_>,
     updates: &mut XfrZoneUpdateIterator<'_>,
@@ -173,7 +174,7 @@ fn apply_message<R: Abort>(
 }
 
 /// Applies the messages of a reply to a session, by an interpreter and an updater of their own.
-fn apply_reply<R: Abort>(
+fn apply_reply<R: Abort + Wait>(
     rt: &R,
     alloc: Global,
     session: &mut WriteZone<'_>,
@@ -197,7 +198,7 @@ fn apply_reply<R: Abort>(
 }
 
 /// Asserts the version that a reply makes of the first one of RFC 1995, 7: its number, and its walk.
-fn makes<R: Abort>(rt: &R, alloc: Global, words: &str, number: u64, walk: &str) {
+fn makes<R: Abort + Wait>(rt: &R, alloc: Global, words: &str, number: u64, walk: &str) {
     let mut zone = zone_at(rt, alloc, JAIN);
     let mut session = zone.write(alloc);
     let first = format!(in alloc; "{FIRST}\nFinished soa-1 Ok(None)").expect(rt, "memory");

@@ -11,6 +11,7 @@ use dns_rdata::record_from_octets;
 use dns_wire::MessageBuf;
 use std::alloc::Global;
 use std::process::Abort;
+use std::sync::Wait;
 use tsig_port::Key;
 use xfr_server::{
     CallResult, HistoryProvider, RefuseSvc, ReplyStream, Request, Service, ServiceFeedback,
@@ -49,7 +50,7 @@ fn edit<R: Abort>(rt: &R, alloc: Global, session: &mut WriteZone<'_>, word: &str
 }
 
 /// Publishes the first version.
-fn first_version<R: Abort>(rt: &R, alloc: Global, session: &mut WriteZone<'_>) {
+fn first_version<R: Abort + Wait>(rt: &R, alloc: Global, session: &mut WriteZone<'_>) {
     edit(rt, alloc, session, "soa-1", true);
     edit(rt, alloc, session, "ns", true);
     edit(rt, alloc, session, "ns-a", true);
@@ -79,7 +80,7 @@ fn edit_third<R: Abort>(rt: &R, alloc: Global, session: &mut WriteZone<'_>)
 }
 
 /// Publishes what is pending, and pushes it with its difference.
-fn push<R: Abort>(rt: &R, session: &mut WriteZone<'_>, provider: &mut HistoryProvider)
+fn push<R: Abort + Wait>(rt: &R, session: &mut WriteZone<'_>, provider: &mut HistoryProvider)
     requires { provider.old.kept ≡ session.old.current.version }
     ensures { provider.new.kept ≡ session.new.current.version }
 {
@@ -112,7 +113,7 @@ fn keeper<R: Abort>(
 }
 
 /// A provider of the three versions.
-fn three_versions<R: Abort>(rt: &R, alloc: Global, compatibility_mode: bool) -> HistoryProvider {
+fn three_versions<R: Abort + Wait>(rt: &R, alloc: Global, compatibility_mode: bool) -> HistoryProvider {
     let mut zone = zone_at(rt, alloc, JAIN);
     let mut session = zone.write(alloc);
     first_version(rt, alloc, &mut session);
@@ -127,7 +128,7 @@ fn three_versions<R: Abort>(rt: &R, alloc: Global, compatibility_mode: bool) -> 
 }
 
 /// The zone with its first version.
-fn first_zone<R: Abort>(rt: &R, alloc: Global) -> Zone<ZoneApex> {
+fn first_zone<R: Abort + Wait>(rt: &R, alloc: Global) -> Zone<ZoneApex> {
     let mut zone = zone_at(rt, alloc, JAIN);
     let mut session = zone.write(alloc);
     first_version(rt, alloc, &mut session);
@@ -181,7 +182,7 @@ pub(crate) fn pulled<R: Abort, S: ReplyStream>(rt: &R, alloc: Global, stream: &m
 }
 
 /// All items in answer to a message of which so many octets are reserved.
-fn sent<R: Abort, M: Default + Drop, X: XfrDataProvider<M> + Drop>(
+fn sent<R: Abort + Wait, M: Default + Drop, X: XfrDataProvider<M> + Drop>(
     rt: &R,
     alloc: Global,
     provider: X,
@@ -252,7 +253,7 @@ fn are<R: Abort>(rt: &R, alloc: Global, found: String, line: &str) {
 }
 
 /// What is sent of the first version by a stream, in messages of up to so many octets.
-fn axfr_within<R: Abort>(rt: &R, alloc: Global, limit: u16) -> String {
+fn axfr_within<R: Abort + Wait>(rt: &R, alloc: Global, limit: u16) -> String {
     let asked = message(rt, alloc, AXFR);
     let reserved = 65_535 - limit;
     let stream = TransportSpecificContext::NonUdp;
@@ -295,7 +296,7 @@ fn a_record_without_room_is_a_failure(rt: HostRuntime) {
 }
 
 /// What is sent in answer to a message by the key's owner.
-fn sent_to_key<R: Abort>(
+fn sent_to_key<R: Abort + Wait>(
     rt: &R,
     alloc: Global,
     provider: HistoryProvider,
@@ -307,7 +308,7 @@ fn sent_to_key<R: Abort>(
 }
 
 /// The same of the three versions.
-fn sent_of_three<R: Abort>(
+fn sent_of_three<R: Abort + Wait>(
     rt: &R,
     alloc: Global,
     compatibility_mode: bool,
@@ -421,7 +422,7 @@ fn add_large<R: Abort>(rt: &R, alloc: Global, session: &mut WriteZone<'_>, octet
 
 /// What is sent by a stream, with the 76 octets of a TSIG reserved, of a zone with an SOA record and so many of these records, of the octets 1, 2 and
 /// so on.
-fn axfr_of_large<R: Abort>(rt: &R, alloc: Global, count: u8, len: u16) -> String {
+fn axfr_of_large<R: Abort + Wait>(rt: &R, alloc: Global, count: u8, len: u16) -> String {
     let mut zone = zone_at(rt, alloc, JAIN);
     let mut session = zone.write(alloc);
     edit(rt, alloc, &mut session, "soa-1", true);
@@ -436,7 +437,7 @@ fn axfr_of_large<R: Abort>(rt: &R, alloc: Global, count: u8, len: u16) -> String
 }
 
 /// Asserts the items of a line, in which a word stands for a large record: that of the octet 1 is `x`, of 2 `xx` and so on.
-fn are_large<R: Abort>(rt: &R, alloc: Global, count: u8, len: u16, line: &str) {
+fn are_large<R: Abort + Wait>(rt: &R, alloc: Global, count: u8, len: u16, line: &str) {
     let found = axfr_of_large(rt, alloc, count, len);
     let line = wanted(rt, alloc, line, len);
     let is_same = found.as_str() == line.as_str();
@@ -457,7 +458,7 @@ fn three_messages_leave_room_for_a_tsig(rt: HostRuntime) {
 }
 
 /// A provider of the first version, and of one that has a large record more.
-fn with_large<R: Abort>(rt: &R, alloc: Global, len: u16) -> HistoryProvider {
+fn with_large<R: Abort + Wait>(rt: &R, alloc: Global, len: u16) -> HistoryProvider {
     let mut zone = zone_at(rt, alloc, JAIN);
     let mut session = zone.write(alloc);
     first_version(rt, alloc, &mut session);
@@ -472,7 +473,7 @@ fn with_large<R: Abort>(rt: &R, alloc: Global, len: u16) -> HistoryProvider {
 }
 
 /// What is sent by UDP to one who has the first version and says nothing of sizes, with the 76 octets of a TSIG reserved.
-fn sent_by_udp<R: Abort>(rt: &R, alloc: Global, len: u16) -> String {
+fn sent_by_udp<R: Abort + Wait>(rt: &R, alloc: Global, len: u16) -> String {
     let provider = with_large(rt, alloc, len);
     let asked = ixfr(rt, alloc, "soa-1");
     let key: Option<Key> = Some(shared_key(rt, KEY));

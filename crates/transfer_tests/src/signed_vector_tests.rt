@@ -185,7 +185,7 @@ fn push_octets(section: &mut AnswerBuilder, octets: &[u8]) -> Result<(), Service
 }
 
 /// What a service gives in answer to a request at that moment.
-fn answered<R: Abort, S: Service<()>>(
+fn answered<R: Abort + Wait, S: Service<()>>(
     rt: &R,
     alloc: Global,
     service: &S,
@@ -216,7 +216,7 @@ fn key_of<R: Abort>(rt: &R, alloc: Global, algorithm: &str, len: &str) -> Key {
 }
 
 /// Asserts that the service signs the answers of a row so.
-fn signs_stream<R: Abort>(rt: &R, alloc: Global, row: &str) {
+fn signs_stream<R: Abort + Wait>(rt: &R, alloc: Global, row: &str) {
     let (algorithm, rest) = word(rt, row);
     let (len, rest) = word(rt, rest);
     let (request, answers) = word(rt, rest);
@@ -239,7 +239,7 @@ fn streams_are_signed_as_dnspython_does(rt: HostRuntime) {
 }
 
 /// Asserts what the primary of the zone `example.` gives in answer to the request of a row.
-fn answers_row<R: Abort>(rt: &R, alloc: Global, row: &str) {
+fn answers_row<R: Abort + Wait>(rt: &R, alloc: Global, row: &str) {
     let (transport, rest) = word(rt, row);
     let (now, rest) = word(rt, rest);
     let (request, items) = word(rt, rest);
@@ -328,7 +328,7 @@ fn large_record(alloc: Global, len: u16) -> Result<Vec<u8>, ServiceError> {
 }
 
 /// What a primary gives in answer to the request of `TRUNCATED`, whose next service's reply has so many octets.
-fn answered_largely<R: Abort>(rt: &R, alloc: Global, request: &str, len: u16) -> String {
+fn answered_largely<R: Abort + Wait>(rt: &R, alloc: Global, request: &str, len: u16) -> String {
     let provider = HistoryProvider::new(alloc, example_zone(rt, alloc));
     // Header, question and the record but for its data have 12, 17 and 11 octets.
     let data = len.checked_sub(40).expect(rt, "a length");

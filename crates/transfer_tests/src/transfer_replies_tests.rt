@@ -6,6 +6,7 @@ use crate::xfr_server_tests::{axfr_question, example_zone};
 use dns_numbers::Class;
 use std::alloc::Global;
 use std::process::Abort;
+use std::sync::Wait;
 use xfr_replies::{TransferReplies, TransferText};
 use xfr_server::{CallResult, ReplyStream, ServiceFeedback};
 
@@ -19,7 +20,7 @@ fn number_of<R: Abort>(rt: &R, item: &CallResult) -> usize {
 }
 
 /// The numbers of all items of a stream, in decimal digits, each with a space after it.
-fn numbers<R: Abort>(rt: &R, alloc: Global, limit: usize, singles: bool) -> String {
+fn numbers<R: Abort + Wait>(rt: &R, alloc: Global, limit: usize, singles: bool) -> String {
     let request = axfr_question(rt, alloc, Class::IN).finish();
     let text = TransferText::whole(alloc, example_zone(rt, alloc));
     let mut stream = TransferReplies::new(alloc, request, limit, singles, text);

@@ -7,6 +7,7 @@ use dns_numbers::{Class, Rtype};
 use dns_rdata::{ReadRecord, RecordData, StoredRecord, record_from_octets};
 use std::alloc::Global;
 use std::process::Abort;
+use std::sync::Wait;
 use xfr_client::{ZoneUpdate, ZoneUpdater, update};
 use zone_store::{EditError, ReadZone, WriteZone, ZoneApex, look_up};
 use zone_types::{InMemoryZoneDiff, Rrset, ZoneDiff};
@@ -117,7 +118,7 @@ fn read_of<'m, R: Abort>(rt: &R, octets: &'m [u8]) -> ReadRecord<'m> {
 }
 
 /// Applies an update, its record by octets.
-fn apply_octets<R: Abort>(
+fn apply_octets<R: Abort + Wait>(
     rt: &R,
     updater: &mut ZoneUpdater<'_, '_>,
     kind: Kind,
@@ -128,7 +129,7 @@ fn apply_octets<R: Abort>(
 }
 
 /// Applies an update, its record by a word.
-fn apply<R: Abort>(
+fn apply<R: Abort + Wait>(
     rt: &R,
     alloc: Global,
     updater: &mut ZoneUpdater<'_, '_>,
@@ -146,7 +147,7 @@ fn apply<R: Abort>(
 }
 
 /// Applies the updates of lines, and asserts what each answers.
-fn applies<R: Abort>(rt: &R, alloc: Global, updater: &mut ZoneUpdater<'_, '_>, lines: &str) {
+fn applies<R: Abort + Wait>(rt: &R, alloc: Global, updater: &mut ZoneUpdater<'_, '_>, lines: &str) {
     for line in lines.split('\n') {
         let (kind, row) = line.split_once(' ').expect(rt, "an update");
         let (word, wanted) = row.split_once(' ').expect(rt, "a record");
@@ -163,7 +164,7 @@ fn is_told<R: Abort>(rt: &R, alloc: Global, told: Result<Told, update::Error>, w
 }
 
 /// Applies the updates of lines by an updater of its own, behind which nothing is pending.
-pub(crate) fn applies_anew<R: Abort>(
+pub(crate) fn applies_anew<R: Abort + Wait>(
     rt: &R,
     alloc: Global,
     session: &mut WriteZone<'_>,
@@ -228,7 +229,7 @@ AddRecord nezu-5 Err(Finished)";
 }
 
 /// Applies an update, its record by a word and stored.
-fn apply_stored<R: Abort>(
+fn apply_stored<R: Abort + Wait>(
     rt: &R,
     alloc: Global,
     updater: &mut ZoneUpdater<'_, '_>,
@@ -244,7 +245,7 @@ fn apply_stored<R: Abort>(
 }
 
 /// Applies the updates of lines, each of a record that is stored, and asserts what each answers.
-fn applies_stored<R: Abort>(rt: &R, alloc: Global, updater: &mut ZoneUpdater<'_, '_>, lines: &str) {
+fn applies_stored<R: Abort + Wait>(rt: &R, alloc: Global, updater: &mut ZoneUpdater<'_, '_>, lines: &str) {
     for line in lines.split('\n') {
         let (kind, row) = line.split_once(' ').expect(rt, "an update");
         let (word, wanted) = row.split_once(' ').expect(rt, "a record");
@@ -310,7 +311,7 @@ fn push_data<R: Abort>(rt: &R, alloc: Global, text: &mut String, set: Option<&Rr
 }
 
 /// Asserts what the version that a session committed last answers to a question.
-fn answers<R: Abort>(
+fn answers<R: Abort + Wait>(
     rt: &R,
     alloc: Global,
     session: &mut WriteZone<'_>,

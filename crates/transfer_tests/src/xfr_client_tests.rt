@@ -6,6 +6,7 @@ use dns_rdata::ReadRecord;
 use dns_wire::MessageBuf;
 use std::alloc::Global;
 use std::process::Abort;
+use std::sync::Wait;
 use xfr_client::protocol::{Error, IterationError};
 use xfr_client::{XfrResponseInterpreter, XfrZoneUpdateIterator, ZoneUpdate, ZoneUpdater, update};
 use zone_store::ReadZone;
@@ -35,7 +36,7 @@ fn refusal(message: &MessageBuf) -> Option<Error> {
 }
 
 /// Applies a message's updates, and tells whether the last of them committed.
-fn apply_all<R: Abort>(
+fn apply_all<R: Abort + Wait>(
     rt: &R,
     updater: &mut ZoneUpdater<'_, '_>,
     updates: &mut XfrZoneUpdateIterator<'_>,
@@ -54,7 +55,7 @@ fn apply_all<R: Abort>(
 }
 
 /// The zone that a whole transfer in one message makes.
-fn transferred<R: Abort>(rt: &R, alloc: Global, message: &MessageBuf) -> ReadZone {
+fn transferred<R: Abort + Wait>(rt: &R, alloc: Global, message: &MessageBuf) -> ReadZone {
     let mut zone = empty_zone(rt, alloc);
     let mut session = zone.write(alloc);
     let mut updater = ZoneUpdater::new(alloc, &mut session);

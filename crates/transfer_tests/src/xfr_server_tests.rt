@@ -9,6 +9,7 @@ use dns_rdata::{A, Ns, Record, Soa, StoredRecord, StoredRecordData, ZoneRecordDa
 use dns_wire::{AdditionalBuilder, Header, MessageBuf, MessageBuilder, Question};
 use std::alloc::Global;
 use std::process::Abort;
+use std::sync::Wait;
 use tsig_port::{ClientSequence, Key, Time48, ValidationError};
 use xfr_server::{
     CallResult, HistoryProvider, PrimaryStack, RefuseSvc, ReplyStream, Request, Service,
@@ -55,7 +56,7 @@ fn add<R: Abort>(
     session.add_record(record).expect(rt, "a record");
 }
 
-fn fill<R: Abort>(rt: &R, alloc: Global, session: &mut WriteZone<'_>) {
+fn fill<R: Abort + Wait>(rt: &R, alloc: Global, session: &mut WriteZone<'_>) {
     add(rt, alloc, session, EXAMPLE, soa());
     let server = ZoneRecordData::Ns(Ns::new(stored_name(rt, alloc, NS_EXAMPLE)));
     add(rt, alloc, session, EXAMPLE, server);
@@ -66,7 +67,7 @@ fn fill<R: Abort>(rt: &R, alloc: Global, session: &mut WriteZone<'_>) {
     session.commit(rt, false).expect(rt, "a version");
 }
 
-pub(crate) fn example_zone<R: Abort>(rt: &R, alloc: Global) -> ReadZone {
+pub(crate) fn example_zone<R: Abort + Wait>(rt: &R, alloc: Global) -> ReadZone {
     let mut zone = empty_zone(rt, alloc);
     let mut session = zone.write(alloc);
     fill(rt, alloc, &mut session);
@@ -77,7 +78,7 @@ pub(crate) fn example_zone<R: Abort>(rt: &R, alloc: Global) -> ReadZone {
 }
 
 /// A primary of the zone `example.`, which grants it to the key or to none.
-pub(crate) fn primary<R: Abort>(rt: &R, alloc: Global, grants: bool) -> Primary {
+pub(crate) fn primary<R: Abort + Wait>(rt: &R, alloc: Global, grants: bool) -> Primary {
     let mut provider = HistoryProvider::new(alloc, example_zone(rt, alloc));
     let key = shared_key(rt, KEY);
     if grants {
@@ -104,7 +105,7 @@ pub(crate) fn at() -> Time48 {
 }
 
 /// All items that the primary gives in answer.
-fn items<R: Abort>(
+fn items<R: Abort + Wait>(
     rt: &R,
     alloc: Global,
     primary: &Primary,
@@ -145,7 +146,7 @@ fn only_reply<R: Abort>(rt: &R, alloc: Global, items: Vec<CallResult>) -> Vec<u8
 }
 
 /// What the primary answers to a question signed by the key of this name, and the sequence that takes its replies.
-fn signed_items<R: Abort>(
+fn signed_items<R: Abort + Wait>(
     rt: &R,
     alloc: Global,
     grants: bool,
@@ -222,7 +223,7 @@ fn unknown_key_is_told_so(rt: HostRuntime) {
 }
 
 /// Asserts that a signed question's reply has these first octets, and its signature after them, which is good.
-fn is_refused<R: Abort>(rt: &R, alloc: Global, grants: bool, class: Class, first: &str) {
+fn is_refused<R: Abort + Wait>(rt: &R, alloc: Global, grants: bool, class: Class, first: &str) {
     let (items, mut client) = signed_items(rt, alloc, grants, class, KEY);
     let reply = only_reply(rt, alloc, items);
     let digits = digits_of(rt, alloc, reply.as_slice());
