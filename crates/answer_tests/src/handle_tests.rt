@@ -15,7 +15,13 @@ pub(crate) fn zone<R: Abort>(rt: &R, alloc: Global) -> Zone<ZoneApex> {
 }
 
 /// Commits this address beside what the zone has.
-fn commit<R: Abort + Wait>(rt: &R, alloc: Global, zone: &mut Zone<ZoneApex>, owner: &[u8], last: u8) {
+fn commit<R: Abort + Wait>(
+    rt: &R,
+    alloc: Global,
+    zone: &mut Zone<ZoneApex>,
+    owner: &[u8],
+    last: u8,
+) {
     let mut session = zone.write(alloc);
     session
         .add_record(address(rt, alloc, owner, last))

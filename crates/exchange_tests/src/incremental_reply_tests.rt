@@ -118,7 +118,13 @@ fn current_of<R: Abort>(rt: &R, alloc: Global, session: &mut WriteZone<'_>) -> V
 }
 
 /// Asserts what a row says of a secondary whose zone opens so; nothing is pending afterwards.
-fn is_so<R: Abort + Wait>(rt: &R, alloc: Global, opening: &'static str, mode: XfrMode, row: &'static str) {
+fn is_so<R: Abort + Wait>(
+    rt: &R,
+    alloc: Global,
+    opening: &'static str,
+    mode: XfrMode,
+    row: &'static str,
+) {
     let (word, rest) = row.split_once(';').expect(rt, "a stream");
     let (told, committed) = rest.split_once(';').expect(rt, "answers");
     let mut zone = zone_of(rt, alloc, opening, 0);

@@ -87,7 +87,13 @@ fn axfr_brings_the_zone(rt: HostRuntime) {
 }
 
 /// Asserts status and output over a link that takes requests of up to so many octets.
-fn expect_within<R: Abort + Wait>(rt: &R, alloc: Global, max_len: usize, status: Status, output: &[u8]) {
+fn expect_within<R: Abort + Wait>(
+    rt: &R,
+    alloc: Global,
+    max_len: usize,
+    status: Status,
+    output: &[u8],
+) {
     let mut link = MemoryLink::new(alloc, max_len, Vec::new(alloc));
     expect(rt, alloc, SCRIPT, &mut link, status, output);
     drop(link);

@@ -200,7 +200,11 @@ fn failing_writes_end_the_transfer(rt: HostRuntime) {
 }
 
 /// What comes of the reply with addresses within limits: the answer, and how many versions came.
-fn within<R: Abort + Wait>(rt: &R, alloc: Global, limits: Limits) -> (Result<SyncOk, AskError>, usize) {
+fn within<R: Abort + Wait>(
+    rt: &R,
+    alloc: Global,
+    limits: Limits,
+) -> (Result<SyncOk, AskError>, usize) {
     let octets = octets_of(rt, alloc, ADDRESSES);
     let mut src = source(rt, alloc, octets.as_slice(), 203, Vec::new(alloc));
     drop(octets);

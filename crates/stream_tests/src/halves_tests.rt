@@ -65,7 +65,12 @@ key 034b455900 hmac-sha256 000102 16 16
 ";
 
 /// The replies of a script's primary to the requests of a stream.
-pub(crate) fn served<R: Abort + Wait>(rt: &R, alloc: Global, script: &str, requests: &[u8]) -> Vec<u8> {
+pub(crate) fn served<R: Abort + Wait>(
+    rt: &R,
+    alloc: Global,
+    script: &str,
+    requests: &[u8],
+) -> Vec<u8> {
     let mut file = source(rt, alloc, script.as_bytes(), script.len(), Vec::new(alloc));
     let mut src = source(rt, alloc, requests, requests.len(), Vec::new(alloc));
     let mut out = sink(alloc);
@@ -117,7 +122,13 @@ pub(crate) fn run_with<R: Abort + Wait>(
 }
 
 /// What a script's secondary asks over these replies.
-fn asked<R: Abort + Wait>(rt: &R, alloc: Global, mode: XfrMode, script: &str, replies: &[u8]) -> Vec<u8> {
+fn asked<R: Abort + Wait>(
+    rt: &R,
+    alloc: Global,
+    mode: XfrMode,
+    script: &str,
+    replies: &[u8],
+) -> Vec<u8> {
     let mut out = sink(alloc);
     let mut report = sink(alloc);
     let _ended = run_with(
@@ -327,7 +338,12 @@ fn refused<R: Abort + Wait>(rt: &R, alloc: Global, requests: &[u8]) -> Vec<u8> {
 }
 
 /// What a secondary asks where each of these requests gets a signed REFUSED.
-fn asked_after_refused<R: Abort + Wait>(rt: &R, alloc: Global, mode: XfrMode, requests: &[u8]) -> Vec<u8> {
+fn asked_after_refused<R: Abort + Wait>(
+    rt: &R,
+    alloc: Global,
+    mode: XfrMode,
+    requests: &[u8],
+) -> Vec<u8> {
     let replies = refused(rt, alloc, requests);
     let more = asked(rt, alloc, mode, SAME, replies.as_slice());
     drop(replies);
@@ -355,7 +371,11 @@ fn asked_again_after_refused(rt: HostRuntime) {
 }
 
 /// The answer of a transfer of the whole zone within limits, and how many versions came.
-fn within<R: Abort + Wait>(rt: &R, alloc: Global, limits: Limits) -> (Result<SyncOk, AskError>, usize) {
+fn within<R: Abort + Wait>(
+    rt: &R,
+    alloc: Global,
+    limits: Limits,
+) -> (Result<SyncOk, AskError>, usize) {
     let replies = replies_to(rt, alloc, XfrMode::Axfr, ADDRESSES, ADDRESSES, 1);
     let mut src = source(
         rt,

@@ -56,7 +56,13 @@ fn signed_requests_are_served(rt: HostRuntime) {
 }
 
 /// How the program ends over words, over streams without octets.
-fn ended<R: Abort + Wait>(rt: &R, alloc: Global, text: &str, opened: bool, moment: Option<Time48>) -> u8 {
+fn ended<R: Abort + Wait>(
+    rt: &R,
+    alloc: Global,
+    text: &str,
+    opened: bool,
+    moment: Option<Time48>,
+) -> u8 {
     let words = words_of(rt, alloc, text);
     let mut file = source(rt, alloc, SCRIPT.as_bytes(), SCRIPT.len(), Vec::new(alloc));
     let mut src = source(rt, alloc, b"", 0, Vec::new(alloc));

@@ -99,7 +99,12 @@ fn request_of<M>(message: MessageBuf, metadata: M) -> Request<M> {
 }
 
 /// Where the differences begin and end, oldest first, that the provider gives to one who has the serial.
-fn spans<R: Abort + Wait>(rt: &R, alloc: Global, provider: &HistoryProvider, serial: u32) -> Vec<u32> {
+fn spans<R: Abort + Wait>(
+    rt: &R,
+    alloc: Global,
+    provider: &HistoryProvider,
+    serial: u32,
+) -> Vec<u32> {
     let key = Some(shared_key(rt, KEY));
     let request = request_of(question(rt, alloc, EXAMPLE, Class::IN), key);
     let given = provider.request(rt, alloc, &request, Some(Serial::from(serial)));
@@ -117,7 +122,13 @@ fn spans<R: Abort + Wait>(rt: &R, alloc: Global, provider: &HistoryProvider, ser
 }
 
 /// Asserts these spans in answer to this serial.
-fn gives<R: Abort + Wait>(rt: &R, alloc: Global, provider: &HistoryProvider, serial: u32, wanted: &[u32]) {
+fn gives<R: Abort + Wait>(
+    rt: &R,
+    alloc: Global,
+    provider: &HistoryProvider,
+    serial: u32,
+    wanted: &[u32],
+) {
     let found = spans(rt, alloc, provider, serial);
     let numbers = found.as_slice();
     is(rt, numbers, wanted);

@@ -113,7 +113,11 @@ fn keeper<R: Abort>(
 }
 
 /// A provider of the three versions.
-fn three_versions<R: Abort + Wait>(rt: &R, alloc: Global, compatibility_mode: bool) -> HistoryProvider {
+fn three_versions<R: Abort + Wait>(
+    rt: &R,
+    alloc: Global,
+    compatibility_mode: bool,
+) -> HistoryProvider {
     let mut zone = zone_at(rt, alloc, JAIN);
     let mut session = zone.write(alloc);
     first_version(rt, alloc, &mut session);

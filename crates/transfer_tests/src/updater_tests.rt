@@ -245,7 +245,12 @@ fn apply_stored<R: Abort + Wait>(
 }
 
 /// Applies the updates of lines, each of a record that is stored, and asserts what each answers.
-fn applies_stored<R: Abort + Wait>(rt: &R, alloc: Global, updater: &mut ZoneUpdater<'_, '_>, lines: &str) {
+fn applies_stored<R: Abort + Wait>(
+    rt: &R,
+    alloc: Global,
+    updater: &mut ZoneUpdater<'_, '_>,
+    lines: &str,
+) {
     for line in lines.split('\n') {
         let (kind, row) = line.split_once(' ').expect(rt, "an update");
         let (word, wanted) = row.split_once(' ').expect(rt, "a record");
