@@ -2,7 +2,7 @@
 use Rattle.std.proofs.Common.{◌≡◌, List, [], ◌∷◌, ◌++◌, ℕ, sym, ap, ◌∙◌, subst, Some, Ok}
 use Rattle.zone_model.specs.Version.{Version}
 use Rattle.zone_model.specs.Commits.{Commit}
-use Rattle.zone_model.specs.Session.{Session, rolled_back}
+use Rattle.zone_reads.specs.Session.{Session, rolled_back}
 use Rattle.xfr_client.specs.SoFar.{Asking, client_so_far}
 use Rattle.xfr_client.specs.Steps.{HasMade}
 use Rattle.xfr_client.specs.Standing.{ClientState, ExchangeStands, Stands, Settled, RefusesReply, TakesReply}

@@ -4,7 +4,8 @@ use Rattle.dns_name.specs.Names.{Name}
 use Rattle.zone_model.specs.Answer.{Answer}
 use Rattle.zone_model.specs.Version.{Version}
 use Rattle.zone_model.specs.Commits.{Commit, are_numbered}
-use Rattle.zone_model.specs.Session.{Session, commits_after}
+use Rattle.zone_model.specs.Commits.{commits_after}
+use Rattle.zone_reads.specs.Session.{Session}
 use Rattle.xfr_client.specs.Steps.{HasMade}
 use Rattle.xfr_client.specs.Handles.{asked_at, KeepsHandles}
 

@@ -1,7 +1,7 @@
 -- All updates of one message.
 use Rattle.std.proofs.Common.{◌≡◌, ℕ, Bool, true, false, List, [], ◌∷◌, ◌++◌, refl, sym, ap, ◌∙◌, subst, Option, Some, None, Ok, Err, inl, inr}
 use Rattle.zone_model.specs.Commits.{Commit}
-use Rattle.zone_model.specs.Session.{Session}
+use Rattle.zone_reads.specs.Session.{Session}
 use Rattle.zone_model.specs.Updates.{Update, Progress}
 use Rattle.xfr_model.specs.Read.{Fault, Unreadable, AfterEnd}
 use Rattle.xfr_model.specs.Machine.{went, then_run}

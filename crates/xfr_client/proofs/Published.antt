@@ -2,7 +2,7 @@
 use Rattle.std.proofs.Common.{◌≡◌, List, [], ◌∷◌, ◌++◌, refl, sym, ap, ◌∙◌, append_assoc, append-nil, Option, Some, None}
 use Rattle.std.specs.Option.{option_map}
 use Rattle.zone_model.specs.Version.{Version}
-use Rattle.zone_model.specs.Session.{Session}
+use Rattle.zone_reads.specs.Session.{Session}
 use Rattle.zone_model.specs.Edits.{Refusal}
 use Rattle.zone_model.specs.Spells.{Spelling, spelling}
 use Rattle.zone_model.specs.Updates.{Update, UpdateFault, Edit, Progress, begin}

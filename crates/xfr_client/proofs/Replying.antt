@@ -5,7 +5,7 @@ use Rattle.std.specs.Option.{option_map_or}
 use Rattle.std.proofs.lemmas.List.{map-append}
 use Rattle.zone_model.specs.Version.{Version}
 use Rattle.zone_model.specs.Commits.{Commit}
-use Rattle.zone_model.specs.Session.{Session}
+use Rattle.zone_reads.specs.Session.{Session}
 use Rattle.xfr_model.specs.Read.{Fault, OtherAnswer, NotValid, Malformed, Unreadable, AfterEnd, Refused}
 use Rattle.zone_model.specs.Updates.{Edit, NotSoaRecord, AfterFinish}
 use Rattle.xfr_model.specs.Machine.{is_at_end, Run, signal_of}

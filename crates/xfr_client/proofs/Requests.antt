@@ -23,7 +23,7 @@ use Rattle.zone_model.specs.Version.{RecordSet, Version, set_at, apex_soa}
 use Rattle.zone_model.specs.Answer.{apex_soa_record}
 use Rattle.zone_values.proofs.ApexSoa.{soa_none, soa_empty, soa_first, record_with, first_left}
 use Rattle.xfr_model.specs.Messages.{type_of}
-use Rattle.zone_model.specs.Session.{Session}
+use Rattle.zone_reads.specs.Session.{Session}
 use Rattle.xfr_client.specs.Updating.{progress_of}
 use Rattle.xfr_model.specs.Machine.{AtStart}
 use Rattle.tsig_port.specs.States.{ClientStands}

@@ -4,7 +4,7 @@ use Rattle.std.specs.Prelude.{◌⊎◌, IfOk}
 use Rattle.tsig_port.specs.Tsig.{TsigKey}
 use Rattle.tsig_port.specs.declared.client.ClientSequence.{ClientSequence}
 use Rattle.zone_model.specs.Commits.{Commit}
-use Rattle.zone_model.specs.Session.{Session, rolled_back}
+use Rattle.zone_reads.specs.Session.{Session, rolled_back}
 use Rattle.zone_model.specs.Updates.{Update, Progress, apply_update}
 use Rattle.xfr_model.specs.Applying.{Halt, Held, within, unless_halted, apply_within}
 use Rattle.xfr_model.specs.Messages.{ReadMessage}

@@ -5,7 +5,8 @@ use Rattle.std.proofs.lemmas.Bool.{le-ltb, eq-eqb}
 use Rattle.zone_model.specs.Version.{Version}
 use Rattle.zone_model.specs.Commits.{Commit}
 use Rattle.zone_model.specs.Difference.{Difference}
-use Rattle.zone_model.specs.Session.{Session, with_pending, commits_after}
+use Rattle.zone_model.specs.Commits.{commits_after}
+use Rattle.zone_reads.specs.Session.{Session, with_pending}
 use Rattle.zone_model.specs.Edits as edits
 use Rattle.zone_model.specs.Updates.{Update, Progress, UpdateFault, Edit, NotSoaRecord, AfterFinish, apply_update, after_refusal}
 use Rattle.xfr_outcomes.specs.declared.update.Error.{Error}

@@ -9,7 +9,7 @@ use Rattle.tsig_port.specs.Checked.{taken_message}
 use Rattle.tsig_port.specs.declared.client.ClientSequence.{ClientSequence}
 use Rattle.zone_model.specs.Version.{apex_soa}
 use Rattle.zone_model.specs.Commits.{Commit}
-use Rattle.zone_model.specs.Session.{Session}
+use Rattle.zone_reads.specs.Session.{Session}
 use Rattle.zone_model.specs.Edits.{Refusal, OutOfZone, Incompatible, InvalidData}
 use Rattle.zone_model.specs.Updates.{Progress, UpdateFault, Edit, NotSoaRecord, AfterFinish}
 use Rattle.zone_model.specs.TransferText.{Mode, Ixfr}

@@ -1,7 +1,7 @@
 -- The difference that an update tells is that of the versions published before and by it.
 use Rattle.std.proofs.Common.{◌≡◌, Bool, true, false, if◌then◌else◌, [], ◌∷◌, ap, Option, Some, None, Result, Ok, Err}
 use Rattle.zone_model.specs.Version.{Version}
-use Rattle.zone_model.specs.Session.{Session}
+use Rattle.zone_reads.specs.Session.{Session}
 use Rattle.zone_model.specs.Edits.{set_soa, close}
 use Rattle.zone_model.specs.Difference.{Difference, difference, diffable}
 use Rattle.zone_model.specs.TransferText.{is_soa}

@@ -4,7 +4,7 @@ use Rattle.xfr_services.specs.declared.services.ServiceError.TheVariants as serv
 use Rattle.dns_wire.specs.declared.builder.PushError.TheVariants.{ShortBuf, CountOverflow}
 use Rattle.dns_wire.specs.declared.builder.PushError.TheVariants as push
 use Rattle.zone_model.specs.Commits.{Commit}
-use Rattle.zone_model.specs.Session.{Session}
+use Rattle.zone_reads.specs.Session.{Session}
 use Rattle.xfr_course.specs.Outcome.{Outcome, NoSoa, Ended, LinkFault, Short, Primary, RequestTooLong}
 use Rattle.xfr_client.specs.SoFar.{Asking, course_so_far, fault_so_far, client_so_far}
 use Rattle.xfr_client.specs.Steps.{HasMade}

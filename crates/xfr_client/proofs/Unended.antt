@@ -5,7 +5,7 @@ use Rattle.dns_name.specs.Names.{under}
 use Rattle.dns_rdata.specs.Records.{Record}
 use Rattle.zone_model.specs.Version.{Version}
 use Rattle.zone_model.specs.Commits.{Commit}
-use Rattle.zone_model.specs.Session.{Session}
+use Rattle.zone_reads.specs.Session.{Session}
 use Rattle.zone_model.specs.Edits.{Refusal, has_data, add}
 use Rattle.zone_model.specs.TransferText.{Mode, Axfr, Ixfr, is_soa, is_same_soa}
 use Rattle.zone_model.specs.Updates.{Update, DeleteAllRecords, DeleteRecord, AddRecord, BeginBatchDelete, BeginBatchAdd, Finished, Progress, UpdateFault, AfterFinish, edited, apply, apply_update}

@@ -1,6 +1,6 @@
 -- A client and an updater, each with the session that it borrows. The one way to end them gives that session back.
 use Rattle.std.specs.Borrow.{GName}
-use Rattle.zone_model.specs.Session.{Session}
+use Rattle.zone_reads.specs.Session.{Session}
 use Rattle.xfr_client.specs.Standing.{ClientState}
 use Rattle.xfr_client.specs.Updating.{Updating}
 

@@ -5,7 +5,7 @@ use Rattle.std.specs.Cmp.Lexicographic.{pointwise}
 use Rattle.dns_name.specs.Names.{same_name}
 use Rattle.dns_rdata.specs.Records.{Record}
 use Rattle.zone_model.specs.Version.{Version, IsValid, Same, same_version, has_one_soa}
-use Rattle.zone_model.specs.Session.{Session}
+use Rattle.zone_reads.specs.Session.{Session}
 use Rattle.zone_model.specs.Edits.{Refusal, add, delete}
 use Rattle.zone_model.specs.Difference.{difference, diffable, records_in}
 use Rattle.zone_model.specs.TransferText.{Mode, is_soa}

@@ -5,7 +5,7 @@ use Rattle.tsig_port.specs.States.{ClientStands}
 use Rattle.tsig_port.specs.declared.client.ClientSequence.{ClientSequence}
 use Rattle.tsig_port.specs.Tsig.{TsigKey}
 use Rattle.zone_model.specs.Commits.{Commit}
-use Rattle.zone_model.specs.Session.{Session}
+use Rattle.zone_reads.specs.Session.{Session}
 use Rattle.xfr_model.specs.Messages.{ReadMessage, message_of}
 use Rattle.xfr_model.specs.Read.{Fault, request_fault, is_other, record_item}
 use Rattle.xfr_model.specs.Machine.{Place, Run, run_items}

@@ -4,7 +4,7 @@ use Rattle.std.specs.List.{AllByRecursion}
 use Rattle.dns_name.specs.Names.{Name}
 use Rattle.zone_model.specs.Version.{RecordSet, Key, Version, data_at}
 use Rattle.zone_model.specs.Commits.{Commit}
-use Rattle.zone_model.specs.Session.{Session}
+use Rattle.zone_reads.specs.Session.{Session}
 use Rattle.zone_model.specs.Updates.{Update, AddRecord, Progress, apply_update}
 use Rattle.xfr_model.specs.Applying.{within, apply_within}
 use Rattle.xfr_course.specs.Outcome.{Ended}

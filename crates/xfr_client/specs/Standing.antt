@@ -6,7 +6,7 @@ use Rattle.tsig_port.specs.Checked.{passing, first_fault}
 use Rattle.tsig_port.specs.States.{ClientStands}
 use Rattle.tsig_port.specs.declared.errors.ValidationError.{ValidationError}
 use Rattle.zone_model.specs.Commits.{Commit}
-use Rattle.zone_model.specs.Session.{Session}
+use Rattle.zone_reads.specs.Session.{Session}
 use Rattle.zone_model.specs.TransferText.{Mode, Axfr}
 use Rattle.xfr_model.specs.Machine.{Place, InWhole}
 use Rattle.xfr_course.specs.Outcome.{Outcome, Ended}

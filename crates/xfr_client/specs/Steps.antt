@@ -2,7 +2,8 @@
 use Rattle.std.specs.Prelude.{◌≡◌, ℕ, ◌+◌, ◌-◌, ◌<◌, ◌≤◌, ◌^◌, Bool, true, false, List, [], ◌∷◌, ◌++◌, length, Option, Some, None, Result, Ok, Err, ◌⊎◌}
 use Rattle.zone_model.specs.Version.{Version}
 use Rattle.zone_model.specs.Commits.{Commit}
-use Rattle.zone_model.specs.Session.{Session, commits_after}
+use Rattle.zone_model.specs.Commits.{commits_after}
+use Rattle.zone_reads.specs.Session.{Session}
 use Rattle.zone_model.specs.Updates.{Update, Progress, apply_update}
 use Rattle.xfr_model.specs.Read.{Fault}
 use Rattle.xfr_model.specs.Applying.{Halt, within, apply_within}

@@ -4,7 +4,7 @@ use Rattle.std.specs.List.{list_all}
 use Rattle.xfr_course.specs.Courses.{has_header}
 use Rattle.zone_model.specs.Version.{Version}
 use Rattle.zone_model.specs.Commits.{Commit}
-use Rattle.zone_model.specs.Session.{Session}
+use Rattle.zone_reads.specs.Session.{Session}
 use Rattle.xfr_course.specs.Outcome.{Outcome, NoSoa, LinkFault, Ended, Short, Primary, RequestTooLong, Course, made, outcome}
 use Rattle.xfr_course.specs.Client.{IsPart}
 use Rattle.xfr_client.specs.SoFar.{Asking, course_so_far}

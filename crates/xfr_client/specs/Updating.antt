@@ -3,7 +3,7 @@ use Rattle.std.specs.Prelude.{◌≡◌, ◌⊎◌, ℕ, ◌+◌, ◌-◌, ◌^�
 use Rattle.zone_model.specs.Version.{Version}
 use Rattle.zone_model.specs.Commits.{Commit}
 use Rattle.zone_model.specs.Difference.{Difference}
-use Rattle.zone_model.specs.Session.{Session, with_pending, told_difference}
+use Rattle.zone_reads.specs.Session.{Session, with_pending, told_difference}
 use Rattle.zone_model.specs.Updates.{Update, BeginBatchDelete, Finished, Progress}
 use Rattle.xfr_model.specs.Applying.{commits}
 use Rattle.zone_model.specs.Edits.{set_soa}

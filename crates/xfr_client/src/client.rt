@@ -1,7 +1,7 @@
 //! The secondary's half of a transfer.
 ghost use Rattle.std.specs.Prelude.{◌≡◌, ◌≢◌, [], ◌∷◌, ◌++◌, ℕ, true, false, List, IsSome, IfOk, IfErr, OnOk, OnErr, is_some, Some, None, Ok, Err};
 ghost use Rattle.zone_model.specs.Commits.{Commit};
-ghost use Rattle.zone_model.specs.Session.{rolled_back};
+ghost use Rattle.zone_reads.specs.Session.{rolled_back};
 ghost use Rattle.xfr_outcomes.specs.Modes.{mode_of};
 ghost use Rattle.xfr_client.specs.SoFar.{asked_octets, CanAsk, CantAsk};
 ghost use Rattle.xfr_client.specs.Standing.{asking_of, Stands, TakesReply, ReadsWhole};

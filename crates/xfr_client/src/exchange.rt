@@ -4,7 +4,7 @@ ghost use Rattle.dns_rdata.specs.Soa.{serial_of};
 ghost use Rattle.dns_wire.specs.Wire.{message_wire, same_question};
 ghost use Rattle.tsig_port.specs.States.{ClientStands};
 ghost use Rattle.zone_model.specs.Commits.{Commit};
-ghost use Rattle.zone_model.specs.Session.{rolled_back};
+ghost use Rattle.zone_reads.specs.Session.{rolled_back};
 ghost use Rattle.zone_model.specs.Version.{apex_soa};
 ghost use Rattle.zone_model.specs.Answer.{apex_soa_record};
 ghost use Rattle.xfr_model.specs.Messages.{ReadMessage, type_of, message_of};

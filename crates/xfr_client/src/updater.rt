@@ -1,7 +1,7 @@
 // The updater of a zone.
 ghost use Rattle.std.specs.Prelude.{◌≡◌, ◌++◌, true, false, List, IfOk, IfErr, IfSome, OnOk, OnErr, IsOk, None, Ok, Err};
 ghost use Rattle.zone_model.specs.Version.{Version};
-ghost use Rattle.zone_model.specs.Session.{with_pending, rolled_back};
+ghost use Rattle.zone_reads.specs.Session.{with_pending, rolled_back};
 ghost use Rattle.zone_model.specs.Updates.{apply_update, after_refusal};
 ghost use Rattle.xfr_model.specs.Applying.{commits};
 ghost use Rattle.xfr_outcomes.specs.declared.update.Error.TheVariants.{VersionsExhausted, Memory};

@@ -3,7 +3,7 @@ ghost use Rattle.std.specs.Prelude.{◌≡◌, ◌↔◌, ◌++◌, ◌^◌, ◌
 ghost use Rattle.zone_model.specs.TransferText.{is_soa};
 ghost use Rattle.zone_model.specs.Version.{Version};
 ghost use Rattle.zone_model.specs.Edits.{with_sets, set_soa};
-ghost use Rattle.zone_model.specs.Session.{with_pending, committed, told_difference};
+ghost use Rattle.zone_reads.specs.Session.{with_pending, committed, told_difference};
 ghost use Rattle.zone_model.specs.Updates as updates;
 ghost use Rattle.zone_model.specs.Updates.{UpdateFault, apply_update, after_refusal};
 ghost use Rattle.xfr_model.specs.Applying.{commits};

@@ -3,7 +3,7 @@ use Rattle.std.proofs.Common.{◌≡◌, Bool, true, false, if◌then◌else◌,
 use Rattle.std.specs.Prelude.{is_ok}
 use Rattle.zone_model.specs.Version.{Version}
 use Rattle.zone_model.specs.Difference.{difference, diffable}
-use Rattle.zone_model.specs.Session.{closed}
+use Rattle.zone_reads.specs.Session.{closed}
 use Rattle.zone_model.specs.Offer.{Offer, MayPush, IsHistory}
 use Rattle.zone_model.specs.Offer.Denial.{UnknownZone as NoSuchZone, NotGranted}
 use Rattle.zone_model.specs.Pushes.{offered_history}

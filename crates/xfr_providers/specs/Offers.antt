@@ -7,7 +7,7 @@ use Rattle.tsig_keys.specs.declared.algorithms.Algorithm.{Algorithm}
 use Rattle.tsig_keys.specs.declared.algorithms.Algorithm.TheVariants.{Sha1, Sha256, Sha384, Sha512}
 use Rattle.zone_model.specs.Version.{Version}
 use Rattle.zone_model.specs.Zones.{Zones, find_zone}
-use Rattle.zone_model.specs.Session.{Session, closed, told_difference}
+use Rattle.zone_reads.specs.Session.{Session, closed, told_difference}
 use Rattle.zone_model.specs.Offer.{Offer, Denial, Provider, MayPush, IsHistory, is_granted, offer_of, offered}
 use Rattle.zone_model.specs.Pushes.{HasHistory, offered_history}
 use Rattle.zone_model.specs.Offer.Denial.{UnknownZone as NoSuchZone, NotGranted}

@@ -5,7 +5,7 @@ use Rattle.std.specs.List.{list_all}
 use Rattle.std.proofs.lemmas.List.Folds.{list_all-append}
 use Rattle.dns_wire.specs.declared.message.ShortMessage.{ShortMessage}
 use Rattle.zone_model.specs.Commits.{Commit}
-use Rattle.zone_model.specs.Session.{Session}
+use Rattle.zone_reads.specs.Session.{Session}
 use Rattle.xfr_course.specs.Courses.{has_header, most_replies}
 use Rattle.xfr_outcomes.specs.declared.protocol.Error.TheVariants as message
 use Rattle.message_frames.specs.declared.reading.FrameError.{FrameError}

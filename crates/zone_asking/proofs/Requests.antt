@@ -2,7 +2,7 @@
 use Rattle.std.proofs.Common.{◌≡◌, ℕ, ◌<◌, true, false, List, [], take, refl, sym, ap, ◌∙◌, subst, inl, inr, Option, Some, None, IsSome, Result, Ok, Err}
 use Rattle.dns_wire.specs.declared.builder.PushError.TheVariants as push
 use Rattle.zone_model.specs.Commits.{Commit}
-use Rattle.zone_model.specs.Session.{Session, rolled_back}
+use Rattle.zone_reads.specs.Session.{Session, rolled_back}
 use Rattle.zone_devices.specs.Streams.{with_more}
 use Rattle.message_frames.specs.Frames.{frame_of}
 use Rattle.xfr_client.specs.SoFar.{Asking, asked_octets, CanAsk, CantAsk}

@@ -1,7 +1,7 @@
 -- Replies whose updates had room in their sets.
 use Rattle.std.proofs.Common.{◌≡◌, ℕ, Bool, true, List, [], ◌∷◌, ◌++◌, append_assoc, append-nil, refl, sym, ap, subst, Option, Some, Result, Ok, Err, inl, inr}
 use Rattle.zone_model.specs.Commits.{Commit}
-use Rattle.zone_model.specs.Session.{Session, rolled_back}
+use Rattle.zone_reads.specs.Session.{Session, rolled_back}
 use Rattle.xfr_client.specs.SoFar.{Asking, client_so_far}
 use Rattle.xfr_client.specs.Steps.{numbers_left}
 use Rattle.xfr_client.specs.Standing.{ClientState, asking_of, Stands}

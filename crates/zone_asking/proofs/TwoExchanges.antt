@@ -3,7 +3,8 @@ use Rattle.std.proofs.Common.{◌≡◌, ◌≢◌, ℕ, ◌+◌, true, false, B
 use Rattle.zone_model.specs.TransferText.{Mode, Axfr, Ixfr}
 use Rattle.zone_model.specs.Version.{Version}
 use Rattle.zone_model.specs.Commits.{Commit}
-use Rattle.zone_model.specs.Session.{Session, commits_after}
+use Rattle.zone_model.specs.Commits.{commits_after}
+use Rattle.zone_reads.specs.Session.{Session}
 use Rattle.zone_devices.specs.Calls.{Rose}
 use Rattle.xfr_client.specs.SoFar.{Asking, asks_with, asked_id}
 use Rattle.xfr_client.specs.Steps.{HasMade, commit_after}

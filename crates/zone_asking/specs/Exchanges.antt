@@ -2,7 +2,7 @@
 use Rattle.std.specs.Prelude.{◌≡◌, ◌⊎◌, ℕ, List, [], length, take, Option, Result, Ok, Err}
 use Rattle.dns_wire.specs.declared.message.ShortMessage.{ShortMessage}
 use Rattle.zone_model.specs.Commits.{Commit}
-use Rattle.zone_model.specs.Session.{Session}
+use Rattle.zone_reads.specs.Session.{Session}
 use Rattle.zone_devices.specs.Streams.{with_more}
 use Rattle.message_frames.specs.Frames.{frame_of}
 use Rattle.xfr_client.specs.SoFar.{Asking, asked_octets, CanAsk, CantAsk}

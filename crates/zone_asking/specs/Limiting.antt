@@ -3,7 +3,7 @@ use Rattle.std.specs.Prelude.{◌≡◌, ◌⊎◌, ◌≤◌, ◌+◌, ◌-◌,
 use Rattle.dns_wire.specs.Wire.{ancount_in}
 use Rattle.xfr_course.specs.Courses.{has_header}
 use Rattle.zone_model.specs.Commits.{Commit}
-use Rattle.zone_model.specs.Session.{Session}
+use Rattle.zone_reads.specs.Session.{Session}
 use Rattle.xfr_client.specs.SoFar.{Asking, client_so_far}
 use Rattle.xfr_client.specs.Steps.{numbers_left}
 use Rattle.xfr_client.specs.Room.{AllHaveRoom, KeepsRoom, reply_updates, ReplyStopsAt}

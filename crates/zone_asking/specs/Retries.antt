@@ -1,7 +1,7 @@
 -- When a zone is asked for once again, whole (RFC 1995, 4; RFC 5936, 2.2).
 use Rattle.std.specs.Prelude.{◌≡◌, ◌⊎◌, ◌||◌, ◌==◌, ◌+◌, ◌-◌, ◌^◌, ℕ, Bool, true, false, if◌then◌else◌, List, Option, Some, None, Result, Ok, Err}
 use Rattle.zone_model.specs.Commits.{Commit}
-use Rattle.zone_model.specs.Session.{Session}
+use Rattle.zone_reads.specs.Session.{Session}
 use Rattle.zone_model.specs.TransferText.{Mode, Axfr, Ixfr}
 use Rattle.xfr_outcomes.specs.declared.protocol.IterationError.TheVariants.{SingleSoaIxfrTcpRetrySignal}
 use Rattle.xfr_client.specs.SoFar.{Asking, asks_with, asked_id}

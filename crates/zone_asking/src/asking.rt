@@ -1,7 +1,7 @@
 //! One exchange over a source and a sink.
 ghost use Rattle.std.specs.Prelude.{◌≡◌, ◌≢◌, ◌≤◌, ℕ, List, [], ◌∷◌, ◌++◌, false, take, length, Option, IsSome, IfOk, IfErr, IfSome, OnOk, OnErr, Ok, Err, None};
 ghost use Rattle.zone_model.specs.Commits.{Commit};
-ghost use Rattle.zone_model.specs.Session.{rolled_back};
+ghost use Rattle.zone_reads.specs.Session.{rolled_back};
 ghost use Rattle.zone_devices.specs.Calls.{Rose};
 ghost use Rattle.zone_devices.specs.Streams.{with_more};
 ghost use Rattle.message_frames.specs.Frames.{frame_of};

@@ -5,7 +5,7 @@ use Rattle.dns_wire.specs.declared.builder.PushError.TheVariants as push
 use Rattle.dns_wire.specs.declared.message.ShortMessage.{ShortMessage}
 use Rattle.zone_model.specs.Version.{Version}
 use Rattle.zone_model.specs.Commits.{Commit}
-use Rattle.zone_model.specs.Session.{Session}
+use Rattle.zone_reads.specs.Session.{Session}
 use Rattle.zone_model.specs.TransferText.{Mode, Axfr, Ixfr}
 use Rattle.message_frames.specs.Frames.{frames_of, first_frame, cut_frames}
 use Rattle.zone_devices.specs.Calls.{Rose}

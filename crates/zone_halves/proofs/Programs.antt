@@ -4,7 +4,7 @@ use Rattle.std.specs.Prelude.{◌≢◌}
 use Rattle.tsig_port.specs.Tsig.{TsigKey}
 use Rattle.zone_model.specs.Version.{Version, Same}
 use Rattle.zone_model.specs.Commits.{Commit}
-use Rattle.zone_model.specs.Session.{Session}
+use Rattle.zone_reads.specs.Session.{Session}
 use Rattle.zone_devices.specs.Calls.{Rose}
 use Rattle.message_frames.specs.Frames.{frame_of}
 use Rattle.xfr_services.specs.Items.{Sending}

@@ -3,7 +3,7 @@ use Rattle.std.proofs.Common.{◌≡◌, ℕ, true, false, List, [], ◌∷◌, 
 use Rattle.std.specs.Prelude.{IfOk}
 use Rattle.zone_model.specs.Version.{Version}
 use Rattle.zone_model.specs.Commits.{Commit}
-use Rattle.zone_model.specs.Session.{Session}
+use Rattle.zone_reads.specs.Session.{Session}
 use Rattle.zone_model.specs.Updates.{Update, DeleteAllRecords, DeleteRecord, AddRecord, BeginBatchDelete, BeginBatchAdd, Finished, Progress, apply_update}
 use Rattle.xfr_model.specs.Applying.{Halt, Held, within, unless_halted, apply_within}
 use Rattle.xfr_client.specs.SoFar.{Asking, client_so_far}

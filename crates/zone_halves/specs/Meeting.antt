@@ -2,7 +2,7 @@
 use Rattle.std.specs.Prelude.{◌≡◌, ◌≢◌, ◌≤◌, ℕ, false, List, [], length, Option, Some, None, Result, Ok, Err}
 use Rattle.std.specs.List.{AllByRecursion}
 use Rattle.zone_model.specs.Version.{Version, Same}
-use Rattle.zone_model.specs.Session.{Session}
+use Rattle.zone_reads.specs.Session.{Session}
 use Rattle.message_frames.specs.Frames.{frames_of}
 use Rattle.xfr_services.specs.Items.{Sending}
 use Rattle.xfr_client.specs.SoFar.{Asking}

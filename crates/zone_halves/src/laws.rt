@@ -3,7 +3,7 @@ ghost use Rattle.std.specs.Prelude.{◌≡◌, ◌≤◌, ℕ, List, [], length,
 ghost use Rattle.tsig_port.specs.Tsig.{TsigKey};
 ghost use Rattle.zone_model.specs.Version.{Version};
 ghost use Rattle.zone_model.specs.Commits.{Commit};
-ghost use Rattle.zone_model.specs.Session.{Session};
+ghost use Rattle.zone_reads.specs.Session.{Session};
 ghost use Rattle.xfr_outcomes.specs.declared.outcome.SyncOk.{SyncOk as DoneOf};
 ghost use Rattle.xfr_client.specs.SoFar.{Asking, asked_octets};
 ghost use Rattle.zone_asking.specs.declared.limits.Limits.{Limits as LimitsOf};

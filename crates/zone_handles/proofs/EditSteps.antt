@@ -2,7 +2,7 @@
 use Rattle.std.proofs.Common.{◌≡◌, refl, sym, true≢false, Result, Ok, Err, IsErr}
 use Rattle.zone_model.specs.Version.{Version}
 use Rattle.zone_model.specs.Edits.{Refusal}
-use Rattle.zone_model.specs.Session.{Session, with_pending}
+use Rattle.zone_reads.specs.Session.{Session, with_pending}
 use Rattle.zone_model.specs.Commits.{kept_or}
 use Rattle.zone_sessions.specs.Nodes.{Node, with_edit}
 

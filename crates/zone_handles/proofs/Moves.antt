@@ -7,7 +7,7 @@ use Rattle.std.proofs.lemmas.Option.{slice_get_within, get_or_from_slice_get, sl
 use Rattle.std.proofs.Math.ListN.{get_or-append}
 use Rattle.zone_model.specs.Version.{Version}
 use Rattle.zone_model.specs.Edits.{bump, close}
-use Rattle.zone_model.specs.Session.{Session, opened_session, with_pending, committed}
+use Rattle.zone_reads.specs.Session.{Session, opened_session, with_pending, committed}
 use Rattle.zone_model.specs.Commits.{Commit, CommitList, Zone, latest, Event, Open, Edit, Publish, Abandon, next_commit, appended, reset, kept_or, after, after_all, AllMayHappen, version_of}
 use Rattle.zone_model.proofs.Handles.{handles_keep}
 use Rattle.zone_handles.specs.declared.steps.Step.{Step}

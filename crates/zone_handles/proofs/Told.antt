@@ -3,7 +3,7 @@ use Rattle.std.proofs.Common.{◌≡◌, ℕ, ◌-◌, ◌^◌, ◌<◌, ◌↔�
 use Rattle.std.specs.Prelude.{OnOk, OnErr, IfErr, IfSome}
 use Rattle.std.specs.Slice.{IsItemAt}
 use Rattle.std.proofs.lemmas.Option.{slice_get_within}
-use Rattle.zone_model.specs.Session.{Session}
+use Rattle.zone_reads.specs.Session.{Session}
 use Rattle.zone_model.specs.Commits.{CommitList}
 use Rattle.zone_values.specs.declared.edit_errors.CommitError.{CommitError}
 use Rattle.zone_values.specs.declared.edit_errors.CommitError.TheVariants.{VersionsExhausted as NoNumber, Memory as NoMemory}

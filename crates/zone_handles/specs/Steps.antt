@@ -4,7 +4,7 @@ use Rattle.dns_name.specs.Names.{Name}
 use Rattle.zone_model.specs.Version.{Version, in_zone}
 use Rattle.zone_model.specs.Edits.{Refusal, bump}
 use Rattle.zone_model.specs.Answer.{answer}
-use Rattle.zone_model.specs.Session.{Session}
+use Rattle.zone_reads.specs.Session.{Session}
 use Rattle.zone_model.specs.Commits.{Commit, CommitList, Zone, latest, Event, Open, Edit, Publish, Abandon, Read, after, after_all, AllMayHappen, version_of}
 use Rattle.zone_lookup.specs.Answers.{AnsweredBy, answered_by}
 use Rattle.zone_values.specs.declared.edit_errors.CommitError.{CommitError}

@@ -1,7 +1,7 @@
 // Steps of readers and one writer, each made by the calls of the zone's session, its nodes and its read handles.
 ghost use Rattle.std.specs.Prelude.{◌≡◌, ◌↔◌, ◌≤◌, ◌<◌, [], ◌∷◌, ◌++◌, List, length, take, slice_get, false, Some, Ok, Err, IfErr, IfSome, OnOk, OnErr, ◌-◌, ◌^◌};
 ghost use Rattle.zone_model.specs.Version.{Version};
-ghost use Rattle.zone_model.specs.Session.{Session, opened_session, committed};
+ghost use Rattle.zone_reads.specs.Session.{Session, opened_session, committed};
 ghost use Rattle.zone_model.specs.Commits.{CommitList, Zone, Event, after_all, version_of};
 ghost use Rattle.zone_handles.specs.Steps.{HandlesStand, Leads, Stays, Refuses, Exhausts, Answers, events_of, events_of_all, wish_after, wish_after_all, new_session};
 ghost use Rattle.zone_handles.specs.declared.steps.Step.{Step};

@@ -2,7 +2,7 @@
 ghost use Rattle.std.specs.Prelude.{◌≡◌, [], true, OnOk, OnErr, IfErr, IsOk, Some, None, if◌then◌else◌};
 ghost use Rattle.zone_model.specs.Edits as edits;
 ghost use Rattle.zone_model.specs.Commits.{kept_or};
-ghost use Rattle.zone_model.specs.Session.{with_pending};
+ghost use Rattle.zone_reads.specs.Session.{with_pending};
 ghost use Rattle.zone_sessions.specs.Nodes.{with_edit};
 ghost use Rattle.zone_versions.specs.Puts.{with_soa};
 ghost use Rattle.dns_rdata.specs.DataFields.{soa_fields};

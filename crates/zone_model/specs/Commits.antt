@@ -32,6 +32,11 @@ GoesOn known all = (rest : CommitList) × (all ≡ known ++ rest)
 abbrev pub next_commit : Commit → Version → Commit
 next_commit last pending = record { number = last.number + 1; version = close pending }
 
+-- the commits that publish these versions after a commit
+abbrev pub commits_after : Commit → List Version → List Commit
+commits_after last [] = []
+commits_after last (v ∷ more) = let c : Commit = record { number = last.number + 1; version = v } in c ∷ commits_after c more
+
 -- a zone with its history, what is pending in its one session, and the commit at which each handle stands
 pub record Zone : Type 0 where
   pub commits : CommitList

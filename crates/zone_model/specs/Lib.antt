@@ -6,7 +6,6 @@ pub mod Difference
 pub mod TransferText
 pub mod Spells
 pub mod Updates
-pub mod Session
 pub mod Commits
 pub mod History
 pub mod Classify

@@ -7,7 +7,6 @@ use Rattle.zone_model.specs.Version.{Version}
 use Rattle.zone_model.specs.Edits.{Refusal, add_all, add}
 use Rattle.zone_model.specs.Difference.{Difference}
 use Rattle.zone_model.specs.Offer.{Provider, successive}
-use Rattle.zone_model.specs.Session.{Session}
 use Rattle.zone_model.specs.Commits.{Zone, Read, Edit, Publish, Abandon, after_all}
 
 abbrev pub e : Name
@@ -146,10 +145,6 @@ provider = record { kept = history_3; differences = history_differences; grants 
 
 abbrev pub with_ttl : ℕ → Record → Record
 with_ttl ttl r = record r { ttl = ttl }
-
--- a session that has added an address and a DS without NS, and was asked for a difference
-abbrev pub session : Session
-session = record { current = record { number = 7; version = zone (soa 1 ∷ []) }; pending = zone (soa 1 ∷ address t 1 ∷ ds sub ∷ []); compares = true; has_handle = false }
 
 -- a zone whose first version is read, which then gets an address, is committed and read again, and drops a second edit
 abbrev pub history : Zone

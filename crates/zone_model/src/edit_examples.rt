@@ -1,11 +1,10 @@
-// Worked examples of single edits, of sessions, and of what a version's readers see, proved by computation.
+// Worked examples of single edits, and of what a version's readers see, proved by computation.
 ghost use Rattle.std.specs.Prelude.{◌≡◌, [], ◌∷◌, map, codes, true, false, Some, None, Ok, Err, option_map};
 ghost use Rattle.dns_numbers.specs.Codes.{type_a, type_ns, type_cname, type_soa, type_ds};
 ghost use Rattle.zone_model.specs.Version.{same_version};
 ghost use Rattle.zone_model.specs.Walk.{walk, next_stop};
 ghost use Rattle.zone_model.specs.Edits.{OutOfZone, Incompatible, InvalidData, add, delete, close, bump, replace_set, clear, make_plain, make_alias, make_cut};
 ghost use Rattle.zone_model.specs.Difference.{difference};
-ghost use Rattle.zone_model.specs.Session as sessions;
 ghost use Rattle.zone_model.specs.Commits as commits;
 ghost use Rattle.zone_model.specs.ZoneRows as rows;
 ghost use Rattle.zone_model.specs.LawRows as law_rows;
@@ -65,23 +64,12 @@ pub fn close_row()
     ensures none { bump rows.empty_zone (rows.zone (rows.address rows.t 1 ∷ [])) ≡ rows.zone (rows.address rows.t 1 ∷ []) }
 {}
 
-/// A session: a commit publishes what is pending, closed, with the next number; a rollback goes back to the version published; a wish for a difference stays until then.
-pub fn session_row()
-    ensures committed { sessions.committed rows.session false ≡ record { current = record { number = 8; version = rows.zone (rows.soa 1 ∷ rows.address rows.t 1 ∷ []) }; pending = rows.zone (rows.soa 1 ∷ rows.address rows.t 1 ∷ []); compares = false; has_handle = true } }
-    ensures bumped { (sessions.committed rows.session true).current ≡ record { number = 8; version = rows.zone (rows.soa 2 ∷ rows.address rows.t 1 ∷ []) } }
-    ensures rolled_back { sessions.rolled_back rows.session ≡ record { current = rows.session.current; pending = rows.zone (rows.soa 1 ∷ []); compares = false; has_handle = false } }
-    ensures opened { sessions.opened_session rows.session false ≡ rows.session }
-    ensures told { sessions.told_difference rows.session true ≡ Some (difference (rows.zone (rows.soa 1 ∷ [])) (rows.zone (rows.soa 2 ∷ rows.address rows.t 1 ∷ []))) }
-    ensures same_serial { sessions.told_difference rows.session false ≡ None }
-    ensures unasked { sessions.told_difference (record rows.session { compares = false }) true ≡ None }
-    ensures after { map (λ c. c.number) (sessions.commits_after rows.session.current (rows.cut_zone ∷ rows.first_zone ∷ [])) ≡ 8 ∷ 9 ∷ [] }
-{}
-
 /// A zone's history: a handle keeps the version that it was read at, a commit adds one, and what is abandoned is gone.
 pub fn handles_row()
     ensures old { commits.version_of rows.history 0 ≡ Some (rows.zone (rows.soa 1 ∷ [])) }
     ensures new { commits.version_of rows.history 1 ≡ Some (rows.zone (rows.soa 1 ∷ rows.address rows.t 1 ∷ [])) }
     ensures numbers { map (λ c. c.number) rows.history.commits ≡ 7 ∷ 8 ∷ [] }
+    ensures after { map (λ c. c.number) (commits.commits_after (record { number = 7; version = rows.zone (rows.soa 1 ∷ []) }) (rows.cut_zone ∷ rows.first_zone ∷ [])) ≡ 8 ∷ 9 ∷ [] }
     ensures numbered { commits.are_numbered rows.history.commits ≡ true }
     ensures gap { commits.are_numbered (record { number = 0; version = rows.empty_zone } ∷ record { number = 2; version = rows.empty_zone } ∷ []) ≡ false }
     ensures pending { rows.history.pending ≡ rows.zone (rows.soa 1 ∷ rows.address rows.t 1 ∷ []) }

@@ -8,7 +8,7 @@ ghost use Rattle.zone_model.specs.Spells.{spelling};
 ghost use Rattle.zone_model.specs.Offer.{text_of, successive, pushed, are_pages, whole_text, changes_text, changes_or_whole};
 ghost use Rattle.zone_model.specs.ZoneRows as rows;
 ghost use Rattle.zone_model.specs.Updates as updates;
-ghost use Rattle.zone_model.specs.Session as sessions;
+ghost use Rattle.zone_model.specs.Commits.{commits_after};
 ghost use Rattle.zone_model.specs.LawRows as law_rows;
 ghost use Rattle.dns_name.specs.Records.{record_wire};
 
@@ -50,7 +50,7 @@ pub fn chain_row()
 /// Updates of a text commit what the text spells.
 pub fn updates_row()
     ensures committed { (updates.progress (updates.begin rows.history_1) (updates.updates_of (read_text Ixfr (rows.soa 3) (drop 1 rows.history_text)))).committed ≡ rows.history_1 ∷ rows.history_2 ∷ rows.history_3 ∷ [] }
-    ensures more { sessions.commits_after (record { number = 0; version = rows.history_1 }) (rows.history_2 ∷ []) ≡ record { number = 1; version = rows.history_2 } ∷ [] }
+    ensures more { commits_after (record { number = 0; version = rows.history_1 }) (rows.history_2 ∷ []) ≡ record { number = 1; version = rows.history_2 } ∷ [] }
 {}
 
 /// Lengths in wire form, and a text cut into messages.

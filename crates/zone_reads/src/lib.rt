@@ -6,6 +6,7 @@
 mod child;
 mod comparing;
 mod cutting;
+mod examples;
 mod names;
 mod owning;
 mod parts;

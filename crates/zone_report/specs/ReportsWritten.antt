@@ -3,7 +3,7 @@ use Rattle.std.specs.Prelude.{◌≡◌, ◌≢◌, ℕ, List, [], length, take,
 use Rattle.dns_name.specs.Names.{Name}
 use Rattle.dns_rdata.specs.Records.{record_wire}
 use Rattle.zone_model.specs.Commits.{Commit}
-use Rattle.zone_model.specs.Session.{Session}
+use Rattle.zone_reads.specs.Session.{Session}
 use Rattle.zone_devices.specs.Streams.{with_more}
 use Rattle.zone_report.specs.Report.{report}
 use Rattle.xfr_outcomes.specs.declared.outcome.SyncOk.{SyncOk}

@@ -9,7 +9,7 @@ use Rattle.zone_model.specs.Version.{Version}
 use Rattle.zone_model.specs.Edits.{add, delete, close}
 use Rattle.zone_model.specs.Difference.{Difference}
 use Rattle.zone_model.specs.Offer.{difference_if}
-use Rattle.zone_model.specs.Session.{Session}
+use Rattle.zone_reads.specs.Session.{Session}
 use Rattle.zone_model.specs.Commits.{Commit, next_commit}
 use Rattle.zone_model.specs.Classify.{BadRecord, opened}
 use Rattle.zone_records.specs.Parsed.{Parsed, empty_file, version_of}

@@ -3,7 +3,7 @@ use Rattle.std.specs.Prelude.{Bool}
 use Rattle.std.specs.Borrow.{GName}
 use Rattle.dns_name.specs.Names.{Name}
 use Rattle.zone_model.specs.Version.{Version}
-use Rattle.zone_model.specs.Session.{Session, opened_session, with_pending}
+use Rattle.zone_reads.specs.Session.{Session, opened_session, with_pending}
 
 pub record Node : Type 0 where
   pub session : Session

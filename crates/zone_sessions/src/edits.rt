@@ -5,7 +5,7 @@ ghost use Rattle.dns_numbers.specs.Codes.{type_cname, type_ns, type_ds};
 ghost use Rattle.zone_model.specs.Version.{all_differ, set_at};
 ghost use Rattle.zone_model.specs.Edits as edits;
 ghost use Rattle.zone_model.specs.Edits.{distinct_set};
-ghost use Rattle.zone_model.specs.Session.{with_pending};
+ghost use Rattle.zone_reads.specs.Session.{with_pending};
 ghost use Rattle.zone_values.specs.TypedSets.{TypedSet};
 ghost use Rattle.zone_values.specs.TypedEntries.{typed};
 

@@ -4,7 +4,7 @@ ghost use Rattle.zone_model.specs.Edits.{add, delete, with_sets};
 ghost use Rattle.zone_model.specs.Edits as edits;
 ghost use Rattle.zone_model.specs.Version.{set_at};
 ghost use Rattle.zone_values.specs.TypedEntries.{typed};
-ghost use Rattle.zone_model.specs.Session.{opened_session, with_pending, closed, committed, rolled_back, told_difference};
+ghost use Rattle.zone_reads.specs.Session.{opened_session, with_pending, closed, committed, rolled_back, told_difference};
 ghost use Rattle.zone_versions.specs.Held.{counted};
 ghost use Rattle.zone_versions.specs.Trees.{built};
 ghost use Rattle.zone_versions.specs.Causes.{refusal_of};
@@ -42,7 +42,7 @@ pub struct WriteZone<'z> {
 
 impl<'z> Model for WriteZone<'z> {
     ghost use Rattle.std.specs.Prelude.{◌≡◌, is_some, option_map, IfSome};
-    ghost use Rattle.zone_model.specs.Session.{Session};
+    ghost use Rattle.zone_reads.specs.Session.{Session};
     ghost use Rattle.zone_changes.specs.Drafts.{version_of};
     ghost use Rattle.zone_sessions.specs.Pending.{pending_of};
 

@@ -8,7 +8,7 @@ use Rattle.dns_rdata.specs.Records.{Field}
 use Rattle.dns_wire.specs.declared.builder.PushError.TheVariants.{ShortBuf, CountOverflow, Memory as OutOfMemory}
 use Rattle.zone_model.specs.Version.{Version, Same, data_at, first_or_none}
 use Rattle.zone_model.specs.Commits.{Commit}
-use Rattle.zone_model.specs.Session.{Session}
+use Rattle.zone_reads.specs.Session.{Session}
 use Rattle.zone_model.specs.TransferText.{Mode, Axfr, Ixfr, OnIxfr}
 use Rattle.xfr_server.specs.Items.{Sending, sent_by}
 use Rattle.xfr_services.specs.declared.services.ServiceError.{ServiceError}

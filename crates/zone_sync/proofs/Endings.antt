@@ -5,7 +5,7 @@ use Rattle.std.proofs.Common.{refl, sym, ap, subst, ◌∙◌, inl, inr, eq-eqb}
 use Rattle.dns_name.specs.Names.{Name, same_name}
 use Rattle.tsig_port.specs.Tsig.{TsigKey}
 use Rattle.zone_model.specs.Version.{Version}
-use Rattle.zone_model.specs.Session.{Session}
+use Rattle.zone_reads.specs.Session.{Session}
 use Rattle.zone_model.specs.Offer.{Provider, is_granted}
 use Rattle.zone_model.specs.TransferText.{Mode}
 use Rattle.zone_model.proofs.Folded.{same_name-Decides}

@@ -6,7 +6,7 @@ use Rattle.dns_wire.specs.declared.builder.PushError.TheVariants.{ShortBuf, Coun
 use Rattle.dns_wire.specs.declared.builder.PushError.TheVariants as push
 use Rattle.dns_wire.specs.declared.message.ShortMessage.{ShortMessage}
 use Rattle.zone_model.specs.Commits.{Commit}
-use Rattle.zone_model.specs.Session.{Session, rolled_back}
+use Rattle.zone_reads.specs.Session.{Session, rolled_back}
 use Rattle.xfr_course.specs.Outcome.{NoSoa, Ended, LinkFault, Short, Primary}
 use Rattle.xfr_course.specs.Courses.{has_header}
 use Rattle.xfr_client.specs.SoFar.{Asking, asked_octets, CanAsk, CantAsk}

@@ -4,7 +4,7 @@ use Rattle.std.specs.Prelude.{option_map}
 use Rattle.std.specs.List.{list_all}
 use Rattle.std.proofs.lemmas.List.Folds.{list_all-append}
 use Rattle.zone_model.specs.Commits.{Commit}
-use Rattle.zone_model.specs.Session.{Session}
+use Rattle.zone_reads.specs.Session.{Session}
 use Rattle.xfr_course.specs.Courses.{has_header, most_replies}
 use Rattle.xfr_client.specs.SoFar.{Asking}
 use Rattle.xfr_client.specs.Standing.{ClientState, asking_of, Stands, RefusesReply, TakesReply}

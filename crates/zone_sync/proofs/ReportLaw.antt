@@ -5,7 +5,7 @@ use Rattle.dns_name.specs.Names.{Name}
 use Rattle.dns_rdata.specs.Records.{record_wire}
 use Rattle.tsig_port.specs.Tsig.{TsigKey}
 use Rattle.zone_model.specs.Commits.{Commit}
-use Rattle.zone_model.specs.Session.{Session}
+use Rattle.zone_reads.specs.Session.{Session}
 use Rattle.zone_model.specs.Version.{Version}
 use Rattle.zone_generated.specs.Generated as generated
 use Rattle.zone_model.specs.Offer.{Provider}

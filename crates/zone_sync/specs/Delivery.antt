@@ -4,7 +4,7 @@ use Rattle.tsig_port.specs.Tsig.{TsigKey}
 use Rattle.zone_model.specs.Version.{Version, Same}
 use Rattle.zone_model.specs.Offer.{Offer}
 use Rattle.zone_model.specs.Commits.{Commit}
-use Rattle.zone_model.specs.Session.{Session}
+use Rattle.zone_reads.specs.Session.{Session}
 use Rattle.xfr_server.specs.Items.{Sending}
 use Rattle.xfr_server.specs.GrantedTransfers.{IsSentWhole}
 use Rattle.zone_devices.specs.Links.{LinkLists, IsHonest}

@@ -4,7 +4,7 @@ use Rattle.dns_wire.specs.declared.builder.PushError.TheVariants.{ShortBuf}
 use Rattle.dns_wire.specs.declared.message.ShortMessage.{ShortMessage}
 use Rattle.xfr_client.specs.Standing.{ClientState, Stands}
 use Rattle.zone_model.specs.Commits.{Commit}
-use Rattle.zone_model.specs.Session.{Session}
+use Rattle.zone_reads.specs.Session.{Session}
 use Rattle.xfr_course.specs.Outcome.{NoSoa, LinkFault, Ended, Short}
 use Rattle.xfr_client.specs.SoFar.{Asking, asked_octets, lacks_soa, CanAsk}
 use Rattle.xfr_client.specs.Transfers.{Transfers, HasShort, ComesLater}

@@ -1,5 +1,5 @@
 use Rattle.std.proofs.Common.{sym, ap, ◌∙◌}
-use Rattle.zone_model.specs.Session.{Session}
+use Rattle.zone_reads.specs.Session.{Session}
 use Rattle.xfr_outcomes.specs.Modes.{mode_of}
 use Rattle.zone_asking.specs.Wishes.{wished}
 use Rattle.zone_asking.proofs.Dues.{transfer_so, reported_so}

@@ -2,7 +2,7 @@ use Rattle.std.proofs.Common.{◌≡◌, ap, refl, subst, sym, Err}
 use Rattle.std.specs.Prelude.{OnOk, IfErr}
 use Rattle.std.proofs.lemmas.Result.{on_ok_weaker, on_err_weaker}
 use Rattle.zone_values.specs.declared.edit_errors.CommitError.TheVariants.{VersionsExhausted}
-use Rattle.zone_model.specs.Session.{Session}
+use Rattle.zone_reads.specs.Session.{Session}
 use Rattle.zone_handles.specs.Steps.{Leads, Refuses, Exhausts, events_of, wish_after}
 use Rattle.zone_handles.proofs.Moves.{edit_leads, open_leads, rollback_leads, end_leads, still_stands}
 use Rattle.zone_handles.proofs.Told.{but_handle, edit_cause, commit_cause, copy_cause}

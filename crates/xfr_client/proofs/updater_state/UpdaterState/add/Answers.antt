@@ -1,5 +1,5 @@
 use Rattle.std.proofs.Common.{◌≡◌, true, Result, Ok, Err, sym, ap, ◌∙◌}
-use Rattle.zone_model.specs.Session.{Session}
+use Rattle.zone_reads.specs.Session.{Session}
 use Rattle.zone_model.specs.Edits.{Incompatible, add}
 use Rattle.zone_model.specs.Updates.{Progress, UpdateFault}
 use Rattle.xfr_client.specs.Updating.{progress_of}

@@ -1,6 +1,6 @@
 use Rattle.std.proofs.Common.{◌≡◌, true, option_map, sym, subst, ap, ◌∙◌}
 use Rattle.dns_name.specs.Names.{Name, under}
-use Rattle.zone_model.specs.Session.{Session}
+use Rattle.zone_reads.specs.Session.{Session}
 use Rattle.zone_values.specs.TypedSets.{TypedSet}
 use Rattle.zone_sessions.proofs.KeptApex.{cut_apex}
 use Rattle.zone_sessions.proofs.node.WriteNode.make_zone_cut.Goals as goal

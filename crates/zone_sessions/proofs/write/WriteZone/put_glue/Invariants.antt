@@ -1,6 +1,6 @@
 use Rattle.std.proofs.Common.{◌≡◌, take, fold}
 use Rattle.zone_model.specs.Edits.{add_glue}
-use Rattle.zone_model.specs.Session.{with_pending}
+use Rattle.zone_reads.specs.Session.{with_pending}
 use Rattle.zone_sessions.proofs.write.WriteZone.put_glue.Given as goal
 
 -- The addresses so far are put.

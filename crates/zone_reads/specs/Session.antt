@@ -1,5 +1,5 @@
 -- What one writing session holds: the current commit, what is pending, and what was asked of it.
-use Rattle.std.specs.Prelude.{◌+◌, Bool, true, false, ◌||◌, if◌then◌else◌, List, [], ◌∷◌, Option, Some, None}
+use Rattle.std.specs.Prelude.{◌+◌, Bool, true, false, ◌||◌, if◌then◌else◌, Option, Some, None}
 use Rattle.zone_model.specs.Version.{Version}
 use Rattle.zone_model.specs.Edits.{bump, close}
 use Rattle.zone_model.specs.Difference.{Difference, difference, diffable}
@@ -32,8 +32,3 @@ told_difference s bumps = if s.compares then (if diffable s.current.version (clo
 
 abbrev pub rolled_back : Session → Session
 rolled_back s = record s { pending = s.current.version; compares = false }
-
--- the commits that publish these versions after a commit
-abbrev pub commits_after : Commit → List Version → List Commit
-commits_after last [] = []
-commits_after last (v ∷ more) = let c : Commit = record { number = last.number + 1; version = v } in c ∷ commits_after c more
