@@ -1,5 +1,5 @@
 //! The history: a book that only grows, and what somebody has seen of it.
-ghost use Rattle.std.specs.Prelude.{◌≡◌, ◌+◌, ◌<◌, ◌++◌, ◌∷◌, ◌⊎◌, ◌^◌, [], length, Some, IfSome, IfOk};
+ghost use Rattle.std.specs.Prelude.{◌≡◌, ◌+◌, ◌<◌, ◌≤◌, ◌++◌, ◌∷◌, ◌⊎◌, ◌^◌, [], length, Some, IfSome, IfOk, true, false};
 ghost use mathlib.Core.List.{IsPrefix};
 ghost use Rattle.published.specs.Commits.{latest, IsNumbered, MayFollow};
 ghost use Rattle.published.specs.History.{head_of};
@@ -138,9 +138,17 @@ impl<E: Numbered + Drop> Front<E> {
     {
         let mut both = self.seen.again();
         both.learn(&other.seen);
-        if self.entry.number() < other.entry.number() {
+        if self.is_before(&other) {
             *self = other;
         }
+    }
+
+    /// Whether the other one ends with a later entry.
+    fn is_before(&self, other: &Front<E>) -> bool
+        ensures before { result ≡ true → E.number_of self.now.last < E.number_of other.now.last }
+        ensures not { result ≡ false → E.number_of other.now.last ≤ E.number_of self.now.last }
+    {
+        self.entry.number() < other.entry.number()
     }
 
     /// Adds an entry behind all that was seen. Where the history is longer than that, it adds nothing.

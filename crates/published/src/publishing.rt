@@ -40,7 +40,8 @@ where
 
     ghost view = { λ d. d.front };
 
-    ghost invariant = { λ d. IsShown (λ w. w.desk.shown.value) d.front d.writer × (d.count ≡ head_of d.front.book) × (d.added + 1 ≡ length d.front.list) };
+    ghost invariant = { λ d. IsShown (λ w. w.desk.shown.value) d.front d.writer × (d.count ≡ head_of d.front.book)
+        × (d.added + 1 ≡ length d.front.list) };
 }
 
 impl<E: Numbered + Drop> Publisher<E>

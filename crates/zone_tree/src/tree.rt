@@ -1,6 +1,6 @@
 // The zones of a server by class and apex.
 ghost use Rattle.std.specs.Prelude.{◌≡◌, ◌↔◌, [], Some, None, Ok, Err, IsSome, IfErr, IfNone, OnOk, OnErr, MatchOption, is_some, option_copied};
-ghost use Rattle.std.specs.BTreeMap.{insert_entry, is_at};
+ghost use Rattle.std.specs.BTreeMap.{insert_entry, is_at, get};
 ghost use Rattle.std.specs.List.Sorted.{IsStrictlySortedBy};
 ghost use Rattle.std.specs.Map.{keys_of, remove_entry, values_of};
 ghost use Rattle.dns_name.specs.Names.{fold};
@@ -121,8 +121,9 @@ impl<Z: AtApex> ZoneTree<Z> {
         self.entries.contains_key(&key)
     }
 
-    /// Puts a zone in place of the one of its class and apex. Without memory it is handed back.
+    /// Puts a zone in, where there is none of its class and apex. Without memory it is handed back.
     fn put(&mut self, zone: Z) -> Result<(), Z>
+        requires free { zone_of self.old (Z.class_of zone) (Z.apex_of zone) ≡ None }
         ensures ok { OnOk result
             (self.new ≡ insert_entry zone_key_cmp self.old (key_of Z.class_of Z.apex_of zone) zone) }
         ensures stands { OnOk result (zone_of self.new (Z.class_of zone) (Z.apex_of zone) ≡ Some zone) }
@@ -168,8 +169,9 @@ impl<Z: AtApex> ZoneTree<Z> {
     }
 }
 
-/// Puts a zone at a key in place of the one there. Without memory it is handed back.
+/// Puts a zone at a key that has none. Without memory it is handed back.
 fn put_at<Z: AtApex>(entries: &mut BTreeMap<ZoneKey, Z>, key: ZoneKey, zone: Z) -> Result<(), Z>
+    requires free { get zone_key_cmp entries.old key ≡ None }
     ensures ok { OnOk result
         (entries.new.entries ≡ insert_entry zone_key_cmp entries.old.entries key zone) }
     ensures err { OnErr result (entries.new.entries ≡ entries.old.entries) }
@@ -177,10 +179,8 @@ fn put_at<Z: AtApex>(entries: &mut BTreeMap<ZoneKey, Z>, key: ZoneKey, zone: Z) 
     ensures ordered { IsStrictlySortedBy zone_key_cmp (keys_of entries.new.entries) }
 {
     match entries.insert(key, zone) {
-        Ok(before) => {
-            drop(before);
-            Ok(())
-        }
+        Ok(None) => Ok(()),
+        Ok(Some(_before)) => unreachable!(),
         Err(failed) => {
             let (_, zone) = failed.value;
             Err(zone)

@@ -8,4 +8,5 @@ use Rattle.published.proofs.publishing.fill.Given as goal
 -- the pass stays of the writer's history
 abbrev pub invariant-loop : goal.invariant-loop
 invariant-loop g l =
-    IsPassOf l.stock l.pass × AreOfOne (known_by l.initial.pass) (known_by l.pass) × AreOfOne (known_by l.pass) (seen_by l.writer.desk.place) × (l.writer.desk.shown ≡ l.initial.writer.desk.shown)
+    IsPassOf l.stock l.pass × AreOfOne (known_by l.initial.pass) (known_by l.pass)
+    × AreOfOne (known_by l.pass) (seen_by l.writer.desk.place) × (l.writer.desk.shown ≡ l.initial.writer.desk.shown)

@@ -1,11 +1,22 @@
 use Rattle.std.proofs.Common.{◌≡◌, All, sym, ap, subst, ◌∙◌}
-use Rattle.std.specs.BTreeMap.{insert_entry}
+use Rattle.std.specs.BTreeMap.{insert_entry, is_at}
+use Rattle.std.specs.Map.{lookup}
 use Rattle.dns_name.specs.Names.{fold}
 use Rattle.zone_model.specs.Zones.{zone_key_cmp, zone_of}
 use Rattle.zone_tree.specs.Trees.{key_of}
 use Rattle.zone_tree.proofs.Keys.{IsPlaced}
 use Rattle.zone_tree.proofs.Edited.{on_ok, on_err, of_both, inserted_there, inserted_others, placed_inserted}
 use Rattle.zone_tree.proofs.tree.ZoneTree.put.Goals as goal
+
+-- At the zone's own key the tree has nothing.
+pub put_at-requires : goal.put_at-requires
+put_at-requires g c =
+    let z = g.Z.AtApex in
+    let zone = c.args.zone in
+    let key : c.zone_key-key.result ≡ key_of z.class_of z.apex_of zone = c.zone_key-key.ensures ∙ (λ i. (c.class.ensures i, fold (c.apex_name.ensures i))) in
+    record {
+      free = ap (λ k. lookup (is_at (zone_key_cmp k)) c.self.inside.entries.entries) key ∙ ap (λ es. zone_of es (z.class_of zone) (z.apex_of zone)) c.self.view_is ∙ c.requires.free;
+    }
 
 -- The key is the zone's own.
 pub invariant_of-self : goal.invariant_of-self
