@@ -80,6 +80,7 @@ impl Desk {
     }
 
     /// Commits a version, whose number is the next one. Where memory is refused, all is as before.
+    #[tactic(auto, using(crate::proofs::Histories::may_follow, crate::proofs::Histories::is_with_commit))]
     pub(crate) fn publish<R: Wait>(&mut self, rt: &R, next: ReadZone) -> Result<(), AllocError>
         requires { next.number ≡ self.old.last.number + 1 }
         ensures ok { OnOk result (self.new ≡ with_commit self.old next) }
@@ -87,7 +88,8 @@ impl Desk {
     {
         // For the proof: the history ends with the current version.
         let _current = self.publisher.current();
-        self.publisher.commit(rt, next)
+        self.publisher.commit(rt, next)?;
+        Ok(())
     }
 
     /// Ends writing, after which readers keep what they hold. It takes no memory, and waits for readers that are within a call.
