@@ -303,12 +303,7 @@ fn plant<R: Abort>(
 }
 
 /// The number of the version of the zone that a name lies in.
-fn nearest<R: Abort>(
-    rt: &R,
-    tree: &ZoneTree<Zone<Kept>>,
-    qname: &[u8],
-    class: u16,
-) -> Option<u64> {
+fn nearest<R: Abort>(rt: &R, tree: &ZoneTree<Zone<Kept>>, qname: &[u8], class: u16) -> Option<u64> {
     let qname = NameRef::from_octets(qname).expect(rt, "a name");
     match tree.find_zone(&qname, Class::from_int(class)) {
         Some(zone) => Some(zone.store().read.version_number()),
