@@ -426,7 +426,8 @@ fn transfer_at<R: Wait, S: Source, K: Sink>(
     src: &mut S,
     sink: &mut K,
 ) -> Result<(Vec<u8>, Status), AllocError>
-    ensures report { (script : read_scripts.Script) → IfOk result (λ r. ReportsOn (wished (mode, limits)) at (with_parts script key.now desk.old.last queries.now)
+    ensures report { (script : read_scripts.Script) → IfOk result (λ r. ReportsOn (wished (mode, limits)) at
+        (with_parts script key.now desk.old.last queries.now)
         (crossing (S.remaining src.old) (S.remaining src.new) (K.taken sink.old) (K.taken sink.new)) r.0.items r.1) }
     ensures over_streams { Transferred limits (asks_with key.now (mode_of mode) at desk.old.last)
         (crossing (S.remaining src.old) (S.remaining src.new) (K.taken sink.old) (K.taken sink.new)) }
