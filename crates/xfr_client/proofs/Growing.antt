@@ -1,8 +1,8 @@
 -- How a zone's history grows around a transfer.
-use Rattle.std.proofs.Common.{◌≡◌, true, false, List, [], ◌∷◌, ◌++◌, append_assoc, append-nil, refl, sym, ap, ◌∙◌, subst}
+use Rattle.std.proofs.Common.{◌≡◌, List, [], ◌∷◌, ◌++◌, append_assoc, append-nil, refl, sym, ap, ◌∙◌, subst}
 use Rattle.published.specs.History.{Past}
 use Rattle.zone_model.specs.Commits.{Commit}
-use Rattle.zone_reads.specs.Session.{Session, with_commit, with_pending, rolled_back}
+use Rattle.zone_reads.specs.Session.{Session, with_commit, rolled_back}
 use Rattle.xfr_client.specs.Growing.{Grows}
 
 -- two in a row are one
