@@ -9,7 +9,7 @@ use Rattle.zone_asking.proofs.program.transfer.Goals as goal
 pub returns-clause-report : goal.returns-clause-report
 returns-clause-report g c =
     let t = transfer_so c.args.limits c.args.script.key (mode_of c.args.mode) c.args.at c.write-session.result.current c.args.script.secondary c.new-made.result.items c.transfer_zone-answer.new.made.items c.transfer_zone-answer.new.session c.transfer_zone-answer.result _
-    (ap (λ (s : Session). s.current) c.write-session.ensures) c.new-made.ensures.items c.transfer_zone-answer.ensures.exchanges in
+    (ap (λ (s : Session). s.current) c.write-session.ensures ∙ c.of-zone.ensures) c.new-made.ensures.items c.transfer_zone-answer.ensures.exchanges in
     reported_so (wished (c.args.mode, c.args.limits)) c.args.at c.args.script _ t _ _ c.status_of-status.result c.as_slice.result.now _ (c.len.ensures ∙ c.transfer_zone-answer.new.made.ok.0) c.in_ok-last.ensures.current c.status_of-status.ensures
     (sym c.eq.ensures ∙ c.if-eq.false) c.as_slice.ensures c.in_ok-report.ensures
 
@@ -24,19 +24,19 @@ returns-clause-stream_faults g c =
 pub returns-clause-over_streams : goal.returns-clause-over_streams
 returns-clause-over_streams g c =
     transfer_so c.args.limits c.args.script.key (mode_of c.args.mode) c.args.at c.write-session.result.current c.args.script.secondary c.new-made.result.items c.transfer_zone-answer.new.made.items c.transfer_zone-answer.new.session c.transfer_zone-answer.result _
-    (ap (λ (s : Session). s.current) c.write-session.ensures) c.new-made.ensures.items c.transfer_zone-answer.ensures.exchanges
+    (ap (λ (s : Session). s.current) c.write-session.ensures ∙ c.of-zone.ensures) c.new-made.ensures.items c.transfer_zone-answer.ensures.exchanges
 
 pub returns-in_err-last-clause-over_streams : goal.returns-in_err-last-clause-over_streams
 returns-in_err-last-clause-over_streams g c =
     transfer_so c.args.limits c.args.script.key (mode_of c.args.mode) c.args.at c.write-session.result.current c.args.script.secondary c.new-made.result.items c.transfer_zone-answer.new.made.items c.transfer_zone-answer.new.session c.transfer_zone-answer.result _
-    (ap (λ (s : Session). s.current) c.write-session.ensures) c.new-made.ensures.items c.transfer_zone-answer.ensures.exchanges
+    (ap (λ (s : Session). s.current) c.write-session.ensures ∙ c.of-zone.ensures) c.new-made.ensures.items c.transfer_zone-answer.ensures.exchanges
 
 pub returns-then-eq-clause-over_streams : goal.returns-then-eq-clause-over_streams
 returns-then-eq-clause-over_streams g c =
     transfer_so c.args.limits c.args.script.key (mode_of c.args.mode) c.args.at c.write-session.result.current c.args.script.secondary c.new-made.result.items c.transfer_zone-answer.new.made.items c.transfer_zone-answer.new.session c.transfer_zone-answer.result _
-    (ap (λ (s : Session). s.current) c.write-session.ensures) c.new-made.ensures.items c.transfer_zone-answer.ensures.exchanges
+    (ap (λ (s : Session). s.current) c.write-session.ensures ∙ c.of-zone.ensures) c.new-made.ensures.items c.transfer_zone-answer.ensures.exchanges
 
 pub returns-in_err-report-clause-over_streams : goal.returns-in_err-report-clause-over_streams
 returns-in_err-report-clause-over_streams g c =
     transfer_so c.args.limits c.args.script.key (mode_of c.args.mode) c.args.at c.write-session.result.current c.args.script.secondary c.new-made.result.items c.transfer_zone-answer.new.made.items c.transfer_zone-answer.new.session c.transfer_zone-answer.result _
-    (ap (λ (s : Session). s.current) c.write-session.ensures) c.new-made.ensures.items c.transfer_zone-answer.ensures.exchanges
+    (ap (λ (s : Session). s.current) c.write-session.ensures ∙ c.of-zone.ensures) c.new-made.ensures.items c.transfer_zone-answer.ensures.exchanges
