@@ -1,10 +1,12 @@
+use Rattle.std.proofs.Common.{ap}
+use Rattle.zone_model.specs.Commits.{Commit}
 use Rattle.zone_sync.proofs.ReportLaw.{numbers_so}
 use Rattle.zone_sync.proofs.program.transfer_generated.Goals as goal
 
 pub returns-in_ok-report-in-Ok-clause-report : goal.returns-in_ok-report-in-Ok-clause-report
 returns-in_ok-report-in-Ok-clause-report g c =
     numbers_so _ c.args.size c.args.seed _ c.in-Ok.ended.outcome c.in-Ok.ended.made c.in-Ok.ended.last c.in-Ok.ended.status
-    (rw c.in_ok-sent.ensures at c.in-Ok.ensures.ended) c.in_ok-sent.sent.version _ c.in_ok-sent.ensures (rw c.in_ok-report-in-Ok.was at c.counts_octets-report.ensures)
+    (rw c.in_ok-sent.ensures at c.in-Ok.ensures.ended) c.in_ok-sent.sent.version _ (ap (λ (z : Commit). z.version) c.in_ok-sent.ensures) (rw c.in_ok-report-in-Ok.was at c.counts_octets-report.ensures)
 
 pub returns-in_ok-report-in-Ok-clause-others : goal.returns-in_ok-report-in-Ok-clause-others
 returns-in_ok-report-in-Ok-clause-others g c = (returns-in_ok-report-in-Ok-clause-report g c).known
