@@ -3,12 +3,14 @@
 
 use crate::host::{moment, opened};
 use std::io;
+use std::rt::Runtime;
+use std::sync::Wait;
 use zone_devices::sinks::StdSink;
 use zone_devices::sources::{Source, StdSource};
 use zone_primary_run::{exit_status, file_of, run_words};
 
 /// Runs the primary over the words after its name; in the place of a file that isn't opened stands nothing.
-pub fn serve_words(rt: &HostRuntime, words: &[String]) -> u8 {
+pub fn serve_words<R: Runtime + AllocGlobal + Wait>(rt: &R, words: &[String]) -> u8 {
     match opened(rt, file_of(words)) {
         Some(file) => serve(rt, words, true, &mut StdSource::new(file)),
         None => serve(rt, words, false, &mut StdSource::new(io::empty())),
@@ -16,7 +18,12 @@ pub fn serve_words(rt: &HostRuntime, words: &[String]) -> u8 {
 }
 
 /// Serves the script of a file over standard input and output.
-fn serve<F: Source>(rt: &HostRuntime, words: &[String], opened: bool, script: &mut F) -> u8 {
+fn serve<R: Runtime + AllocGlobal + Wait, F: Source>(
+    rt: &R,
+    words: &[String],
+    opened: bool,
+    script: &mut F,
+) -> u8 {
     let ended = run_words(
         rt,
         rt.alloc(),

@@ -3,6 +3,7 @@
 
 use std::alloc::AllocError;
 use std::process::ExitCode;
+use std::sync::Wait;
 use std::{env, io};
 use zone_sync::{LoopLink, Status, StdSink, StdSource, run_words};
 
@@ -22,7 +23,7 @@ fn words_of(rt: &HostRuntime) -> Result<Option<Vec<String>>, AllocError> {
 }
 
 /// Runs the program over the words that were read.
-fn run_on(rt: &HostRuntime, words: Option<&[String]>) -> Status {
+fn run_on<R: AllocGlobal + Input + Print + Wait>(rt: &R, words: Option<&[String]>) -> Status {
     run_words(
         rt,
         rt.alloc(),
