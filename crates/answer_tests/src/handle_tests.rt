@@ -80,7 +80,7 @@ fn walks_each_set_once(rt: HostRuntime) {
     assert!(rt; found.is_ok());
     drop(found);
     drop(read);
-    drop(zone);
+    zone.close(&rt);
 }
 
 #[test]
@@ -101,8 +101,8 @@ fn versions_are_the_same_but_for_order(rt: HostRuntime) {
     drop(second);
     drop(less);
     drop(first);
-    drop(other);
-    drop(one);
+    other.close(&rt);
+    one.close(&rt);
 }
 
 /// Asserts that a query of A is answered with authority, with this rcode and the data of this first record, none where it is empty.
@@ -143,5 +143,5 @@ fn queries_are_answered(rt: HostRuntime) {
     is(&rt, refused, Some(QueryError::OutOfZone));
     drop(outside);
     drop(read);
-    drop(zone);
+    zone.close(&rt);
 }

@@ -105,7 +105,7 @@ fn opened<R: Abort + Wait>(rt: &R, alloc: Global, apex: &[u8], rows: &str) -> Re
     }
     let zone = builder.build().expect(rt, "memory");
     let read = zone.read(rt).expect(rt, "memory");
-    drop(zone);
+    zone.close(rt);
     read
 }
 

@@ -94,7 +94,7 @@ fn handles_answer_from_their_positions(rt: HostRuntime) {
     answers(&rt, alloc, handles.as_slice(), 5, e, Ok(absent));
     drop(handles);
     drop(session);
-    drop(zone);
+    zone.close(&rt);
 }
 
 /// A step that removes the node of a label below the apex, with what is below it.
@@ -128,5 +128,5 @@ fn nodes_are_edited(rt: HostRuntime) {
     answers(&rt, alloc, handles.as_slice(), 2, a, Ok(Rcode::NXDOMAIN));
     drop(handles);
     drop(session);
-    drop(zone);
+    zone.close(&rt);
 }

@@ -138,7 +138,7 @@ fn fetched<R: Abort + Wait>(
     let found = (outcome, version.version_number(), set_count(&version));
     drop(version);
     drop(session);
-    drop(zone);
+    zone.close(rt);
     drop(connection);
     found
 }

@@ -48,7 +48,7 @@ fn large_zone<R: Abort + Wait>(rt: &R, alloc: Global) -> ReadZone {
     drop(session.commit(rt, false).expect(rt, "a version"));
     let version = session.handle().expect(rt, "memory");
     drop(session);
-    drop(zone);
+    zone.close(rt);
     version
 }
 
@@ -128,7 +128,7 @@ fn transfers<R: Abort + Wait>(rt: &R, alloc: Global, is_damaged: bool) {
     client.into_session();
     let number = session.handle().expect(rt, "memory").version_number();
     drop(session);
-    drop(zone);
+    zone.close(rt);
     is(rt, number == 0, is_damaged);
 }
 

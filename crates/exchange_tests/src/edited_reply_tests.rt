@@ -123,7 +123,7 @@ pub(crate) fn large_primary<R: Abort + Wait>(rt: &R, alloc: Global, key: &Key) -
     add(rt, &mut session, txt(rt, alloc));
     commit_and_push(rt, &mut session, &mut provider);
     drop(session);
-    drop(zone);
+    zone.close(rt);
     stack_of(provider, key)
 }
 
@@ -164,7 +164,7 @@ fn is_so<R: Abort + Wait>(
     drop(current);
     drop(made);
     drop(session);
-    drop(zone);
+    zone.close(rt);
 }
 
 /// Asserts the rows of a table.
@@ -267,7 +267,7 @@ fn refuses_unsigned<R: Abort + Wait>(rt: &R, alloc: Global, count: u8, is_signed
     drop(told);
     drop(made);
     drop(session);
-    drop(zone);
+    zone.close(rt);
     drop(key);
 }
 

@@ -207,7 +207,7 @@ pub(crate) fn primary_of<R: Abort + Wait>(
         }
     }
     drop(session);
-    drop(zone);
+    zone.close(rt);
     stack_of(provider, key)
 }
 

@@ -142,7 +142,7 @@ fn is_so<R: Abort + Wait>(
     let pending = pending_of(rt, alloc, &mut session);
     is(rt, pending, current);
     drop(session);
-    drop(zone);
+    zone.close(rt);
 }
 
 /// Asserts the rows of a table.

@@ -148,7 +148,7 @@ fn is_so<R: Abort + Wait>(rt: &R, alloc: Global, case: Case) {
     }
     drop(current);
     drop(session);
-    drop(zone);
+    zone.close(rt);
 }
 
 #[test]
@@ -193,7 +193,7 @@ fn says<R: Abort + Wait>(
     is(rt, (answer, made.len()), wanted);
     drop(made);
     drop(session);
-    drop(zone);
+    zone.close(rt);
 }
 
 /// Asserts that a request has too many octets for a link.
@@ -247,7 +247,7 @@ fn no_version_number_is_left(rt: HostRuntime) {
     let refused = session.commit(&rt, false).err();
     is(&rt, refused, Some(CommitError::VersionsExhausted));
     drop(session);
-    drop(zone);
+    zone.close(&rt);
     is_exhausted(&rt, alloc, u64::MAX, XfrMode::Axfr, 0);
     is_exhausted(&rt, alloc, u64::MAX, XfrMode::Ixfr, 0);
     is_exhausted(&rt, alloc, u64::MAX - 1, XfrMode::Ixfr, 1);

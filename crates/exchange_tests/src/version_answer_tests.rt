@@ -124,5 +124,5 @@ fn each_version_answers_as_it_did(rt: HostRuntime) {
     );
     drop(versions);
     drop(session);
-    drop(zone);
+    zone.close(&rt);
 }

@@ -291,7 +291,7 @@ fn answer_to<R: Abort + Wait>(
     let mut session = zone.write(alloc);
     let answer = answer_in(rt, alloc, case, XfrMode::Axfr, max_len, &mut session, made);
     drop(session);
-    drop(zone);
+    zone.close(rt);
     answer
 }
 
@@ -355,7 +355,7 @@ fn is_newer<R: Abort + Wait>(rt: &R, alloc: Global, number: usize, case: Case) {
         &mut made,
     );
     drop(session);
-    drop(zone);
+    zone.close(rt);
     says(rt, alloc, answer, made, case);
 }
 
@@ -421,7 +421,7 @@ fn nothing_to_ask_with(rt: HostRuntime) {
     is(&rt, count, 0);
     drop(made);
     drop(session);
-    drop(zone);
+    zone.close(&rt);
 }
 
 /// A request of 101 octets over a link that takes 100 is too long, which isn't want of memory.
@@ -493,7 +493,7 @@ fn an_unsigned_reply_after_a_signed_one(rt: HostRuntime) {
     makes_nothing(&rt, alloc, &mut client, octets, wanted);
     client.into_session();
     drop(session);
-    drop(zone);
+    zone.close(&rt);
     drop(key);
 }
 
@@ -573,7 +573,7 @@ fn makes_a_first_part_in_want_of_memory(rt: HostRuntime) {
     let has_first = session.has_data(&first);
     is(&rt, has_first, count == 1);
     drop(session);
-    drop(zone);
+    zone.close(&rt);
     drop(first);
 }
 

@@ -4,14 +4,14 @@ use crate::common::{
     APEX, HOST, SERVER, add, address, aliases, count_records, is, name, says, server, set_of,
     signer, target, three,
 };
-use dns_name::NameRef;
+use dns_name::{NameRef, StoredName};
 use dns_numbers::{Class, Rtype, Ttl};
 use dns_rdata::StoredRecord;
-use std::alloc::Global;
+use std::alloc::{AllocError, Global};
 use std::process::Abort;
 use std::sync::Wait;
 use zone_file::{InsertCnameError, InsertCutError, InsertZoneError, ZoneBuilder, ZoneTree};
-use zone_store::{CommitError, InsertError, ReadZone, ReadableZone, Zone, ZoneApex};
+use zone_store::{CommitError, InsertError, ReadZone, ReadableZone, Zone, ZoneStore};
 use zone_types::{Rrset, SharedRr, SharedRrset};
 
 const A: &[u8] = b"\x01a\x07example\x00";
@@ -33,7 +33,7 @@ fn builder<R: Abort>(rt: &R, alloc: Global) -> ZoneBuilder {
 fn opened<R: Abort + Wait>(rt: &R, builder: ZoneBuilder) -> ReadZone {
     let zone = builder.build().expect(rt, "memory");
     let read = zone.read(rt).expect(rt, "memory");
-    drop(zone);
+    zone.close(rt);
     read
 }
 
@@ -236,7 +236,7 @@ fn the_last_version_number_is_the_last(rt: HostRuntime) {
     drop(same);
     drop(session);
     is(&rt, zone.versions(), u64::MAX);
-    drop(zone);
+    zone.close(&rt);
 }
 
 #[test]
@@ -254,16 +254,47 @@ fn texts_of_refused_cuts_and_aliases(rt: HostRuntime) {
     says(&rt, alloc, &InsertCnameError::Memory, memory);
 }
 
+/// A zone that gives its one version.
+#[derive(Drop)]
+struct Kept {
+    read: ReadZone,
+}
+
+impl ZoneStore for Kept {
+    ghost use Rattle.std.specs.Prelude.{◌≡◌};
+
+    type Read = ReadZone;
+
+    ghost MayGive = { λ z c. c ≡ z.read };
+
+    ghost class_of = { λ z. z.read.version.class };
+
+    ghost apex_of = { λ z. z.read.version.apex };
+
+    fn class(&self) -> Class {
+        self.read.class()
+    }
+
+    fn apex_name(&self) -> &StoredName {
+        self.read.apex_name()
+    }
+
+    fn read<R: Wait>(&self, _rt: &R) -> Result<ReadZone, AllocError> {
+        self.read.clone()
+    }
+}
+
 /// A zone without records, of class IN, whose version has this number.
-fn numbered<R: Abort>(rt: &R, alloc: Global, apex: &[u8], number: u64) -> Zone<ZoneApex> {
+fn numbered<R: Abort>(rt: &R, alloc: Global, apex: &[u8], number: u64) -> Zone<Kept> {
     let builder = ZoneBuilder::new(alloc, name(rt, alloc, apex), Class::IN);
-    Zone::new(builder.build_at(number).expect(rt, "memory"))
+    let read = builder.into_read(number).expect(rt, "memory");
+    Zone::new(Kept { read })
 }
 
 fn plant<R: Abort>(
     rt: &R,
     alloc: Global,
-    tree: &mut ZoneTree<Zone<ZoneApex>>,
+    tree: &mut ZoneTree<Zone<Kept>>,
     apex: &[u8],
     number: u64,
 ) {
@@ -272,24 +303,19 @@ fn plant<R: Abort>(
 }
 
 /// The number of the version of the zone that a name lies in.
-fn nearest<R: Abort>(
-    rt: &R,
-    tree: &ZoneTree<Zone<ZoneApex>>,
-    qname: &[u8],
-    class: u16,
-) -> Option<u64> {
+fn nearest<R: Abort>(rt: &R, tree: &ZoneTree<Zone<Kept>>, qname: &[u8], class: u16) -> Option<u64> {
     let qname = NameRef::from_octets(qname).expect(rt, "a name");
     match tree.find_zone(&qname, Class::from_int(class)) {
-        Some(zone) => Some(zone.store().versions()),
+        Some(zone) => Some(zone.store().read.version_number()),
         None => None,
     }
 }
 
 /// The number of the version of a zone that is handed back where one stands already.
-fn number_back(put: Result<(), InsertZoneError<Zone<ZoneApex>>>) -> Option<u64> {
+fn number_back(put: Result<(), InsertZoneError<Zone<Kept>>>) -> Option<u64> {
     match put {
         Err(InsertZoneError::ZoneExists(zone)) => {
-            let number = zone.store().versions();
+            let number = zone.store().read.version_number();
             drop(zone);
             Some(number)
         }
@@ -319,7 +345,7 @@ fn a_tree_of_zones_finds_the_nearest(rt: HostRuntime) {
     is(&rt, nearest(&rt, &tree, below_a, 1), Some(2));
     let apex = NameRef::from_octets(A).expect(&rt, "a name");
     let removed = tree.remove_zone(&apex, Class::IN).expect(&rt, "a zone");
-    is(&rt, removed.store().versions(), 2);
+    is(&rt, removed.store().read.version_number(), 2);
     drop(removed);
     is(&rt, nearest(&rt, &tree, below_a, 1), Some(1));
     drop(tree);

@@ -78,7 +78,7 @@ fn tells_a_changed_ttl(rt: HostRuntime) {
     drop(diff);
     tells_nothing(&rt, &mut session);
     drop(session);
-    drop(zone);
+    zone.close(&rt);
 }
 
 #[test]
@@ -96,7 +96,7 @@ fn counts_the_serial_on(rt: HostRuntime) {
     is(&rt, read.version(), 2);
     drop(read);
     drop(session);
-    drop(zone);
+    zone.close(&rt);
 }
 
 // What comes and goes, before the difference is asked for too, isn't told.
@@ -114,7 +114,7 @@ fn tells_what_is_left_of_edits(rt: HostRuntime) {
     is(&rt, counts(&diff), (1, 1));
     drop(diff);
     drop(session);
-    drop(zone);
+    zone.close(&rt);
 }
 
 // Edits that are dropped leave every handle's sets.
@@ -134,10 +134,10 @@ fn drops_edits_without_a_trace(rt: HostRuntime) {
     tells_nothing(&rt, &mut session);
     let later = session.handle().expect(&rt, "memory");
     assert!(rt; later.rrset_at(&owner, Rtype::A).is_some());
-    is(&rt, session.into_zone().versions(), 2);
+    is(&rt, session.into_desk().current().version_number(), 2);
     drop(later);
     drop(handle);
-    drop(zone);
+    zone.close(&rt);
 }
 
 // The SOA is the one of the version that is read, whatever was committed since.
@@ -155,7 +155,7 @@ fn gives_the_soa_of_a_version(rt: HostRuntime) {
     is(&rt, serial_in(&zone, &now), Some(Serial::from(8)));
     drop(now);
     drop(before);
-    drop(zone);
+    zone.close(&rt);
 }
 
 /// The serial of a version's first SOA record.
@@ -181,5 +181,5 @@ fn prepares_names_of_the_zone(rt: HostRuntime) {
     assert!(rt; zone.prepare_name(&outside).is_err());
     drop(outside);
     drop(below);
-    drop(zone);
+    zone.close(&rt);
 }

@@ -57,5 +57,5 @@ fn a_handle_keeps_its_version(rt: HostRuntime) {
     assert_eq!(rt; found.rcode(), Rcode::NXDOMAIN);
     drop(after);
     drop(before);
-    drop(zone);
+    zone.close(&rt);
 }

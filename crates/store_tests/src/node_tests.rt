@@ -71,7 +71,7 @@ fn replaces_a_set(rt: HostRuntime) {
     is(&rt, told, Ok(()));
     is(&rt, count(&rt, &mut session, b"a", Rtype::A), 0);
     drop(session);
-    drop(zone);
+    zone.close(&rt);
 }
 
 #[test]
@@ -92,7 +92,7 @@ fn reaches_names_below(rt: HostRuntime) {
     assert!(rt; read.rrset_at(&owner, Rtype::A).is_some());
     drop(read);
     drop(session);
-    drop(zone);
+    zone.close(&rt);
 }
 
 #[test]
@@ -113,7 +113,7 @@ fn has_room_for_255_octets(rt: HostRuntime) {
     is(&rt, node.name().as_slice().len(), 255);
     drop(node);
     drop(session);
-    drop(zone);
+    zone.close(&rt);
 }
 
 #[test]
@@ -144,7 +144,7 @@ fn makes_a_cut(rt: HostRuntime) {
     drop(node);
     is(&rt, count(&rt, &mut session, b"c", Rtype::NS), 0);
     drop(session);
-    drop(zone);
+    zone.close(&rt);
 }
 
 #[test]
@@ -169,7 +169,7 @@ fn makes_an_alias(rt: HostRuntime) {
     is(&rt, count(&rt, &mut session, b"a", Rtype::CNAME), 1);
     is(&rt, count(&rt, &mut session, b"a", Rtype::A), 1);
     drop(session);
-    drop(zone);
+    zone.close(&rt);
 }
 
 #[test]
@@ -196,5 +196,5 @@ fn removes_a_node_and_what_is_below(rt: HostRuntime) {
     drop(node);
     is(&rt, count(&rt, &mut session, b"ba", Rtype::A), 0);
     drop(session);
-    drop(zone);
+    zone.close(&rt);
 }

@@ -86,7 +86,7 @@ fn a_whole_file_opens_as_a_zone(rt: HostRuntime) {
     is(&rt, found.found_type(), Some(Rtype::CNAME));
     drop(found);
     drop(read);
-    drop(zone);
+    zone.close(&rt);
 }
 
 #[test]
@@ -104,7 +104,7 @@ fn a_whole_file_opens_as_a_builder(rt: HostRuntime) {
     let read = zone.read(&rt).expect(&rt, "memory");
     has_sets(&rt, &read);
     drop(read);
-    drop(zone);
+    zone.close(&rt);
 }
 
 #[test]
@@ -114,7 +114,7 @@ fn a_file_without_records_opens(rt: HostRuntime) {
     let read = zone.read(&rt).expect(&rt, "memory");
     assert!(rt; read.first_rrset().is_none());
     drop(read);
-    drop(zone);
+    zone.close(&rt);
 }
 
 /// Asserts what is told of a file that makes no zone.
@@ -134,7 +134,14 @@ fn ds_alone_opens_not(rt: HostRuntime) {
     opens_not(&rt, alloc, lacking, told);
     let mut lacking = file(&rt, alloc);
     takes(&rt, &mut lacking, signer(&rt, alloc, OTHER));
-    let refused = Zone::try_from(lacking).err().expect(&rt, "a refusal");
+    let refused = match Zone::try_from(lacking) {
+        Ok(zone) => {
+            zone.close(&rt);
+            None
+        }
+        Err(refused) => Some(refused),
+    };
+    let refused = refused.expect(&rt, "a refusal");
     let told =
         "Zone file errors: ['d.example': The record is parseable but not valid: Missing NS,]";
     says(&rt, alloc, &refused, told);

@@ -134,7 +134,7 @@ fn lends_the_parts_of_a_version(rt: HostRuntime) {
         NameKind::Absent,
     );
     drop(read);
-    drop(zone);
+    zone.close(&rt);
 }
 
 #[test]
@@ -158,7 +158,7 @@ fn tells_zone_cuts(rt: HostRuntime) {
     is(&rt, cut.is_none(), true);
     drop(cut);
     drop(read);
-    drop(zone);
+    zone.close(&rt);
 }
 
 #[test]
@@ -173,14 +173,14 @@ fn opens_with_the_parts(rt: HostRuntime) {
     let again = ZoneApex::from_parts(alloc, apex, Class::from_int(3), rrsets, children, 7);
     let again = again.expect(&rt, "memory");
     drop(read);
-    drop(zone);
+    zone.close(&rt);
     is(&rt, again.versions(), 7);
     is(&rt, again.class(), Class::from_int(3));
     is(&rt, again.name().as_slice(), b"\x07eXAMPLE\x00".as_slice());
     let read = again.read(&rt).expect(&rt, "memory");
     are_parts(&rt, alloc, &again.rrsets(&read), &again.children(&read));
     drop(read);
-    drop(again);
+    again.close(&rt);
 }
 
 #[test]
@@ -195,12 +195,12 @@ fn opens_at_the_last_number(rt: HostRuntime) {
     let last = ZoneApex::from_parts(alloc, apex, Class::IN, rrsets, children, u64::MAX);
     let mut last = last.expect(&rt, "memory");
     drop(read);
-    drop(zone);
+    zone.close(&rt);
     let mut session = last.write(alloc);
     add(&rt, &mut session, address(&rt, alloc, HOST, 60, 1));
     let refused = session.commit(&rt, false).err();
     is(&rt, refused, Some(CommitError::VersionsExhausted));
     drop(session);
     is(&rt, last.versions(), u64::MAX);
-    drop(last);
+    last.close(&rt);
 }

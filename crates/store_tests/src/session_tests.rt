@@ -54,7 +54,7 @@ fn walks_in_order(rt: HostRuntime) {
     drop(third);
     drop(first);
     drop(zone);
-    drop(apex);
+    apex.close(&rt);
 }
 
 #[test]
@@ -85,7 +85,7 @@ fn flags_what_is_below_a_cut(rt: HostRuntime) {
     assert!(rt; !has_set(&rt, &read, upper, Rtype::NS));
     drop(read);
     drop(session);
-    drop(zone);
+    zone.close(&rt);
 }
 
 /// The number of a session's current version.
@@ -108,7 +108,7 @@ fn counts_commits(rt: HostRuntime) {
     let read = zone.read(&rt).expect(&rt, "memory");
     is(&rt, read.version_number(), 3);
     drop(read);
-    drop(zone);
+    zone.close(&rt);
 }
 
 #[test]
@@ -126,7 +126,7 @@ fn drops_what_is_pending(rt: HostRuntime) {
     let read = zone.read(&rt).expect(&rt, "memory");
     assert!(rt; read.first_rrset().is_none());
     drop(read);
-    drop(zone);
+    zone.close(&rt);
 }
 
 #[test]
@@ -143,7 +143,7 @@ fn keeps_a_handles_version(rt: HostRuntime) {
     drop(after);
     drop(session);
     drop(before);
-    drop(zone);
+    zone.close(&rt);
 }
 
 #[test]
@@ -157,7 +157,7 @@ fn refuses_what_does_not_fit(rt: HostRuntime) {
     is(&rt, again, Err(EditError::Incompatible));
     commit(&rt, &mut session);
     drop(session);
-    drop(zone);
+    zone.close(&rt);
 }
 
 #[test]
@@ -178,7 +178,7 @@ fn opens_with_what_was_inserted(rt: HostRuntime) {
     is(&rt, first.items().len(), 1);
     drop(first);
     drop(read);
-    drop(zone);
+    zone.close(&rt);
 }
 
 #[test]
@@ -205,7 +205,7 @@ fn a_session_refuses_a_second_alias(rt: HostRuntime) {
     is(&rt, refused, Err(EditError::InvalidData));
     commit(&rt, &mut session);
     drop(session);
-    drop(zone);
+    zone.close(&rt);
 }
 
 /// What the deletion of a record gives.
@@ -234,7 +234,7 @@ fn takes_a_record_as_it_is_sent(rt: HostRuntime) {
     is(&rt, session.delete_any(&sent), Ok(()));
     drop(sent);
     drop(session);
-    drop(zone);
+    zone.close(&rt);
 }
 
 #[test]
@@ -251,7 +251,7 @@ fn deletes_the_last_data_of_a_set(rt: HostRuntime) {
     assert!(rt; !has_set(&rt, &read, A, Rtype::A));
     drop(read);
     drop(session);
-    drop(zone);
+    zone.close(&rt);
 }
 
 /// A server of the apex, named by one letter below it.
@@ -287,7 +287,7 @@ fn finds_equal_data_among_many(rt: HostRuntime) {
     commit(&rt, &mut session);
     is(&rt, add_servers(&rt, alloc, &mut session), 19);
     drop(session);
-    drop(zone);
+    zone.close(&rt);
 }
 
 /// Whether a record is added, and how many nodes were built so far.
@@ -340,7 +340,7 @@ fn counts_the_nodes_of_edits(rt: HostRuntime) {
     let there = delete_counted(&mut session, deleted, &mut steps);
     is(&rt, there, (true, 5));
     drop(session);
-    drop(zone);
+    zone.close(&rt);
 }
 
 /// The number of the session's current version, and whether it has addresses of a and of b.
@@ -388,6 +388,6 @@ fn stays_as_it_was_in_want_of_memory(rt: HostRuntime) {
     let current = current_of(&rt, &mut session);
     is(&rt, current, (number, true, is_current));
     drop(session);
-    drop(zone);
+    zone.close(&rt);
     drop(same);
 }

@@ -112,7 +112,7 @@ fn ask_within<R: Abort + Wait, S: Source>(
     let number = current.version();
     drop(current);
     drop(session);
-    drop(zone);
+    zone.close(rt);
     (answer, versions, number)
 }
 

@@ -405,7 +405,7 @@ fn within<R: Abort + Wait>(
     let versions = made.len();
     drop(made);
     drop(session);
-    drop(zone);
+    zone.close(rt);
     drop(key);
     drop(out);
     drop(src);

@@ -7,16 +7,16 @@ use dns_name::StoredName;
 use dns_numbers::{Class, Rtype, Serial, Ttl};
 use dns_rdata::Soa;
 use dns_wire::{Header, MessageBuf, MessageBuilder, Question};
-use std::alloc::Global;
+use std::alloc::{AllocError, Global};
 use std::process::Abort;
 use std::sync::Wait;
 use tsig_port::Key;
 use xfr_server::{
-    HistoryProvider, Request, TransportSpecificContext, XfrDataProvider, XfrDataProviderError,
-    commits_may_be_pushed,
+    HistoryProvider, Request, StoredZone, TransportSpecificContext, XfrDataProvider,
+    XfrDataProviderError, commits_may_be_pushed,
 };
-use zone_file::ZoneTree;
-use zone_store::{WriteZone, Zone, ZoneApex};
+use zone_file::{AtApex, ZoneTree};
+use zone_store::{ReadZone, WriteZone, Zone};
 
 /// Gives the pending version an SOA record with this serial.
 fn put_serial<R: Abort>(rt: &R, session: &mut WriteZone<'_>, serial: u32)
@@ -158,7 +158,7 @@ fn three_pushes_asked_from_each_serial(rt: HostRuntime) {
     gives(&rt, alloc, &provider, 5, [5, 6].as_slice());
     drop(provider);
     drop(session);
-    drop(zone);
+    zone.close(&rt);
 }
 
 // 2147483648 is 1 and 2^31 - 1, the most that a serial may grow by (RFC 1982, 3.1); 4294967295 is that and 2^31 - 1 again, and 2 more are 1
@@ -184,7 +184,7 @@ fn a_serial_that_comes_back(rt: HostRuntime) {
     gives(&rt, alloc, &provider, 4_294_967_295, kept.as_slice());
     drop(provider);
     drop(session);
-    drop(zone);
+    zone.close(&rt);
 }
 
 /// How many differences a provider gives, or why it gives nothing.
@@ -231,14 +231,42 @@ fn whom_a_history_is_denied(rt: HostRuntime) {
     is(&rt, found, Err(XfrDataProviderError::ParseError));
     drop(provider);
     drop(session);
-    drop(zone);
+    zone.close(&rt);
+}
+
+/// A zone of a tree, of which one version is kept.
+#[derive(Drop)]
+struct Kept {
+    read: ReadZone,
+}
+
+impl AtApex for Kept {
+    ghost class_of = { λ z. z.read.version.class };
+
+    ghost apex_of = { λ z. z.read.version.apex };
+
+    fn class(&self) -> Class {
+        self.read.class()
+    }
+
+    fn apex_name(&self) -> &StoredName {
+        self.read.apex_name()
+    }
+}
+
+impl StoredZone for Kept {
+    ghost current = { λ z. z.read.version };
+
+    fn read_current<R: Wait>(&self, _rt: &R) -> Result<ReadZone, AllocError> {
+        self.read.clone()
+    }
 }
 
 /// What a zone and a tree of it alone tell those who ask without a key for this name and class.
 fn both_told<R: Abort + Wait>(
     rt: &R,
     alloc: Global,
-    tree: &ZoneTree<Zone<ZoneApex>>,
+    tree: &ZoneTree<Kept>,
     qname: &[u8],
     class: Class,
 ) -> (
@@ -248,7 +276,7 @@ fn both_told<R: Abort + Wait>(
     let zone = Zone::new(empty_zone(rt, alloc));
     let asked = question(rt, alloc, qname, class);
     let of_zone = told(rt, alloc, &zone, request_of(asked, ()));
-    drop(zone);
+    zone.close(rt);
     let asked = question(rt, alloc, qname, class);
     let of_tree = told(rt, alloc, tree, request_of(asked, ()));
     (of_zone, of_tree)
@@ -259,8 +287,10 @@ fn both_told<R: Abort + Wait>(
 fn a_zone_and_a_tree_of_zones(rt: HostRuntime) {
     let alloc = rt.alloc();
     let mut tree = ZoneTree::new(alloc);
-    let zone = Zone::new(empty_zone(&rt, alloc));
-    tree.insert_zone(zone).expect(&rt, "a new zone");
+    let zone = empty_zone(&rt, alloc);
+    let read = zone.read(&rt).expect(&rt, "memory");
+    zone.close(&rt);
+    tree.insert_zone(Kept { read }).expect(&rt, "a new zone");
     let unknown = Err(XfrDataProviderError::UnknownZone);
     let apex = both_told(&rt, alloc, &tree, EXAMPLE, Class::IN);
     is(&rt, apex, (Ok(0), Ok(0)));

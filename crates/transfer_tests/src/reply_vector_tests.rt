@@ -210,7 +210,7 @@ fn makes<R: Abort + Wait>(rt: &R, alloc: Global, words: &str, number: u64, walk:
     walks(rt, alloc, &version, walk);
     drop(version);
     drop(session);
-    drop(zone);
+    zone.close(rt);
 }
 
 // The first version is published once more where a batch begins; equal SOAs leave all but the SOA.
@@ -235,7 +235,7 @@ fn axfr_response_generates_expected_events(rt: HostRuntime) {
     let version = zone.read(&rt).expect(&rt, "memory");
     walks(&rt, alloc, &version, "com-1 com-2 com-soa");
     drop(version);
-    drop(zone);
+    zone.close(&rt);
 }
 
 // What is pending without an end goes with the updater: a commit behind it publishes nothing of it.
@@ -250,5 +250,5 @@ fn check_rollback(rt: HostRuntime) {
     let version = zone.read(&rt).expect(&rt, "memory");
     walks(&rt, alloc, &version, "");
     drop(version);
-    drop(zone);
+    zone.close(&rt);
 }

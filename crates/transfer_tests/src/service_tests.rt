@@ -127,7 +127,7 @@ fn three_versions<R: Abort + Wait>(
     edit_third(rt, alloc, &mut session);
     push(rt, &mut session, &mut provider);
     drop(session);
-    drop(zone);
+    zone.close(rt);
     provider
 }
 
@@ -195,14 +195,29 @@ fn sent<R: Abort + Wait, M: Default + Drop, X: XfrDataProvider<M> + Drop>(
     reserved: u16,
     metadata: M,
 ) -> String {
+    let (text, provider) = sent_of(rt, alloc, provider, asked, transport, reserved, metadata);
+    drop(provider);
+    text
+}
+
+/// The same, and the provider again.
+fn sent_of<R: Abort + Wait, M: Default + Drop, X: XfrDataProvider<M>>(
+    rt: &R,
+    alloc: Global,
+    provider: X,
+    asked: MessageBuf,
+    transport: TransportSpecificContext,
+    reserved: u16,
+    metadata: M,
+) -> (String, X) {
     let mut request = Request::new(asked, transport, at(), metadata);
     request.reserve_bytes(reserved);
     let service = XfrMiddlewareSvc::new(RefuseSvc, provider);
     let mut stream = service.call(rt, alloc, request).expect(rt, "replies");
     let text = pulled(rt, alloc, &mut stream);
     drop(stream);
-    drop(service);
-    text
+    let (_, provider) = service.into_parts();
+    (text, provider)
 }
 
 /// The same text of items in a line: between semicolons the feedback, or a message: the question's type, the count of records, and their words,
@@ -261,15 +276,10 @@ fn axfr_within<R: Abort + Wait>(rt: &R, alloc: Global, limit: u16) -> String {
     let asked = message(rt, alloc, AXFR);
     let reserved = 65_535 - limit;
     let stream = TransportSpecificContext::NonUdp;
-    sent(
-        rt,
-        alloc,
-        first_zone(rt, alloc),
-        asked,
-        stream,
-        reserved,
-        (),
-    )
+    let zone = first_zone(rt, alloc);
+    let (text, zone) = sent_of(rt, alloc, zone, asked, stream, reserved, ());
+    zone.close(rt);
+    text
 }
 
 // The whole text has 247 octets, and its first two records 112.
@@ -393,7 +403,7 @@ fn a_commit_changes_no_stream(rt: HostRuntime) {
     drop(session);
     let found = pulled(&rt, alloc, &mut stream);
     drop(stream);
-    drop(zone);
+    zone.close(&rt);
     are(&rt, alloc, found, WHOLE_1);
 }
 
@@ -437,7 +447,9 @@ fn axfr_of_large<R: Abort + Wait>(rt: &R, alloc: Global, count: u8, len: u16) ->
     drop(session);
     let asked = message(rt, alloc, AXFR);
     let stream = TransportSpecificContext::NonUdp;
-    sent(rt, alloc, Zone::new(zone), asked, stream, 76, ())
+    let (text, zone) = sent_of(rt, alloc, Zone::new(zone), asked, stream, 76, ());
+    zone.close(rt);
+    text
 }
 
 /// Asserts the items of a line, in which a word stands for a large record: that of the octet 1 is `x`, of 2 `xx` and so on.
@@ -472,7 +484,7 @@ fn with_large<R: Abort + Wait>(rt: &R, alloc: Global, len: u16) -> HistoryProvid
     add_large(rt, alloc, &mut session, 1, len);
     push(rt, &mut session, &mut provider);
     drop(session);
-    drop(zone);
+    zone.close(rt);
     provider
 }
 

@@ -225,7 +225,7 @@ AddRecord nezu-5 Err(Finished)";
     updater.into_session();
     drop(session);
     is(&rt, zone.versions(), 3);
-    drop(zone);
+    zone.close(&rt);
 }
 
 /// Applies an update, its record by a word and stored.
@@ -280,7 +280,7 @@ AddRecord nezu-5 Err(Finished)";
     updater.into_session();
     drop(session);
     is(&rt, zone.versions(), 2);
-    drop(zone);
+    zone.close(&rt);
 }
 
 /// What a version answers to a question about a name, by digits: the rcode, and the data of the set that was found, of a cut's servers and of
@@ -343,7 +343,7 @@ fn write_soa_read_soa(rt: HostRuntime) {
     applies_anew(&rt, alloc, &mut session, updates);
     answers(&rt, alloc, &mut session, COM, Rtype::SOA, COM_SOA);
     drop(session);
-    drop(zone);
+    zone.close(&rt);
 }
 
 // The second updater's end puts its SOA in the place of both, and tells the difference that the session was asked for.
@@ -365,7 +365,7 @@ AddRecord com-soa-23 Ok(None)
 Finished com-soa-23 Ok(Some((20240922, 20240923, 1, 1)))";
     applies_anew(&rt, alloc, &mut session, updates);
     drop(session);
-    drop(zone);
+    zone.close(&rt);
 }
 
 #[test]
@@ -377,7 +377,7 @@ fn ixfr_delete_non_existing_record(rt: HostRuntime) {
         "DeleteRecord com-soa Err(IncompatibleUpdate)\nDeleteRecord com-soa Err(Finished)";
     applies_anew(&rt, alloc, &mut session, updates);
     drop(session);
-    drop(zone);
+    zone.close(&rt);
 }
 
 #[test]
@@ -391,7 +391,7 @@ AddRecord com-soa Err(IncompatibleUpdate)
 AddRecord com-soa Err(Finished)";
     applies_anew(&rt, alloc, &mut session, updates);
     drop(session);
-    drop(zone);
+    zone.close(&rt);
 }
 
 /// The record of a word.
@@ -489,5 +489,5 @@ fn clear_special_on_delete(rt: HostRuntime) {
         drop(qname);
     }
     drop(session);
-    drop(zone);
+    zone.close(&rt);
 }

@@ -72,7 +72,7 @@ fn transferred<R: Abort + Wait>(rt: &R, alloc: Global, message: &MessageBuf) -> 
     let version = updater.handle().expect(rt, "memory");
     updater.into_session();
     drop(session);
-    drop(zone);
+    zone.close(rt);
     version
 }
 

@@ -73,7 +73,7 @@ pub(crate) fn example_zone<R: Abort + Wait>(rt: &R, alloc: Global) -> ReadZone {
     fill(rt, alloc, &mut session);
     let version = session.handle().expect(rt, "memory");
     drop(session);
-    drop(zone);
+    zone.close(rt);
     version
 }
 

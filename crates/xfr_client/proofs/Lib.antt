@@ -29,4 +29,5 @@ pub mod Clients
 pub mod Requests
 pub mod Replying
 pub mod Handles
+pub mod Growing
 pub mod Unasked

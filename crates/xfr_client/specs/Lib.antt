@@ -15,4 +15,5 @@ pub mod Standing
 pub mod Replies
 pub mod Transfers
 pub mod Handles
+pub mod Growing
 pub mod Borrowing

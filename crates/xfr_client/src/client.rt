@@ -6,6 +6,7 @@ ghost use Rattle.xfr_outcomes.specs.Modes.{mode_of};
 ghost use Rattle.xfr_client.specs.SoFar.{asked_octets, CanAsk, CantAsk};
 ghost use Rattle.xfr_client.specs.Standing.{asking_of, Stands, TakesReply, ReadsWhole};
 ghost use Rattle.xfr_client.specs.Room.{ReplyKeepsRoom, ReplyStopsAt};
+ghost use Rattle.xfr_client.specs.Growing.{Grows};
 ghost use Rattle.xfr_client.specs.Steps.{KeepsWish, StaysStill};
 
 use crate::exchange::Client;
@@ -141,6 +142,8 @@ impl<'s, 'z> XfrClient<'s, 'z> {
         ensures stops { (base : Commit) (taken : List (List ℕ)) (before : List Commit) → Stands self.old.client self.old.session (asking_of self.old.client base) taken before made.old.items
             → result ≡ Err SyncError.Memory → ReplyStopsAt self.old.client.most (asking_of self.old.client base) self.new.session before made.new.items taken octets.items self.new.client.full }
         ensures full { self.new.client.full ≡ true → result ≡ Err SyncError.Memory }
+        // The zone's history gains the commits of the handles that came.
+        ensures history { Grows self.old.session.past self.new.session.past made.old.items made.new.items }
         ensures limit { self.new.client.most ≡ self.old.client.most }
         ensures lender { self.new.lender ≡ self.old.lender }
     {

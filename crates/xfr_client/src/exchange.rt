@@ -21,6 +21,7 @@ ghost use Rattle.xfr_client.specs.Ending.{same_serial, settled};
 ghost use Rattle.xfr_client.specs.Standing.{asking_of, Stands, TakesReply, ExchangeStands, ReadsWhole};
 ghost use Rattle.xfr_client.specs.Replies.{AnswersReply, AnswersRequest, IsAnswerTo, TestsReply, TakesMessage};
 ghost use Rattle.xfr_client.specs.Room.{set_count, is_full, adds_to_full, KeepsAllRoom, StopsAt, ReplyKeepsRoom, ReplyStopsAt};
+ghost use Rattle.xfr_client.specs.Growing.{Grows};
 ghost use Rattle.xfr_client.specs.Steps.{Ahead, KeepsWish, StaysStill, TakesOne, TakesAll};
 
 use crate::interpreter::XfrResponseInterpreter;
@@ -209,6 +210,8 @@ impl Client {
         ensures stops { (base : Commit) (taken : List (List ℕ)) (before : List Commit) → Stands self.old session.old (asking_of self.old base) taken before made.old.items
             → result ≡ Err SyncError.Memory → ReplyStopsAt self.old.most (asking_of self.old base) session.new before made.new.items taken octets.items self.new.full }
         ensures full { self.new.full ≡ true → result ≡ Err SyncError.Memory }
+        // The zone's history gains the commits of the handles that came.
+        ensures history { Grows session.old.past session.new.past made.old.items made.new.items }
         ensures limit { self.new.most ≡ self.old.most }
     {
         let Some(mut exchange) = self.exchange.take() else {
@@ -252,6 +255,7 @@ impl Exchange {
         ensures room { (a : Asking) (taken : List (List ℕ)) (before : List Commit) → a.at ≡ at → ExchangeStands self.old session.old a taken before made.old.items
             → ReplyKeepsRoom most a session.new before made.new.items taken octets.items result }
         ensures full { full.old ≡ false → full.new ≡ true → result ≡ Err SyncError.Memory }
+        ensures history { Grows session.old.past session.new.past made.old.items made.new.items }
         ensures stops { (a : Asking) (taken : List (List ℕ)) (before : List Commit) → a.at ≡ at → ExchangeStands self.old session.old a taken before made.old.items
             → full.old ≡ false → result ≡ Err SyncError.Memory → ReplyStopsAt most a session.new before made.new.items taken octets.items full.new }
     {
@@ -453,6 +457,7 @@ fn apply_all<R: Wait>(
     ensures room { (base : Commit) (before : List Commit) (g : Progress) → Ahead base before updater.old session.old made.old.items g
         → KeepsAllRoom most base before session.new made.new.items g updates.entry.run.updates result }
     ensures full { full.old ≡ false → full.new ≡ true → result ≡ Err SyncError.Memory }
+    ensures history { Grows session.old.past session.new.past made.old.items made.new.items }
     ensures stops { (base : Commit) (before : List Commit) (g : Progress) → Ahead base before updater.old session.old made.old.items g
         → full.old ≡ false → result ≡ Err SyncError.Memory → StopsAt most base before session.new made.new.items g updates.entry.run.updates full.new }
 {
@@ -478,6 +483,7 @@ fn apply_one<R: Wait>(
     ensures keeps { OnOk result (KeepsWish session.old session.new) }
     ensures room { (result ≡ Err Memory) ⊎ (adds_to_full most session.old.pending (update_of update.entry) ≡ false) }
     ensures full { full.old ≡ false → full.new ≡ adds_to_full most session.old.pending (update_of update.entry) }
+    ensures history { Grows session.old.past session.new.past made.old.items made.new.items }
 {
     if adds_to_full(session, most, &update) {
         *full = true;

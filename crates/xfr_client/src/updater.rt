@@ -1,7 +1,7 @@
 // The updater of a zone.
 ghost use Rattle.std.specs.Prelude.{◌≡◌, ◌++◌, true, false, List, IfOk, IfErr, IfSome, OnOk, OnErr, IsOk, None, Ok, Err};
 ghost use Rattle.zone_model.specs.Version.{Version};
-ghost use Rattle.zone_reads.specs.Session.{with_pending, rolled_back};
+ghost use Rattle.zone_reads.specs.Session.{with_pending, with_commit, rolled_back};
 ghost use Rattle.zone_model.specs.Updates.{apply_update, after_refusal};
 ghost use Rattle.xfr_model.specs.Applying.{commits};
 ghost use Rattle.xfr_outcomes.specs.declared.update.Error.TheVariants.{VersionsExhausted, Memory};
@@ -99,6 +99,8 @@ impl<'s, 'z> ZoneUpdater<'s, 'z> {
         // A batch's begin leaves the wish for a difference, and the end leaves none.
         ensures wish { OnOk result (self.new.session.compares ≡ wants_after self.old.session.compares (update_of update)) }
         ensures current { OnOk result (self.new.session.current ≡ next_commit (commits (update_of update)) self.old.session.current self.new.session.current.version) }
+        // A commit is added to the zone's history, and nothing else is.
+        ensures history { OnOk result (commits (update_of update) ≡ true → self.new.session.past ≡ with_commit self.old.session.past self.new.session.current) }
         ensures ready { OnOk result (commits (update_of update) ≡ true → self.new.session.has_handle ≡ true) }
         ensures kept { OnOk result (commits (update_of update) ≡ false → self.new.session ≡ with_pending self.old.session self.new.session.pending) }
         ensures err { OnErr result (self.new.session ≡ with_pending self.old.session self.new.session.pending) }

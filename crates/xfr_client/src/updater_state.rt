@@ -3,7 +3,7 @@ ghost use Rattle.std.specs.Prelude.{◌≡◌, ◌↔◌, ◌++◌, ◌^◌, ◌
 ghost use Rattle.zone_model.specs.TransferText.{is_soa};
 ghost use Rattle.zone_model.specs.Version.{Version};
 ghost use Rattle.zone_model.specs.Edits.{with_sets, set_soa};
-ghost use Rattle.zone_reads.specs.Session.{with_pending, committed, told_difference};
+ghost use Rattle.zone_reads.specs.Session.{with_pending, with_commit, committed, told_difference};
 ghost use Rattle.zone_model.specs.Updates as updates;
 ghost use Rattle.zone_model.specs.Updates.{UpdateFault, apply_update, after_refusal};
 ghost use Rattle.xfr_model.specs.Applying.{commits};
@@ -77,6 +77,7 @@ impl UpdaterState {
         // A batch's begin leaves the wish for a difference, and the end leaves none.
         ensures wish { OnOk result (session.new.compares ≡ wants_after session.old.compares (update_of update)) }
         ensures current { OnOk result (session.new.current ≡ next_commit (commits (update_of update)) session.old.current session.new.current.version) }
+        ensures history { OnOk result (commits (update_of update) ≡ true → session.new.past ≡ with_commit session.old.past session.new.current) }
         ensures ready { OnOk result (commits (update_of update) ≡ true → session.new.has_handle ≡ true) }
         ensures kept { OnOk result (commits (update_of update) ≡ false → session.new ≡ with_pending session.old session.new.pending) }
         ensures err { OnErr result (session.new ≡ with_pending session.old session.new.pending) }

@@ -66,7 +66,8 @@ impl TransferReplies {
         }
     }
 
-    /// The next message, or what comes after the last. The end takes no memory, so want of it is told only where a message is next.
+    /// The next message, or what comes after the last. The end takes no memory, so want of it is told only where a message or SERVFAIL is next.
+    /// That reply takes memory itself: SERVFAIL is what want of memory may hide, and nothing else.
     fn next_reply(&mut self) -> Result<CallResult, ServiceError>
         ensures item { self.old.stage ≡ Records → (items : List Sending) → PulledLeft self.old items
             → NextOf (PulledLeft self.new) items (Some result) }
@@ -106,7 +107,8 @@ impl ReplyStream for TransferReplies {
 
     ghost LeftOf = { PulledLeft };
 
-    /// As every stream's. Want of memory is told only where a message is next: what tells of begin and end takes none.
+    /// As every stream's. Want of memory is told only where a message or SERVFAIL is next, which takes memory too and is all that it may hide: what
+    /// tells of begin and end takes none.
     fn next_item(&mut self) -> Option<Result<CallResult, ServiceError>>
         ensures progress { OnSome result (pulled_left self.new < pulled_left self.old) }
         ensures item { (items : List Sending) → PulledLeft self.old items → NextOf (PulledLeft self.new) items result }

@@ -53,7 +53,7 @@ transfer_so limits key mode at opened base before handles s answer x same none s
 }
 
 -- a status that comes with a report
-ends_reported : (answer : Result SyncOk AskError) (status : Status) → status ≡ ask_status answer → derived.ghosts.eq status ends.Memory ≡ false → IsTrue (is_reported status)
+pub ends_reported : (answer : Result SyncOk AskError) (status : Status) → status ≡ ask_status answer → derived.ghosts.eq status ends.Memory ≡ false → IsTrue (is_reported status)
 ends_reported answer status e test = subst (λ t. IsTrue (is_reported t)) (sym e) (by answer (ap (λ s. derived.ghosts.eq s ends.Memory) (sym e) ∙ test))
   where
     by : (answer : Result SyncOk AskError) → derived.ghosts.eq (ask_status answer) ends.Memory ≡ false → IsTrue (is_reported (ask_status answer))
@@ -137,10 +137,14 @@ first_due_of_report w at text x taken_old taken_new k spelt t =
     record { octets = t.octets; status = t.status; count = t.count; due = due_of_report w at text x t.octets t.status k spelt t.due; taken = t.taken }
 
 pub written_of_transfer : (w : Wish) (at : ℕ) (text : List ℕ) (x : Crossing) (taken_old taken_new : Option (List ℕ)) (s : Status) (k : Script) → Spelt text k → (IsTrue (is_reported s) → Took (λ octets. ReportsOn w at k x octets s) taken_old taken_new)
-    → (s ≡ ends.Memory → taken_new ≡ taken_old) → Transferred w.limits (asks_with k.key w.mode at k.secondary) x → (s ≢ ends.Usage) × (s ≢ ends.SourceFault) × (s ≢ ends.TooLong) × (s ≢ ends.Script) → s ≢ ends.SinkFault
+    → (s ≡ ends.Memory → taken_new ≡ taken_old) → Untouched x ⊎ Transferred w.limits (asks_with k.key w.mode at k.secondary) x → (s ≢ ends.Usage) × (s ≢ ends.SourceFault) × (s ≢ ends.TooLong) × (s ≢ ends.Script) → s ≢ ends.SinkFault
     → Took (λ octets. IsDue w at (Some text) x octets s) taken_old taken_new
 written_of_transfer w at text x taken_old taken_new s k spelt reported nothing made others no_sink = by s reported nothing others no_sink
   where
+    passed : Untouched x ⊎ Transferred w.limits (asks_with k.key w.mode at k.secondary) x → Untouched x ⊎ Tried w at (Some text) x
+    passed (inl u) = inl u
+    passed (inr t) = inr (tried_so w at text x k spelt t)
+
     as_due : (s : Status) → Took (λ octets. ReportsOn w at k x octets s) taken_old taken_new → Took (λ octets. IsDue w at (Some text) x octets s) taken_old taken_new
     as_due s t = record { octets = t.octets; due = due_of_report w at text x t.octets s k spelt t.due; taken = t.taken }
 
@@ -150,7 +154,7 @@ written_of_transfer w at text x taken_old taken_new s k spelt reported nothing m
     by ends.Done reported nothing others no_sink = as_due ends.Done (reported refl)
     by ends.Refused reported nothing others no_sink = as_due ends.Refused (reported refl)
     by ends.LinkFault reported nothing others no_sink = as_due ends.LinkFault (reported refl)
-    by ends.Memory reported nothing others no_sink = record { octets = []; due = (refl, inr (tried_so w at text x k spelt made)); taken = nothing refl ∙ with_nothing taken_old }
+    by ends.Memory reported nothing others no_sink = record { octets = []; due = (refl, passed made); taken = nothing refl ∙ with_nothing taken_old }
     by ends.SinkFault reported nothing others no_sink = absurd (no_sink refl)
     by ends.Usage reported nothing others no_sink = absurd (others.0 refl)
     by ends.SourceFault reported nothing others no_sink = absurd (others.1 refl)

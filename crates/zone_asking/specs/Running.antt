@@ -87,6 +87,10 @@ pub record ReportsOn (w : Wish) (at : ℕ) (script : read_scripts.Script) (x : C
   pub reports : AskReports transfer.answer transfer.handles transfer.session script.queries octets status
   pub known : IsTrue (is_reported status)
 
+-- a script that was read, with this key, this zone of the secondary and these questions
+abbrev pub with_parts : read_scripts.Script → TsigKey → Commit → List (Name × ℕ) → read_scripts.Script
+with_parts script key zone queries = record script { key = key; secondary = zone; queries = queries }
+
 -- What there is to write with a status, and what passed over the streams: one transfer with a report, and nothing without one; where memory ran out, nothing
 -- or that transfer. With the status of a failed sink nothing is due, and a first part of what another status would have written was taken.
 abbrev pub IsDue : Wish → ℕ → Option (List ℕ) → Crossing → List ℕ → Status → Type 0

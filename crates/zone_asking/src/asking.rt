@@ -9,6 +9,7 @@ ghost use Rattle.xfr_outcomes.specs.Modes.{mode_of};
 ghost use Rattle.xfr_client.specs.SoFar.{Asking, asks_with};
 ghost use Rattle.xfr_client.specs.Standing.{asking_of, Stands};
 ghost use Rattle.xfr_client.specs.Handles.{KeepsHandles};
+ghost use Rattle.xfr_client.specs.Growing.{Grows};
 ghost use Rattle.xfr_outcomes.specs.declared.outcome.SyncError.TheVariants.{Ended};
 ghost use Rattle.zone_asking.specs.declared.limits.Limits.{Limits};
 ghost use Rattle.zone_asking.specs.declared.errors.AskError.TheVariants.{Transfer};
@@ -66,6 +67,8 @@ pub fn ask_zone<R: Wait, S: Source, K: Sink>(
     ensures wish { session.new.compares ≡ false }
     // The handles that were there stay, and answer each question as before (`look_up`); those that came have the next numbers.
     ensures handles { KeepsHandles session.old.current made.old.items made.new.items }
+    // The zone's history gains their commits.
+    ensures history { Grows session.old.past session.new.past made.old.items made.new.items }
     // The causes by the streams.
     ensures source_failed { result ≡ Err AskError.SourceFault → Rose (S.faults src.old) (S.faults src.new) }
     ensures source_steady { result ≢ Err AskError.SourceFault → S.faults src.new ≡ S.faults src.old }
@@ -97,6 +100,7 @@ pub(crate) fn ask_passing_over<R: Wait, S: Source, K: Sink>(
     ensures settled { session.new.pending ≡ session.new.current.version }
     ensures wish { session.new.compares ≡ false }
     ensures handles { KeepsHandles session.old.current made.old.items made.new.items }
+    ensures history { Grows session.old.past session.new.past made.old.items made.new.items }
     ensures source_failed { result ≡ Err AskError.SourceFault → Rose (S.faults src.old) (S.faults src.new) }
     ensures source_steady { result ≢ Err AskError.SourceFault → S.faults src.new ≡ S.faults src.old }
     ensures sink_failed { result ≡ Err AskError.SinkFault → Rose (K.faults sink.old) (K.faults sink.new) }
@@ -130,6 +134,7 @@ fn exchange_and_lend<'s, 'z, R: Wait, S: Source, K: Sink>(
     ensures settled { result.now.pending ≡ result.now.current.version }
     ensures wish { result.now.compares ≡ false }
     ensures handles { KeepsHandles session.old.current made.old.items made.new.items }
+    ensures history { Grows session.old.past result.now.past made.old.items made.new.items }
     ensures source_failed { told.new ≡ Err AskError.SourceFault → Rose (S.faults src.old) (S.faults src.new) }
     ensures source_steady { told.new ≢ Err AskError.SourceFault → S.faults src.new ≡ S.faults src.old }
     ensures sink_failed { told.new ≡ Err AskError.SinkFault → Rose (K.faults sink.old) (K.faults sink.new) }
@@ -174,6 +179,7 @@ fn exchange<R: Wait, S: Source, K: Sink>(
     requires { client.old.client.most ≡ limits.now.set_records }
     ensures exchanges { Exchanges limits.now over (asking_of client.old.client client.old.session.current)
         (crossing (S.remaining src.old) (S.remaining src.new) (K.taken sink.old) (K.taken sink.new)) made.old.items made.new.items client.new.session result }
+    ensures history { Grows client.old.session.past client.new.session.past made.old.items made.new.items }
     ensures lender { client.new.lender ≡ client.old.lender }
     ensures source_failed { result ≡ Err AskError.SourceFault → Rose (S.faults src.old) (S.faults src.new) }
     ensures source_steady { result ≢ Err AskError.SourceFault → S.faults src.new ≡ S.faults src.old }
@@ -215,6 +221,7 @@ fn take_replies<R: Wait, S: Source>(
     requires most { client.old.client.most ≡ limits.now.set_records }
     ensures ends { (a : Asking) (before : List Commit) → Stands client.old.client client.old.session a [] before made.old.items
         → EndsSo limits.now over a (S.remaining src.old) (S.remaining src.new) before made.new.items client.new.session result }
+    ensures history { Grows client.old.session.past client.new.session.past made.old.items made.new.items }
     ensures lender { client.new.lender ≡ client.old.lender }
     ensures failed { result ≡ Err AskError.SourceFault → Rose (S.faults src.old) (S.faults src.new) }
     ensures steady { result ≢ Err AskError.SourceFault → S.faults src.new ≡ S.faults src.old }

@@ -2,6 +2,7 @@
 ghost use Rattle.std.specs.Prelude.{◌≡◌, ◌≢◌, ◌⊎◌, ◌<◌, ℕ, List, Some, Err, Ok, map, option_copied, take, string_bytes, IfOk, IsTrue};
 ghost use Rattle.zone_devices.specs.Streams.{with_more};
 ghost use Rattle.zone_script.specs.Script as scripts;
+ghost use Rattle.zone_script.specs.declared.script.Script as read_scripts;
 ghost use Rattle.zone_script.specs.Script.{script_of};
 ghost use Rattle.zone_script.specs.ScriptReaders.{wire_readers};
 ghost use Rattle.tsig_port.specs.Tsig.{TsigKey};
@@ -16,7 +17,7 @@ ghost use Rattle.zone_asking.specs.Exchanges.{crossing};
 ghost use Rattle.zone_asking.specs.Wishes as wishes;
 ghost use Rattle.zone_asking.specs.Wishes.{wished};
 ghost use Rattle.zone_asking.specs.Reporting.{ask_report, ask_status, limit_passed, limit_report};
-ghost use Rattle.zone_asking.specs.Running.{IsDue, Notifies, ReportsOn, Runs, RunsAt, RunsWish, TellsScript, TellsStreams, Transferred, end_code, met};
+ghost use Rattle.zone_asking.specs.Running.{IsDue, Notifies, ReportsOn, Runs, RunsAt, RunsWish, TellsScript, TellsStreams, Transferred, Untouched, end_code, met, with_parts};
 
 use crate::errors::AskError;
 use crate::limits::{Limit, Limits};
@@ -24,7 +25,7 @@ use crate::retrying::transfer_zone;
 use crate::words::wish_of;
 use std::alloc::{AllocError, Global};
 use std::sync::Wait;
-use tsig_port::Time48;
+use tsig_port::{Key, Time48};
 use xfr_outcomes::{SyncError, SyncOk};
 use xfr_services::XfrMode;
 use zone_devices::read_to_end::{ReadError, read_whole};
@@ -35,7 +36,7 @@ use zone_reads::ReadZone;
 use zone_report::report::report_octets;
 use zone_report::{Status, append_answers, append_walk};
 use zone_script::script::{Script, ScriptError, parse};
-use zone_sessions::ZoneApex;
+use zone_sessions::{Desk, MOST_READERS};
 
 /// The usage line.
 const USAGE: &[u8] =
@@ -271,7 +272,8 @@ fn run_transfer<R: Wait, S: Source, K: Sink, E: Sink>(
     ensures part { result ≡ Status.SinkFault → TookFirst (ReportsOn (wished (mode, limits)) at script
         (crossing (S.remaining src.old) (S.remaining src.new) (K.taken sink.old) (K.taken sink.new))) (E.taken report.old) (E.taken report.new) }
     ensures nothing { result ≡ Status.Memory → E.taken report.new ≡ E.taken report.old }
-    ensures over_streams { Transferred limits (asks_with script.key (mode_of mode) at script.secondary)
+    ensures over_streams { Untouched (crossing (S.remaining src.old) (S.remaining src.new) (K.taken sink.old) (K.taken sink.new))
+        ⊎ Transferred limits (asks_with script.key (mode_of mode) at script.secondary)
         (crossing (S.remaining src.old) (S.remaining src.new) (K.taken sink.old) (K.taken sink.new)) }
     ensures others { (result ≢ Status.Usage) × (result ≢ Status.SourceFault) × (result ≢ Status.TooLong) × (result ≢ Status.Script) }
 {
@@ -368,7 +370,8 @@ fn transfer<R: Wait, S: Source, K: Sink>(
 ) -> Result<(Vec<u8>, Status), AllocError>
     ensures report { IfOk result (λ r. ReportsOn (wished (mode, limits)) at script
         (crossing (S.remaining src.old) (S.remaining src.new) (K.taken sink.old) (K.taken sink.new)) r.0.items r.1) }
-    ensures over_streams { Transferred limits (asks_with script.key (mode_of mode) at script.secondary)
+    ensures over_streams { Untouched (crossing (S.remaining src.old) (S.remaining src.new) (K.taken sink.old) (K.taken sink.new))
+        ⊎ Transferred limits (asks_with script.key (mode_of mode) at script.secondary)
         (crossing (S.remaining src.old) (S.remaining src.new) (K.taken sink.old) (K.taken sink.new)) }
     ensures stream_faults { IfOk result (λ r. TellsStreams (S.faults src.old) (S.faults src.new) (K.faults sink.old) (K.faults sink.new) r.1) }
     ensures others { IfOk result (λ r. IsTrue (is_reported r.1)) }
@@ -384,14 +387,60 @@ fn transfer<R: Wait, S: Source, K: Sink>(
     } = script;
     drop(opening);
     drop(commits);
+    let mut desk = opened(rt, alloc, secondary)?;
+    let told = transfer_at(
+        rt,
+        alloc,
+        mode,
+        limits,
+        &key,
+        &mut desk,
+        queries.as_slice(),
+        at,
+        src,
+        sink,
+    );
+    desk.close(rt);
+    told
+}
+
+/// The desk of a zone that opens with this version.
+fn opened<R: Wait>(rt: &R, alloc: Global, first: ReadZone) -> Result<Desk, AllocError>
+    ensures { IfOk result (λ d. d.last ≡ first) }
+{
+    let (reader, desk) = Desk::open(alloc, rt, first, MOST_READERS)?;
+    drop(reader);
+    Ok(desk)
+}
+
+/// Makes the transfer to the zone of a desk; what is to be written with these questions, and the status.
+fn transfer_at<R: Wait, S: Source, K: Sink>(
+    rt: &R,
+    alloc: Global,
+    mode: XfrMode,
+    limits: Limits,
+    key: &Key,
+    desk: &mut Desk,
+    queries: &[Query],
+    at: Time48,
+    src: &mut S,
+    sink: &mut K,
+) -> Result<(Vec<u8>, Status), AllocError>
+    ensures report { (script : read_scripts.Script) → IfOk result (λ r. ReportsOn (wished (mode, limits)) at
+        (with_parts script key.now desk.old.last queries.now)
+        (crossing (S.remaining src.old) (S.remaining src.new) (K.taken sink.old) (K.taken sink.new)) r.0.items r.1) }
+    ensures over_streams { Transferred limits (asks_with key.now (mode_of mode) at desk.old.last)
+        (crossing (S.remaining src.old) (S.remaining src.new) (K.taken sink.old) (K.taken sink.new)) }
+    ensures stream_faults { IfOk result (λ r. TellsStreams (S.faults src.old) (S.faults src.new) (K.faults sink.old) (K.faults sink.new) r.1) }
+    ensures others { IfOk result (λ r. IsTrue (is_reported r.1)) }
+{
     let mut made = Vec::new(alloc);
-    let mut zone = ZoneApex::of(secondary);
-    let mut session = zone.write(alloc);
+    let mut session = desk.write(alloc);
     let answer = transfer_zone(
         rt,
         alloc,
         &mut session,
-        &key,
+        key,
         mode,
         at,
         &limits,
@@ -404,6 +453,6 @@ fn transfer<R: Wait, S: Source, K: Sink>(
     if status == Status::Memory {
         return Err(AllocError);
     }
-    let report = report_of(alloc, &answer, made.len(), &last, queries.as_slice())?;
+    let report = report_of(alloc, &answer, made.len(), &last, queries)?;
     Ok((report, status))
 }

@@ -5,6 +5,7 @@ ghost use Rattle.xfr_outcomes.specs.Modes.{mode_of};
 ghost use Rattle.zone_model.specs.TransferText.{Ixfr};
 ghost use Rattle.xfr_client.specs.SoFar.{asks_with};
 ghost use Rattle.xfr_client.specs.Handles.{KeepsHandles};
+ghost use Rattle.xfr_client.specs.Growing.{Grows};
 ghost use Rattle.zone_asking.specs.Exchanges.{crossing};
 ghost use Rattle.zone_asking.specs.Retries.{asks_again, refuses_ixfr, next_moment, ExchangesByRule};
 
@@ -48,6 +49,8 @@ pub fn transfer_zone<R: Wait, S: Source, K: Sink>(
     ensures wish { session.new.compares ≡ false }
     // The handles that were there stay, and answer each question as before (`look_up`); those that came have the next numbers.
     ensures handles { KeepsHandles session.old.current made.old.items made.new.items }
+    // The zone's history gains their commits.
+    ensures history { Grows session.old.past session.new.past made.old.items made.new.items }
     // The causes by the streams.
     ensures source_failed { result ≡ Err AskError.SourceFault → Rose (S.faults src.old) (S.faults src.new) }
     ensures source_steady { result ≢ Err AskError.SourceFault → S.faults src.new ≡ S.faults src.old }

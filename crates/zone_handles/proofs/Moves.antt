@@ -7,14 +7,15 @@ use Rattle.std.proofs.lemmas.Option.{slice_get_within, get_or_from_slice_get, sl
 use Rattle.std.proofs.Math.ListN.{get_or-append}
 use Rattle.zone_model.specs.Version.{Version}
 use Rattle.zone_model.specs.Edits.{bump, close}
-use Rattle.zone_reads.specs.Session.{Session, opened_session, with_pending, committed}
+use Rattle.published.specs.History.{Past}
+use Rattle.zone_reads.specs.Session.{Session, opened_session, with_pending, with_commit, committed, new_session}
 use Rattle.zone_model.specs.Commits.{Commit, CommitList, Zone, latest, Event, Open, Edit, Publish, Abandon, next_commit, appended, reset, kept_or, after, after_all, AllMayHappen, version_of}
 use Rattle.zone_model.proofs.Handles.{handles_keep}
 use Rattle.zone_handles.specs.declared.steps.Step.{Step}
 use Rattle.zone_handles.specs.declared.steps.Step.TheVariants.{Edit as EditStep, Open as OpenStep, Commit as CommitStep, Rollback, EndSession, Read as ReadStep, Copy}
 use Rattle.zone_handles.specs.declared.zone_edits.ZoneEdit.{ZoneEdit}
 use Rattle.zone_handles.specs.ZoneEdits.{edited}
-use Rattle.zone_handles.specs.Steps.{HandlesStand, StandFor, counted_on, read_at, events_of, events_of_all, wish_after, wish_after_all, Leads, Stays, new_session, OpensSo, DropAbandons, LeaveNoTrace, HandlesStay}
+use Rattle.zone_handles.specs.Steps.{HandlesStand, StandFor, counted_on, read_at, events_of, events_of_all, wish_after, wish_after_all, Leads, Stays, OpensSo, DropAbandons, LeaveNoTrace, HandlesStay}
 
 -- lists
 last_more : {A : Type 0} (o : Option A) (xs : List A) (x : A) → last_or o (xs ++ x ∷ []) ≡ Some x
@@ -100,22 +101,35 @@ same_since handles z since k c v found h at = ap (λ o. unwrap_or o c.version) (
 pub none_since : (handles : CommitList) (z : Zone) (since : List Event) (k : ℕ) (v : Version) → slice_get handles k ≡ None → HandlesStand handles (after_all since z) → version_of z k ≡ Some v → ⊥
 none_since handles z since k v lacks h at = let e : None ≡ Some v = sym (ap (option_map (λ (d : Commit). d.version)) lacks) ∙ versions_since handles z since k v h at in cc
 
+-- the history of a session stays with it
+list_at : (s t : Session) (z : Zone) → z.commits ≡ s.past.list → t.past ≡ s.past → z.commits ≡ t.past.list
+list_at s t z h past = h ∙ ap (λ (p : Past Commit). p.list) (sym past)
+
+last_at : (s t : Session) → s.past.last ≡ s.current → t.past ≡ s.past → t.current ≡ s.current → t.past.last ≡ t.current
+last_at s t h past same = ap (λ (p : Past Commit). p.last) past ∙ h ∙ sym same
+
 -- commits
-publishes : (s : Session) (handles : CommitList) (z : Zone) (v : Version) (b : Bool) → latest z.commits ≡ Some s.current → v ≡ z.pending → HandlesStand handles z
-    → StandFor (record { current = record { number = s.current.number + 1; version = close v }; pending = close v; compares = false; has_handle = b }) handles (after Publish z)
-publishes s handles z v b last pending readers =
-    subst (λ o. StandFor (record { current = record { number = s.current.number + 1; version = close v }; pending = close v; compares = false; has_handle = b }) handles (appended o z)) (sym last)
+abbrev published_from : Session → Version → Bool → Session
+published_from s v b = let c : Commit = record { number = s.current.number + 1; version = close v } in
+    record { past = with_commit s.past c; current = c; pending = close v; compares = false; has_handle = b }
+
+publishes : (s : Session) (handles : CommitList) (z : Zone) (v : Version) (b : Bool) → latest z.commits ≡ Some s.current → z.commits ≡ s.past.list → v ≡ z.pending → HandlesStand handles z
+    → StandFor (published_from s v b) handles (after Publish z)
+publishes s handles z v b last list pending readers =
+    subst (λ o. StandFor (published_from s v b) handles (appended o z)) (sym last)
     (record {
       current = last_more None z.commits (next_commit s.current z.pending) ∙ (λ i. Some (next_commit s.current (sym pending i)));
+      commits = λ i. list i ++ next_commit s.current (sym pending i) ∷ [];
+      last = refl;
       pending = ap close pending;
       readers = readers_keep z.commits (next_commit s.current z.pending ∷ []) handles z.positions readers;
     })
 
 commits : (bumps : Bool) (s : Session) (handles : CommitList) → Leads (events_of (CommitStep bumps)) s handles (committed s bumps) handles
-commits false s handles z h = ((tt, tt), publishes s handles z s.pending true h.current h.pending h.readers)
+commits false s handles z h = ((tt, tt), publishes s handles z s.pending true h.current h.commits h.pending h.readers)
 commits true s handles z h = (
   (tt, (tt, tt)),
-  publishes s handles (after (Edit (counted_on (latest z.commits))) z) (bump s.current.version s.pending) true h.current (λ i. kept_or (h.pending i) (counted_on (sym h.current i) (h.pending i))) h.readers,
+  publishes s handles (after (Edit (counted_on (latest z.commits))) z) (bump s.current.version s.pending) true h.current h.commits (λ i. kept_or (h.pending i) (counted_on (sym h.current i) (h.pending i))) h.readers,
 )
 
 pub commit_leads : (bumps : Bool) (s t : Session) (handles : CommitList) → t ≡ committed s bumps → Leads (events_of (CommitStep bumps)) s handles t handles
@@ -126,37 +140,57 @@ pub edit_leads : (edit : ZoneEdit) (s t : Session) (handles : CommitList) → t 
 edit_leads edit s t handles e = subst (λ u. Leads (events_of (EditStep edit)) s handles u handles) (sym e) moved
   where
     moved : Leads (events_of (EditStep edit)) s handles (with_pending s (kept_or s.pending (edited edit s.pending))) handles
-    moved z h = ((tt, tt), record { current = h.current; pending = λ i. kept_or (h.pending i) (edited edit (h.pending i)); readers = h.readers })
+    moved z h = ((tt, tt), record { current = h.current; commits = h.commits; last = h.last; pending = λ i. kept_or (h.pending i) (edited edit (h.pending i)); readers = h.readers })
 
 pub open_leads : (create_diff : Bool) (s t : Session) (handles : CommitList) → t ≡ opened_session s create_diff → Leads (events_of (OpenStep create_diff)) s handles t handles
 open_leads create_diff s t handles e z h =
-    ((tt, tt), record { current = h.current ∙ ap (λ (u : Session). Some u.current) (sym e); pending = ap (λ (u : Session). u.pending) e ∙ h.pending; readers = h.readers })
+    let past = ap (λ (u : Session). u.past) e in
+    let same = ap (λ (u : Session). u.current) e in (
+      (tt, tt),
+      record { current = h.current ∙ ap Some (sym same); commits = list_at s t z h.commits past; last = last_at s t h.last past same; pending = ap (λ (u : Session). u.pending) e ∙ h.pending; readers = h.readers },
+    )
 
-abandons : (s t : Session) (handles : CommitList) (z : Zone) → t.current ≡ s.current → t.pending ≡ s.current.version → StandFor s handles z → StandFor t handles (after Abandon z)
-abandons s t handles z same back h = subst (λ o. StandFor t handles (reset o z)) (sym h.current) (record { current = h.current ∙ ap Some (sym same); pending = back; readers = h.readers })
+abandons : (s t : Session) (handles : CommitList) (z : Zone) → t.past ≡ s.past → t.current ≡ s.current → t.pending ≡ s.current.version → StandFor s handles z → StandFor t handles (after Abandon z)
+abandons s t handles z past same back h =
+    subst (λ o. StandFor t handles (reset o z)) (sym h.current)
+    (record { current = h.current ∙ ap Some (sym same); commits = list_at s t z h.commits past; last = last_at s t h.last past same; pending = back; readers = h.readers })
 
-pub rollback_leads : (s t : Session) (handles : CommitList) → t.current ≡ s.current → t.pending ≡ s.current.version → Leads (events_of Rollback) s handles t handles
-rollback_leads s t handles same back z h = ((tt, tt), abandons s t handles z same back h)
+pub rollback_leads : (s t : Session) (handles : CommitList) → t.past ≡ s.past → t.current ≡ s.current → t.pending ≡ s.current.version → Leads (events_of Rollback) s handles t handles
+rollback_leads s t handles past same back z h = ((tt, tt), abandons s t handles z past same back h)
 
-pub end_leads : (s t : Session) (handles : CommitList) → t ≡ new_session s.current → Leads (events_of EndSession) s handles t handles
-end_leads s t handles e z h = ((tt, tt), abandons s t handles z (ap (λ (u : Session). u.current) e) (ap (λ (u : Session). u.pending) e) h)
+pub end_leads : (s t : Session) (handles : CommitList) → t ≡ new_session s.past → Leads (events_of EndSession) s handles t handles
+end_leads s t handles e z h = (
+  (tt, tt),
+  abandons s t handles z (ap (λ (u : Session). u.past) e) (ap (λ (u : Session). u.current) e ∙ h.last) (ap (λ (u : Session). u.pending) e ∙ ap (λ (c : Commit). c.version) h.last) h,
+)
 
 -- what is refused
 pub still_stands : (s t : Session) (handles later : CommitList) (b : Bool) → t ≡ record s { has_handle = b } → later ≡ handles → Stays s handles t later
 still_stands s t handles later b e same z h =
-    subst (λ all. StandFor t all z) (sym same) (record { current = h.current ∙ ap (λ (u : Session). Some u.current) (sym e); pending = ap (λ (u : Session). u.pending) e ∙ h.pending; readers = h.readers })
+    let past = ap (λ (u : Session). u.past) e in
+    let current = ap (λ (u : Session). u.current) e in
+    subst (λ all. StandFor t all z) (sym same)
+    (record {
+      current = h.current ∙ ap Some (sym current);
+      commits = list_at s t z h.commits past;
+      last = last_at s t h.last past current;
+      pending = ap (λ (u : Session). u.pending) e ∙ h.pending;
+      readers = h.readers;
+    })
 
 -- reads
-reads_at : (s t : Session) (handles : CommitList) (z : Zone) (c : Commit) (p : ℕ) → StandFor s handles z → t.current ≡ s.current → t.pending ≡ s.pending → slice_get z.commits p ≡ Some c
+reads_at : (s t : Session) (handles : CommitList) (z : Zone) (c : Commit) (p : ℕ) → StandFor s handles z → t.past ≡ s.past → t.current ≡ s.current → t.pending ≡ s.pending → slice_get z.commits p ≡ Some c
     → AllMayHappen (read_at (Some p)) z × StandFor t (handles ++ c ∷ []) (after_all (read_at (Some p)) z)
-reads_at s t handles z c p h same pending at =
+reads_at s t handles z c p h past same pending at =
     let within = slice_get_within z.commits p c at in
-    let stays : p ≤ p = omega arith in
-    (((stays, within), tt), record { current = h.current ∙ ap Some (sym same); pending = pending ∙ h.pending; readers = one_more handles z c p h.readers at })
+    let stays : p ≤ p = omega arith in (
+      ((stays, within), tt),
+      record { current = h.current ∙ ap Some (sym same); commits = list_at s t z h.commits past; last = last_at s t h.last past same; pending = pending ∙ h.pending; readers = one_more handles z c p h.readers at },
+    )
 
 pub reads : (s t : Session) (handles : CommitList) (b : Bool) (c : Commit) → t ≡ record s { has_handle = b } → c ≡ s.current → Leads (events_of ReadStep) s handles t (handles ++ c ∷ [])
 reads s t handles b c same current z h =
-    reads_at s t handles z c (length z.commits - 1) h (ap (λ (u : Session). u.current) same) (ap (λ (u : Session). u.pending) same) (latest_at z.commits c (h.current ∙ ap Some (sym current)))
+    reads_at s t handles z c (length z.commits - 1) h (ap (λ (u : Session). u.past) same) (ap (λ (u : Session). u.current) same) (ap (λ (u : Session). u.pending) same) (latest_at z.commits c (h.current ∙ ap Some (sym current)))
 
 some_in : (commits : CommitList) (c : Commit) (o : Option ℕ) → Some (Some c) ≡ option_map (λ p. slice_get commits p) o → (p : ℕ) × (o ≡ Some p) × (slice_get commits p ≡ Some c)
 some_in commits c None e = cc
@@ -169,7 +203,7 @@ some_in commits c (Some p) e = (p, refl, sym (ap (λ (o : Option (Option Commit)
 pub copies : (s : Session) (handles : CommitList) (k : ℕ) (c : Commit) → slice_get handles k ≡ Some c → Leads (events_of (Copy k)) s handles s (handles ++ c ∷ [])
 copies s handles k c found z h =
     let at = some_in z.commits c (slice_get z.positions k) (ap (option_map (λ d. Some d)) (sym found) ∙ stands_at handles z h.readers k) in
-    subst (λ o. AllMayHappen (read_at o) z × StandFor s (handles ++ c ∷ []) (after_all (read_at o) z)) (sym at.1) (reads_at s s handles z c at.0 h refl refl at.2)
+    subst (λ o. AllMayHappen (read_at o) z × StandFor s (handles ++ c ∷ []) (after_all (read_at o) z)) (sym at.1) (reads_at s s handles z c at.0 h refl refl refl at.2)
 
 none_in : (commits : CommitList) (o : Option ℕ) → None ≡ option_map (λ p. slice_get commits p) o → o ≡ None
 none_in commits None e = refl
@@ -217,10 +251,10 @@ stays_then events s t u handles then_handles later f g z h = ((f z h).0, g (afte
 
 -- laws
 pub opens_so : OpensSo
-opens_so c = record { current = refl; pending = refl; readers = refl }
+opens_so p e = record { current = e; commits = refl; last = refl; pending = refl; readers = refl }
 
 pub drop_abandons : DropAbandons
-drop_abandons s handles z h = abandons s (new_session s.current) handles z refl refl h
+drop_abandons s handles z h = abandons s (new_session s.past) handles z refl h.last (ap (λ (c : Commit). c.version) h.last) h
 
 pub leave_no_trace : LeaveNoTrace
 leave_no_trace z [] last e = λ i. reset (e i) z

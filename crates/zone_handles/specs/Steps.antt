@@ -1,10 +1,11 @@
 -- Steps of readers and one writer, and what stands for a zone with its history (RFC 1034, 4.3.5).
 use Rattle.std.specs.Prelude.{◌≡◌, ℕ, ◌-◌, ◌^◌, ◌<◌, Bool, true, false, ◌||◌, List, [], ◌∷◌, ◌++◌, length, map, Option, Some, None, Result, Ok, Err, slice_get, option_map}
+use Rattle.published.specs.History.{Past}
 use Rattle.dns_name.specs.Names.{Name}
 use Rattle.zone_model.specs.Version.{Version, in_zone}
 use Rattle.zone_model.specs.Edits.{Refusal, bump}
 use Rattle.zone_model.specs.Answer.{answer}
-use Rattle.zone_reads.specs.Session.{Session}
+use Rattle.zone_reads.specs.Session.{Session, new_session}
 use Rattle.zone_model.specs.Commits.{Commit, CommitList, Zone, latest, Event, Open, Edit, Publish, Abandon, Read, after, after_all, AllMayHappen, version_of}
 use Rattle.zone_lookup.specs.Answers.{AnsweredBy, answered_by}
 use Rattle.zone_values.specs.declared.edit_errors.CommitError.{CommitError}
@@ -19,9 +20,11 @@ use Rattle.zone_handles.specs.ZoneEdits.{edited, can_change}
 abbrev pub HandlesStand : CommitList → Zone → Type 0
 HandlesStand handles z = map (λ c. Some c) handles ≡ map (λ p. slice_get z.commits p) z.positions
 
--- a session and handles that stand for a zone: the session's commit is the latest one, and what is pending is the zone's
+-- a session and handles that stand for a zone: the session's history is all its commits, its commit is the latest one, and what is pending is the zone's
 pub record StandFor (s : Session) (handles : CommitList) (z : Zone) : Type 0 where
   pub current : latest z.commits ≡ Some s.current
+  pub commits : z.commits ≡ s.past.list
+  pub last : s.past.last ≡ s.current
   pub pending : s.pending ≡ z.pending
   pub readers : HandlesStand handles z
 
@@ -105,19 +108,16 @@ Answers v name rtype (Ok a) = (in_zone v name ≡ true) × (a ≡ answered_by v 
 Answers v name rtype (Err OutOfZone) = in_zone v name ≡ false
 Answers v name rtype (Err NoHandle) = ⊥
 
--- a session with nothing edited, as a zone gives it, and a zone that opened with a commit and has no readers
-abbrev pub new_session : Commit → Session
-new_session c = record { current = c; pending = c.version; compares = false; has_handle = false }
-
-abbrev pub opened : Commit → Zone
-opened c = record { commits = c ∷ []; pending = c.version; positions = [] }
+-- a zone with this history and no readers
+abbrev pub opened : Past Commit → Zone
+opened p = record { commits = p.list; pending = p.last.version; positions = [] }
 
 abbrev pub OpensSo : Type 0
-OpensSo = (c : Commit) → StandFor (new_session c) [] (opened c)
+OpensSo = (p : Past Commit) → latest p.list ≡ Some p.last → StandFor (new_session p) [] (opened p)
 
 -- the session after one that was dropped, with the same handles, stands for the zone in which that one's edits were abandoned
 abbrev pub DropAbandons : Type 0
-DropAbandons = (s : Session) (handles : CommitList) (z : Zone) → StandFor s handles z → StandFor (new_session s.current) handles (after Abandon z)
+DropAbandons = (s : Session) (handles : CommitList) (z : Zone) → StandFor s handles z → StandFor (new_session s.past) handles (after Abandon z)
 
 -- edits that are abandoned leave every commit and every position
 abbrev pub LeaveNoTrace : Type 0

@@ -1,9 +1,9 @@
 // Steps of readers and one writer, each made by the calls of the zone's session, its nodes and its read handles.
 ghost use Rattle.std.specs.Prelude.{◌≡◌, ◌↔◌, ◌≤◌, ◌<◌, [], ◌∷◌, ◌++◌, List, length, take, slice_get, false, Some, Ok, Err, IfErr, IfSome, OnOk, OnErr, ◌-◌, ◌^◌};
 ghost use Rattle.zone_model.specs.Version.{Version};
-ghost use Rattle.zone_reads.specs.Session.{Session, opened_session, committed};
+ghost use Rattle.zone_reads.specs.Session.{Session, new_session, opened_session, committed};
 ghost use Rattle.zone_model.specs.Commits.{CommitList, Zone, Event, after_all, version_of};
-ghost use Rattle.zone_handles.specs.Steps.{HandlesStand, Leads, Stays, Refuses, Exhausts, Answers, events_of, events_of_all, wish_after, wish_after_all, new_session};
+ghost use Rattle.zone_handles.specs.Steps.{HandlesStand, Leads, Stays, Refuses, Exhausts, Answers, events_of, events_of_all, wish_after, wish_after_all};
 ghost use Rattle.zone_handles.specs.declared.steps.Step.{Step};
 
 use crate::errors::HandleError;
@@ -130,9 +130,9 @@ pub fn ask<'v, N: ToName>(
 /// Ends a session and begins the next one of its zone. What was pending is dropped, and the law `sessions_stand` says that what stood for
 /// the zone stands for it still, with these edits abandoned.
 pub fn begin_again<'z>(session: WriteZone<'z>, alloc: Global) -> WriteZone<'z>
-    ensures { result ≡ new_session session.entry.current }
+    ensures { result ≡ new_session session.entry.past }
 {
-    session.into_zone().write(alloc)
+    session.into_desk().write(alloc)
 }
 
 /// Opens what is pending.

@@ -1,5 +1,6 @@
 // Zones, whatever keeps them.
-ghost use Rattle.std.specs.Prelude.{◌≡◌, false};
+ghost use Rattle.std.specs.Prelude.{◌≡◌};
+ghost use Rattle.zone_reads.specs.Session.{new_session};
 
 use crate::stores::ReadableZone;
 use dns_name::StoredName;
@@ -155,8 +156,13 @@ impl<S: ZoneStore> AtApex for Zone<S> {
 impl Zone<ZoneApex> {
     /// A session that writes the zone's next versions. What it didn't commit is dropped with it.
     pub fn write<'z>(&'z mut self, alloc: Global) -> WriteZone<'z>
-        ensures { result ≡ record { current = self.old; pending = self.old.version; compares = false; has_handle = false } }
+        ensures session { (result ≡ new_session result.past) × (result.past.last ≡ self.old) }
     {
         self.store.write(alloc)
+    }
+
+    /// Ends the zone. It takes no memory, and waits for readers that are within a call.
+    pub fn close<R: Wait>(self, rt: &R) {
+        self.store.close(rt);
     }
 }

@@ -21,7 +21,7 @@ pub use comparing::is_same;
 pub use names::exists;
 pub use owning::{own_option, own_record, own_records, own_set};
 pub use parts::{NodeChildren, NodeRrsets, ZoneNode};
-pub use read::ReadZone;
+pub use read::{ReadZone, Receipt, ZoneReader};
 pub use records::{AnswerRecord, SetRecords};
 pub use rrsets::NodeRrsetsIter;
 pub use sections::{AnswerRecords, apex_soa};

@@ -7,6 +7,7 @@ ghost use Rattle.zone_versions.specs.Stops.{first_stop};
 
 use dns_name::{Labelled, StoredName};
 use dns_numbers::{Class, Rtype};
+use published::Numbered;
 use std::alloc::AllocError;
 use std::marker::Model;
 use std::sync::Arc;
@@ -41,6 +42,25 @@ impl Clone for ReadZone {
         })
     }
 }
+
+/// A zone publishes its versions with their numbers.
+impl Numbered for ReadZone {
+    ghost number_of = { λ z. z.number };
+
+    fn number(&self) -> u64 {
+        self.number
+    }
+
+    fn again(&self) -> Result<ReadZone, AllocError> {
+        self.clone()
+    }
+}
+
+/// Reads a zone on any thread, and never waits: what it gives are read handles.
+pub type ZoneReader = published::Reader<ReadZone>;
+
+/// Word of what a zone has published, for a reader.
+pub type Receipt = published::Receipt<ReadZone>;
 
 impl ReadZone {
     /// The handle of a version with this number.

@@ -19,7 +19,7 @@ use tsig_port::{Key, Time48};
 use zone_lookup::Queries;
 use zone_reads::ReadZone;
 use zone_records::zone_files_open;
-use zone_sessions::ZoneApex;
+use zone_sessions::Desk;
 
 /// What a script says.
 #[derive(Drop)]
@@ -163,29 +163,38 @@ fn read_edits<R: Wait>(
     ensures ok { IfOk result (λ r. keeping.read_edits primary number (script_lines rest.now) ≡ Ok r.1) }
     ensures bad { IfErr result (λ e. IfSome (line_in e) (λ n. keeping.read_edits primary number (script_lines rest.now) ≡ Err n)) }
 {
-    let mut zone = ZoneApex::of(primary);
-    let told = edit_zone(rt, alloc, &mut zone, number, rest);
-    drop(zone);
+    let mut desk = opened(rt, alloc, primary)?;
+    let told = edit_zone(rt, alloc, &mut desk, number, rest);
+    desk.close(rt);
     told
 }
 
-/// The same of a zone that is lent.
+/// The desk of a zone that opens with this version. Nobody reads it.
+fn opened<R: Wait>(rt: &R, alloc: Global, first: ReadZone) -> Result<Desk, AllocError>
+    ensures { IfOk result (λ d. d.last ≡ first) }
+{
+    let (reader, desk) = Desk::open(alloc, rt, first, 1)?;
+    drop(reader);
+    Ok(desk)
+}
+
+/// The same of a zone whose desk is lent.
 fn edit_zone<R: Wait>(
     rt: &R,
     alloc: Global,
-    zone: &mut ZoneApex,
+    desk: &mut Desk,
     number: u64,
     rest: &[u8],
 ) -> Result<(ReadZone, Editing), ScriptError>
-    requires first { zone.old.number < number }
+    requires first { desk.old.last.number < number }
     requires lines { number + length rest.now < 2 ^ 64 }
-    ensures opening { IfOk result (λ r. r.0 ≡ zone.old) }
-    ensures ok { IfOk result (λ r. keeping.read_edits zone.old number (script_lines rest.now) ≡ Ok r.1) }
-    ensures bad { IfErr result (λ e. IfSome (line_in e) (λ n. keeping.read_edits zone.old number (script_lines rest.now) ≡ Err n)) }
+    ensures opening { IfOk result (λ r. r.0 ≡ desk.old.last) }
+    ensures ok { IfOk result (λ r. keeping.read_edits desk.old.last number (script_lines rest.now) ≡ Ok r.1) }
+    ensures bad { IfErr result (λ e. IfSome (line_in e) (λ n. keeping.read_edits desk.old.last number (script_lines rest.now) ≡ Err n)) }
 {
-    let opening = zone.read(rt)?;
-    let mut editing = Editing::new(alloc, zone.class());
-    let mut session = zone.write(alloc);
+    let opening = desk.current().clone()?;
+    let mut editing = Editing::new(alloc, desk.current().class());
+    let mut session = desk.write(alloc);
     let read = read_rest(rt, alloc, &mut session, &mut editing, number, rest);
     drop(session);
     match read {

@@ -6,7 +6,9 @@ ghost use Rattle.zone_model.specs.Version.{set_at};
 ghost use Rattle.zone_values.specs.Relative.{labels_below};
 ghost use Rattle.zone_values.specs.TypedEntries.{typed};
 ghost use Rattle.zone_reads.specs.Parts.{part};
+ghost use Rattle.zone_reads.specs.Session.{new_session};
 
+use crate::desk::Desk;
 use crate::write::WriteZone;
 use dns_name::{Labelled, StoredName, ToName};
 use dns_numbers::{Class, Rtype};
@@ -17,10 +19,9 @@ use zone_reads::{NodeChildren, NodeRrsets, ReadZone};
 use zone_values::{OutOfZone, RelNameRevIter, Rrset, rel_name_rev_iter};
 use zone_versions::ZoneVersion;
 
-/// A zone: its current version, and how the next one is written.
-#[derive(Drop)]
+/// A zone that is read where it is written: its current version, and how the next one is written. It is not `Drop`: end it by `close`.
 pub struct ZoneApex {
-    current: ReadZone,
+    desk: Desk,
 }
 
 impl Model for ZoneApex {
@@ -28,7 +29,7 @@ impl Model for ZoneApex {
 
     ghost Value = { Commit };
 
-    ghost view = { λ z. z.current };
+    ghost view = { λ z. z.desk.last };
 }
 
 impl ZoneApex {
@@ -39,9 +40,7 @@ impl ZoneApex {
         let version = ZoneVersion::empty(alloc, &apex, class);
         drop(apex);
         let version = Arc::new(alloc, version?)?;
-        Ok(ZoneApex {
-            current: ReadZone::of(0, version),
-        })
+        ZoneApex::of(alloc, ReadZone::of(0, version))
     }
 
     /// A zone of the RRsets of a version that is read, which are shared: `rrsets` and `children` are the parts of its apex, as the calls of these
@@ -63,28 +62,30 @@ impl ZoneApex {
         drop(children);
         let reopened = rrsets.version().reopened(apex_name, class)?;
         let contents = Arc::new(alloc, reopened)?;
-        Ok(ZoneApex::of(ReadZone::of(version, contents)))
+        ZoneApex::of(alloc, ReadZone::of(version, contents))
     }
 
-    /// A zone whose current version is this one.
-    pub fn of(current: ReadZone) -> ZoneApex
-        ensures { result ≡ current }
+    /// A zone whose current version is this one. Refused only where memory runs out.
+    pub fn of(alloc: Global, current: ReadZone) -> Result<ZoneApex, AllocError>
+        ensures { IfOk result (λ z. z ≡ current) }
     {
-        ZoneApex { current }
+        Ok(ZoneApex {
+            desk: Desk::open_locked(alloc, current)?,
+        })
     }
 
     /// The class of the zone.
     pub fn class(&self) -> Class
         ensures { result ≡ self.now.version.class }
     {
-        self.current.class()
+        self.current().class()
     }
 
     /// The name of the zone's apex, as it was given.
     pub fn name(&self) -> &StoredName
         ensures { result.now ≡ self.now.version.apex }
     {
-        self.current.apex_name()
+        self.current().apex_name()
     }
 
     /// The labels of a name left of the apex, from the right, ASCII case aside (RFC 1034, 3.1). `OutOfZone` exactly where the name is neither the
@@ -130,34 +131,33 @@ impl ZoneApex {
     pub fn versions(&self) -> u64
         ensures { result ≡ self.now.number }
     {
-        self.current.version_number()
+        self.current().version_number()
     }
 
     /// A read handle of the current version.
     pub fn read<R: Wait>(&self, _rt: &R) -> Result<ReadZone, AllocError>
         ensures { IfOk result (λ z. z ≡ self.now) }
     {
-        self.current.clone()
+        self.current().clone()
     }
 
     /// A session that writes the zone's next versions. What it didn't commit is dropped with it.
     pub fn write<'z>(&'z mut self, alloc: Global) -> WriteZone<'z>
-        ensures { result ≡ record { current = self.old; pending = self.old.version; compares = false; has_handle = false } }
+        ensures session { (result ≡ new_session result.past) × (result.past.last ≡ self.old) }
     {
-        WriteZone::of(alloc, self)
+        self.desk.write(alloc)
+    }
+
+    /// Ends the zone. It takes no memory, and waits for readers that are within a call.
+    pub fn close<R: Wait>(self, rt: &R) {
+        let ZoneApex { desk } = self;
+        desk.close(rt);
     }
 
     /// The current version's handle, lent.
-    pub(crate) fn current(&self) -> &ReadZone
+    fn current(&self) -> &ReadZone
         ensures { result.now ≡ self.now }
     {
-        &self.current
-    }
-
-    /// Makes a version the current one.
-    pub(crate) fn publish(&mut self, next: ReadZone)
-        ensures { self.new ≡ next }
-    {
-        self.current = next;
+        self.desk.current()
     }
 }

@@ -1,5 +1,5 @@
 // How a zone opens.
-ghost use Rattle.std.specs.Prelude.{◌≡◌, ◌↔◌, ◌==◌, [], true, false, length, Ok, Err, OnOk, OnErr, IfOk, IfSome, IsOk, option_map};
+ghost use Rattle.std.specs.Prelude.{◌≡◌, ◌↔◌, ◌==◌, ◌∷◌, [], true, false, length, Ok, Err, OnOk, OnErr, IfOk, IfSome, IsOk, option_map};
 ghost use Rattle.dns_name.specs.Names.{under, same_name};
 ghost use Rattle.dns_numbers.specs.Codes.{type_cname, type_ns, type_ds};
 ghost use Rattle.zone_model.specs.Classify.{opened_with};
@@ -8,14 +8,15 @@ ghost use Rattle.zone_values.specs.TypedSets.{TypedSet};
 ghost use Rattle.zone_versions.specs.Puts.{adds_alias};
 
 use crate::apex::ZoneApex;
+use crate::desk::{Desk, MOST_READERS};
 use crate::opening::Opening;
 use dns_name::{KeyName, Labelled, StoredName, ToName};
 use dns_numbers::Class;
 use dns_rdata::StoredRecord;
 use std::alloc::{AllocError, Global};
 use std::marker::Model;
-use std::sync::Arc;
-use zone_reads::ReadZone;
+use std::sync::{Arc, Wait};
+use zone_reads::{ReadZone, ZoneReader};
 use zone_records::{FileError, Zonefile};
 use zone_values::{
     ContextError, InsertCnameError, InsertCutError, InsertError, Rrset, SharedRr, SharedRrset,
@@ -237,7 +238,22 @@ impl ZoneBuilder {
     pub fn build_at(self, number: u64) -> Result<ZoneApex, AllocError>
         ensures { IfOk result (λ z. z ≡ record { number = number; version = edits.close self }) }
     {
-        Ok(ZoneApex::of(self.into_read(number)?))
+        let alloc = self.alloc;
+        ZoneApex::of(alloc, self.into_read(number)?)
+    }
+
+    /// Opens the zone with this number for its version, as `build_at` does, for readers on other threads: its first reader and its desk. There are places
+    /// for 17 readers at once.
+    pub fn open_at<R: Wait>(self, rt: &R, number: u64) -> Result<(ZoneReader, Desk), AllocError>
+        ensures pair { IfOk result (λ t. t.0.book ≡ t.1.book) }
+        ensures lists { IfOk result (λ t. (t.0.list ≡ record { number = number; version = edits.close self } ∷ [])
+            × (t.1.list ≡ record { number = number; version = edits.close self } ∷ [])) }
+        ensures lasts { IfOk result (λ t. (t.0.last ≡ record { number = number; version = edits.close self })
+            × (t.1.last ≡ record { number = number; version = edits.close self })) }
+        ensures fresh { IfOk result (λ t. t.0.refused ≡ 0) }
+    {
+        let alloc = self.alloc;
+        Desk::open(alloc, rt, self.into_read(number)?, MOST_READERS)
     }
 
     /// A handle of the version with which a zone of these records opens, under this number, and no zone: that without DS sets below the apex that lack NS.

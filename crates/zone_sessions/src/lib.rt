@@ -1,8 +1,10 @@
-//! A zone: what is published of it, a session that writes the next version, and a builder that opens it.
+//! A zone: its desk, at which one end writes and of which readers on other threads read, a session that writes the next version, and a builder that opens
+//! it.
 #![tactic(auto)]
 
 mod apex;
 mod builder;
+mod desk;
 mod edits;
 mod node;
 mod opening;
@@ -10,6 +12,7 @@ mod write;
 
 pub use apex::ZoneApex;
 pub use builder::ZoneBuilder;
+pub use desk::{Desk, MOST_READERS};
 pub use node::WriteNode;
 pub use write::WriteZone;
 pub use zone_values::{

@@ -1,10 +1,12 @@
 // A session that writes a zone's next versions.
-ghost use Rattle.std.specs.Prelude.{◌≡◌, ◌↔◌, ◌-◌, ◌^◌, [], Ok, Err, IfOk, IfErr, IfSome, IfNone, OnOk, OnErr, IsOk, IsErr, IsTrue, true, false, option_copied, option_map};
+ghost use Rattle.std.specs.Prelude.{◌≡◌, ◌↔◌, ◌+◌, ◌-◌, ◌^◌, [], Ok, Err, Some, IfOk, IfErr, IfSome, IfNone, OnOk, OnErr, IsOk, IsErr, IsTrue, true, false, option_copied, option_map};
+ghost use Rattle.published.specs.Commits.{latest, IsNumbered};
+ghost use Rattle.zone_model.specs.Commits.{Commit};
 ghost use Rattle.zone_model.specs.Edits.{add, delete, with_sets};
 ghost use Rattle.zone_model.specs.Edits as edits;
 ghost use Rattle.zone_model.specs.Version.{set_at};
 ghost use Rattle.zone_values.specs.TypedEntries.{typed};
-ghost use Rattle.zone_reads.specs.Session.{opened_session, with_pending, closed, committed, rolled_back, told_difference};
+ghost use Rattle.zone_reads.specs.Session.{opened_session, new_session, with_pending, closed, committed, rolled_back, told_difference};
 ghost use Rattle.zone_versions.specs.Held.{counted};
 ghost use Rattle.zone_versions.specs.Trees.{built};
 ghost use Rattle.zone_versions.specs.Causes.{refusal_of};
@@ -14,9 +16,9 @@ ghost use Rattle.dns_rdata.specs.DataFields.{soa_fields};
 ghost use Rattle.dns_rdata.specs.Records.{Record as RecordOf};
 ghost use Rattle.dns_rdata.specs.ZoneData.{rtype_of, data_fields};
 ghost use Rattle.zone_changes.specs.Drafts.{draft};
-ghost use Rattle.zone_sessions.specs.Pending.{told_of};
+ghost use Rattle.zone_sessions.specs.Pending.{after_publication, told_of};
 
-use crate::apex::ZoneApex;
+use crate::desk::Desk;
 use dns_name::{Labelled, StoredName};
 use dns_numbers::{Rtype, Ttl};
 use dns_rdata::{Record, RecordData, Soa, StoredRecord, StoredRecordData, ZoneRecordData};
@@ -26,7 +28,7 @@ use std::marker::Model;
 use std::sync::Wait;
 use zone_changes::{ClosedDraft, Draft};
 use zone_diffs::InMemoryZoneDiff;
-use zone_reads::ReadZone;
+use zone_reads::{ReadZone, Receipt};
 use zone_values::{CommitError, Rrset, SetKey};
 use zone_versions::{EditError, NodeCount, ZoneVersion};
 
@@ -34,7 +36,7 @@ use zone_versions::{EditError, NodeCount, ZoneVersion};
 #[derive(Drop)]
 pub struct WriteZone<'z> {
     alloc: Global,
-    zone: &'z mut ZoneApex,
+    desk: &'z mut Desk,
     pending: Option<Draft>,
     compares: bool,
     spare: Option<ReadZone>,
@@ -48,9 +50,9 @@ impl<'z> Model for WriteZone<'z> {
 
     ghost Value = { Session };
 
-    ghost view = { λ s. record { current = s.zone.now; pending = pending_of s.zone.now.version (option_map version_of s.pending); compares = s.compares; has_handle = is_some s.spare } };
+    ghost view = { λ s. record { past = s.desk.now; current = s.desk.now.last; pending = pending_of s.desk.now.last.version (option_map version_of s.pending); compares = s.compares; has_handle = is_some s.spare } };
 
-    ghost invariant = { λ s. IfSome s.spare (λ z. z ≡ s.zone.now) × IfSome s.pending (λ d. d.base ≡ s.zone.now.version) };
+    ghost invariant = { λ s. IfSome s.spare (λ z. z ≡ s.desk.now.last) × IfSome s.pending (λ d. d.base ≡ s.desk.now.last.version) };
 }
 
 /// What a commit publishes, one more handle of that, and the difference that it tells.
@@ -63,12 +65,12 @@ struct Publication {
 
 impl<'z> WriteZone<'z> {
     /// A session of a zone with nothing edited.
-    pub(crate) fn of(alloc: Global, zone: &'z mut ZoneApex) -> WriteZone<'z>
-        ensures { result ≡ record { current = zone.old; pending = zone.old.version; compares = false; has_handle = false } }
+    pub(crate) fn of(alloc: Global, desk: &'z mut Desk) -> WriteZone<'z>
+        ensures { result ≡ new_session desk.old }
     {
         WriteZone {
             alloc,
-            zone,
+            desk,
             pending: None,
             compares: false,
             spare: None,
@@ -88,7 +90,7 @@ impl<'z> WriteZone<'z> {
     {
         match &self.pending {
             Some(pending) => pending.shown(),
-            None => self.zone.current().contents(),
+            None => self.desk.current().contents(),
         }
     }
 
@@ -126,7 +128,7 @@ impl<'z> WriteZone<'z> {
     {
         match self.take_edited() {
             Some(pending) => Ok(pending),
-            None => Draft::of(self.alloc, self.zone.current().share()?),
+            None => Draft::of(self.alloc, self.desk.current().share()?),
         }
     }
 
@@ -341,7 +343,7 @@ impl<'z> WriteZone<'z> {
     /// versions have an SOA record at the apex, and the new serial is neither the old one nor before it.
     pub fn commit<R: Wait>(
         &mut self,
-        _rt: &R,
+        rt: &R,
         bump_soa_serial: bool,
     ) -> Result<Option<InMemoryZoneDiff>, CommitError>
         ensures ok { OnOk result (self.new ≡ committed self.old bump_soa_serial) }
@@ -349,23 +351,47 @@ impl<'z> WriteZone<'z> {
         ensures exhausted { (result ≡ Err CommitError.VersionsExhausted) ↔ (self.old.current.number ≡ 2 ^ 64 - 1) }
         ensures err { OnErr result (self.new ≡ self.old) }
     {
-        let number = self.zone.current().version_number();
+        let number = self.desk.current().version_number();
         if number == u64::MAX {
             return Err(CommitError::VersionsExhausted);
         }
         let closed = self.close_pending(bump_soa_serial)?;
-        match self.publication(number + 1, &closed) {
-            Ok(publication) => {
+        match self.publish(rt, number + 1, &closed) {
+            Ok(told) => {
                 drop(closed);
-                self.zone.publish(publication.next);
-                drop(self.pending.take());
-                self.compares = false;
-                drop(self.spare.replace(publication.spare));
-                Ok(publication.told)
+                Ok(told)
             }
             Err(error) => {
                 self.keep(closed.into_draft());
                 Err(CommitError::from(error))
+            }
+        }
+    }
+
+    /// Publishes what was pending until it was closed, under the next number, and tells the difference.
+    fn publish<R: Wait>(
+        &mut self,
+        rt: &R,
+        number: u64,
+        closed: &ClosedDraft,
+    ) -> Result<Option<InMemoryZoneDiff>, AllocError>
+        requires { number ≡ self.old.current.number + 1 }
+        ensures ok { OnOk result (self.new ≡ after_publication self.old closed.now.version) }
+        ensures told { IfOk result (λ told. told ≡ told_of self.old.compares closed.now) }
+        ensures err { OnErr result (self.new ≡ self.old) }
+    {
+        let Publication { next, spare, told } = self.publication(number, closed)?;
+        match self.desk.publish(rt, next) {
+            Ok(()) => {
+                drop(self.pending.take());
+                self.compares = false;
+                drop(self.spare.replace(spare));
+                Ok(told)
+            }
+            Err(error) => {
+                drop(told);
+                drop(spare);
+                Err(error)
             }
         }
     }
@@ -439,7 +465,7 @@ impl<'z> WriteZone<'z> {
     {
         match &self.pending {
             Some(pending) => pending.clone(),
-            None => Draft::of(self.alloc, self.zone.current().share()?),
+            None => Draft::of(self.alloc, self.desk.current().share()?),
         }
     }
 
@@ -451,11 +477,28 @@ impl<'z> WriteZone<'z> {
         self.compares = false;
     }
 
-    /// Ends the session and lends the zone back: its current version is the one that was committed last. What is pending is dropped.
-    pub fn into_zone(self) -> &'z mut ZoneApex
-        ensures { result.now ≡ self.entry.current }
+    /// Ends the session and lends the desk back, at which it was all committed. What is pending is dropped.
+    pub fn into_desk(self) -> &'z mut Desk
+        ensures { result.now ≡ self.entry.past }
     {
-        self.zone
+        self.desk
+    }
+
+    /// Word of all that was committed so far, for a reader. Refused only where memory runs out.
+    pub fn receipt(&mut self) -> Result<Receipt, AllocError>
+        ensures told { IfOk result (λ r. r ≡ self.old.past) }
+        ensures same { self.new ≡ record self.old { has_handle = self.new.has_handle } }
+    {
+        self.desk.receipt()
+    }
+
+    /// The history ends with the current version, and its numbers rise by one. It does nothing.
+    pub fn standing(&self)
+        ensures last { self.now.past.last ≡ self.now.current }
+        ensures latest { latest self.now.past.list ≡ Some self.now.current }
+        ensures numbered { IsNumbered (λ (c : Commit). c.number) self.now.past.list }
+    {
+        let _current = self.desk.current();
     }
 
     /// A read handle of the current version. The first one after a commit takes no memory and isn't refused.
@@ -466,7 +509,7 @@ impl<'z> WriteZone<'z> {
     {
         match self.spare.take() {
             Some(handle) => Ok(handle),
-            None => self.zone.current().clone(),
+            None => self.desk.current().clone(),
         }
     }
 }

@@ -46,7 +46,7 @@ use zone_report::report::{counts_octets, report_octets};
 use zone_script::commits::Commits;
 use zone_script::script::{Script, ScriptError, parse};
 use zone_script::words::{generated_of, transfer_of};
-use zone_sessions::{WriteZone, ZoneApex};
+use zone_sessions::{Desk, MOST_READERS, WriteZone};
 
 /// The usage line.
 const USAGE: &[u8] = b"usage: zonesync axfr [K] / ixfr [K] / gen N SEED\n";
@@ -359,6 +359,15 @@ struct Ended {
     status: Status,
 }
 
+/// The desk of a zone that opens with this version.
+fn opened<R: Wait>(rt: &R, alloc: Global, first: ReadZone) -> Result<Desk, AllocError>
+    ensures { IfOk result (λ d. d.last ≡ first) }
+{
+    let (reader, desk) = Desk::open(alloc, rt, first, MOST_READERS)?;
+    drop(reader);
+    Ok(desk)
+}
+
 /// Transfers a zone from a primary to a secondary.
 fn transfer_to<R: Wait, L: Link>(
     rt: &R,
@@ -375,16 +384,46 @@ fn transfer_to<R: Wait, L: Link>(
         (asks_with key.now (mode_of mode) moments.at_secondary secondary) moments.at_primary
         (crossed (L.longest link.old) (L.lists link.old) (L.lists link.new) (L.faults link.old) (L.faults link.new))
         e.outcome e.made e.last e.status) }
-    ensures over_link { Transferred
+    ensures over_link { Untouched (crossed (L.longest link.old) (L.lists link.old) (L.lists link.new)
+        (L.faults link.old) (L.faults link.new))
+        ⊎ Transferred
         (λ m. ⟦<Primary as Service<()>>⟧.Sends primary.now (request_at m moments.at_primary))
         (asks_with key.now (mode_of mode) moments.at_secondary secondary) moments.at_primary
         (crossed (L.longest link.old) (L.lists link.old) (L.lists link.new) (L.faults link.old) (L.faults link.new)) }
     ensures link_fault { IfOk result (λ e. e.status ≡ Status.LinkFault → Rose (L.faults link.old) (L.faults link.new)) }
     ensures link_fails { IfOk result (λ e. L.faults link.old < L.faults link.new → e.status ≡ Status.LinkFault) }
 {
+    let mut desk = opened(rt, alloc, secondary)?;
+    let ended = transfer_at(rt, alloc, primary, &mut desk, key, mode, moments, link);
+    desk.close(rt);
+    ended
+}
+
+/// The same to the zone of a desk.
+fn transfer_at<R: Wait, L: Link>(
+    rt: &R,
+    alloc: Global,
+    primary: &Primary,
+    desk: &mut Desk,
+    key: &Key,
+    mode: XfrMode,
+    moments: Moments,
+    link: &mut L,
+) -> Result<Ended, AllocError>
+    ensures ended { IfOk result (λ e. EndsAs
+        (λ m. ⟦<Primary as Service<()>>⟧.Sends primary.now (request_at m moments.at_primary))
+        (asks_with key.now (mode_of mode) moments.at_secondary desk.old.last) moments.at_primary
+        (crossed (L.longest link.old) (L.lists link.old) (L.lists link.new) (L.faults link.old) (L.faults link.new))
+        e.outcome e.made e.last e.status) }
+    ensures over_link { Transferred
+        (λ m. ⟦<Primary as Service<()>>⟧.Sends primary.now (request_at m moments.at_primary))
+        (asks_with key.now (mode_of mode) moments.at_secondary desk.old.last) moments.at_primary
+        (crossed (L.longest link.old) (L.lists link.old) (L.lists link.new) (L.faults link.old) (L.faults link.new)) }
+    ensures link_fault { IfOk result (λ e. e.status ≡ Status.LinkFault → Rose (L.faults link.old) (L.faults link.new)) }
+    ensures link_fails { IfOk result (λ e. L.faults link.old < L.faults link.new → e.status ≡ Status.LinkFault) }
+{
     let mut made = Vec::new(alloc);
-    let mut zone = ZoneApex::of(secondary);
-    let mut session = zone.write(alloc);
+    let mut session = desk.write(alloc);
     let ended = transfer_into(
         rt,
         alloc,
@@ -398,7 +437,6 @@ fn transfer_to<R: Wait, L: Link>(
     );
     drop(session);
     drop(made);
-    drop(zone);
     ended
 }
 

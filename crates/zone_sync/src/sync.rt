@@ -13,6 +13,7 @@ ghost use Rattle.zone_sync.specs.Serving.{request_at};
 ghost use Rattle.zone_sync.specs.LongQuestions.{WasHandedLong};
 ghost use Rattle.zone_sync.specs.Delivery.{Synchronizes};
 ghost use Rattle.xfr_client.specs.Handles.{KeepsHandles};
+ghost use Rattle.xfr_client.specs.Growing.{Grows};
 
 use dns_wire::MessageBuf;
 use std::alloc::Global;
@@ -60,6 +61,8 @@ pub fn sync_zone<R: Wait, P: Service<()>, L: Link>(
         moments.at_primary (L.longest link.old) (L.lists link.old) (L.lists link.new) (L.faults link.old) (L.faults link.new) made.old.items made.new.items session.new result }
     // The handles that were there stay, and answer each question as before (`look_up`); those that came have the next numbers.
     ensures handles { KeepsHandles session.old.current made.old.items made.new.items }
+    // The zone's history gains their commits.
+    ensures history { Grows session.old.past session.new.past made.old.items made.new.items }
     // No difference is wanted of the next commit.
     ensures wish { session.new.compares ≡ false }
     // The causes by the link.
@@ -93,6 +96,7 @@ fn exchange_and_lend<'s, 'z, R: Wait, P: Service<()>, L: Link>(
     ensures headline { Synchronizes (λ m. P.Sends primary.now (request_at m moments.at_primary)) (asks_with key.now (mode_of mode) moments.at_secondary session.old.current)
         moments.at_primary (L.longest link.old) (L.lists link.old) (L.lists link.new) (L.faults link.old) (L.faults link.new) made.old.items made.new.items result.now told.new }
     ensures handles { KeepsHandles session.old.current made.old.items made.new.items }
+    ensures history { Grows session.old.past result.now.past made.old.items made.new.items }
     ensures wish { result.now.compares ≡ false }
     ensures failed { told.new ≡ Err SyncError.LinkFault → Rose (L.faults link.old) (L.faults link.new) }
     ensures steady { told.new ≢ Err SyncError.LinkFault → L.faults link.new ≡ L.faults link.old }
@@ -124,6 +128,7 @@ fn exchange<R: Wait, P: Service<()>, L: Link>(
 ) -> Result<SyncOk, SyncError>
     ensures says { SyncSays (λ m. P.Sends primary.now (request_at m at_primary)) (asking_of client.old.client client.old.session.current)
         (L.longest link.old) (L.lists link.old) (L.lists link.new) made.old.items made.new.items client.new.session result }
+    ensures history { Grows client.old.session.past client.new.session.past made.old.items made.new.items }
     ensures lender { client.new.lender ≡ client.old.lender }
     ensures failed { result ≡ Err SyncError.LinkFault → Rose (L.faults link.old) (L.faults link.new) }
     ensures steady { result ≢ Err SyncError.LinkFault → L.faults link.new ≡ L.faults link.old }
@@ -192,6 +197,7 @@ fn take_replies<R: Wait, L: Link>(
     requires { IsSome client.old.client.exchange }
     ensures ends { (a : Asking) (before : List Commit) → Stands client.old.client client.old.session a [] before made.old.items
         → EndsSo a (L.lists link.old) (L.lists link.new) before made.new.items client.new.session result }
+    ensures history { Grows client.old.session.past client.new.session.past made.old.items made.new.items }
     ensures lender { client.new.lender ≡ client.old.lender }
     ensures failed { (a : Asking) (before : List Commit) → Stands client.old.client client.old.session a [] before made.old.items
         → result ≡ Err SyncError.LinkFault → Rose (L.faults link.old) (L.faults link.new) }

@@ -5,6 +5,7 @@ use Rattle.xfr_client.proofs.Messages.{halts_there, told_error, told_all}
 use Rattle.xfr_client.specs.Steps.{numbers_left}
 use Rattle.xfr_client.proofs.Steps.{led_none, wish_stays, wish_on}
 use Rattle.xfr_client.proofs.Room.{room_on, room_ends, room_all, left_at_error, room_halts, room_stops, still_low, raised_by, refused_by}
+use Rattle.xfr_client.proofs.Growing.{grows_on, grows_still}
 use Rattle.xfr_client.proofs.exchange.apply_all.Goals as goal
 
 pub updates-init : goal.updates-init
@@ -15,6 +16,7 @@ updates-init met c = (
   },
   wish_stays c.args.session.now,
   λ low. low,
+  grows_still c.args.session.now c.args.session.now c.args.made.now.items c.args.made.now.items refl refl,
 )
 
 pub updates-preserved : goal.updates-preserved
@@ -25,6 +27,7 @@ updates-preserved met c = (
       i (rw c.in_ok-update.was at c.in-Some.ensures) (c.in_ok-apply_one.ensures.takes base before i.on.progress i.on.ahead) c.in_ok-apply_one.ensures.room,
   wish_on c.args.session.now c.updates.session c.apply_one.new.session c.updates.invariant.1 c.in_ok-apply_one.ensures.keeps,
   λ low. still_low _ c.apply_one.new.full c.in_ok-apply_one.ensures.room (c.in_ok-apply_one.ensures.full (c.updates.invariant.2 low)),
+  grows_on c.args.session.now.past c.updates.session.past c.apply_one.new.session.past c.args.made.now.items c.updates.made.items c.apply_one.new.made.items c.updates.invariant.3 c.in_ok-apply_one.ensures.history,
 )
 
 pub returns-in_err-update-clause-takes : goal.returns-in_err-update-clause-takes
@@ -81,3 +84,13 @@ returns-in_err-apply_one-clause-stops met c base before g a low out =
     let i = c.updates.invariant.0 base before g a in
     room_stops c.args.most base before c.updates.updater c.apply_one.new.updater c.updates.session c.apply_one.new.session c.updates.made.items c.apply_one.new.made.items g c.args.updates c.updates.updates c.next_update.new.self (update_of c.in_ok-update.field-0) c.in_err-apply_one.field-0.0 c.apply_one.new.full
     i (rw c.in_ok-update.was at c.in-Some.ensures) (c.in_err-apply_one.ensures.takes base before i.on.progress i.on.ahead) (sym (c.in_err-apply_one.ensures.full (c.updates.invariant.2 low)))
+
+pub returns-in_err-update-clause-history : goal.returns-in_err-update-clause-history
+returns-in_err-update-clause-history met c = c.updates.invariant.3
+
+pub returns-in_err-apply_one-clause-history : goal.returns-in_err-apply_one-clause-history
+returns-in_err-apply_one-clause-history met c =
+    grows_on c.args.session.now.past c.updates.session.past c.apply_one.new.session.past c.args.made.now.items c.updates.made.items c.apply_one.new.made.items c.updates.invariant.3 c.in_err-apply_one.ensures.history
+
+pub returns-clause-history : goal.returns-clause-history
+returns-clause-history met c = c.updates.invariant.3

@@ -2,6 +2,7 @@ use Rattle.std.proofs.Common.{◌∷◌, ◌++◌, [], sym, ap, ◌∙◌}
 use Rattle.std.proofs.lemmas.Result.{err_from_is_err_and}
 use Rattle.xfr_outcomes.specs.ZoneUpdates.{update_of}
 use Rattle.xfr_client.proofs.Steps.{one_error, one_told, one_untold, wish_told, wish_untold}
+use Rattle.xfr_client.proofs.Growing.{grows_one, grows_still}
 use Rattle.xfr_client.proofs.exchange.apply_one.Goals as goal
 
 pub returns-in_err-told-clause-takes : goal.returns-in_err-told-clause-takes
@@ -30,3 +31,17 @@ returns-in-Ok-push-clause-keeps met c =
 
 pub returns-else-commits-clause-keeps : goal.returns-else-commits-clause-keeps
 returns-else-commits-clause-keeps met c = wish_untold c.args.session.now c.apply.new.session (update_of c.args.update) (sym c.commits-commits.ensures ∙ c.if-commits.false) c.in_ok-told.ensures.kept
+
+pub returns-in_err-told-clause-history : goal.returns-in_err-told-clause-history
+returns-in_err-told-clause-history met c = grows_still c.args.session.now c.apply.new.session c.args.made.now.items c.reserve.new.self.items (ap (λ x. x.past) c.in_err-told.ensures.err) c.reserve.ensures.items
+
+pub returns-in-Ok-push-clause-history : goal.returns-in-Ok-push-clause-history
+returns-in-Ok-push-clause-history met c =
+    grows_one c.args.session.now.past c.handle.new.self.past c.args.made.now.items c.push.new.self.items c.apply.new.session.current
+    (ap (λ x. x.past) c.handle.ensures.same ∙ c.in_ok-told.ensures.history (sym c.commits-commits.ensures ∙ c.if-commits.true))
+    (c.in-Ok-push.ensures.items ∙ ap (λ l. l ++ c.in-Ok.handle ∷ []) c.reserve.ensures.items ∙ ap (λ h. c.args.made.now.items ++ h ∷ []) c.in-Ok.ensures.current)
+
+pub returns-else-commits-clause-history : goal.returns-else-commits-clause-history
+returns-else-commits-clause-history met c =
+    grows_still c.args.session.now c.apply.new.session c.args.made.now.items c.reserve.new.self.items
+    (ap (λ x. x.past) (c.in_ok-told.ensures.kept (sym c.commits-commits.ensures ∙ c.if-commits.false))) c.reserve.ensures.items

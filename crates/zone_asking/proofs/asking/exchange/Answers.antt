@@ -1,7 +1,8 @@
-use Rattle.std.proofs.Common.{ap, sym, ◌∙◌, ◌≤◌, length, subst}
+use Rattle.std.proofs.Common.{refl, ap, sym, ◌∙◌, ◌≤◌, length, subst}
 use Rattle.std.proofs.lemmas.Result.{err_from_is_err_and}
 use Rattle.xfr_client.specs.Standing.{asking_of}
 use Rattle.zone_asking.proofs.Requests.{not_made, not_sent, replied, under_way}
+use Rattle.xfr_client.proofs.Growing.{grows_on, grows_still}
 use Rattle.zone_asking.proofs.asking.exchange.Goals as goal
 
 pub returns-in_err-request-clause-exchanges : goal.returns-in_err-request-clause-exchanges
@@ -38,3 +39,14 @@ returns-clause-exchanges g c =
     let before = c.args.made.now.items in
     replied c.args.limits.now c.args.over a (g.S.Source.remaining c.args.src.now) (g.S.Source.remaining c.take_replies.new.src) (g.K.Sink.taken c.args.sink.now) (g.K.Sink.taken c.send_request.new.sink) before c.take_replies.new.made.items c.take_replies.new.client.session c.as_slice.result.now c.take_replies.result
     c.in_ok-request.ensures.ok.1 is c.in_ok-send_request.ensures.sent (c.take_replies.ensures.ends a before (c.in_ok-request.ensures.begun before))
+
+pub returns-in_err-request-clause-history : goal.returns-in_err-request-clause-history
+returns-in_err-request-clause-history g c = grows_still c.args.client.now.session c.request.new.self.session c.args.made.now.items c.args.made.now.items (ap (λ x. x.past) c.request.ensures.session) refl
+
+pub returns-in_err-send_request-clause-history : goal.returns-in_err-send_request-clause-history
+returns-in_err-send_request-clause-history g c = grows_still c.args.client.now.session c.request.new.self.session c.args.made.now.items c.args.made.now.items (ap (λ x. x.past) c.request.ensures.session) refl
+
+pub returns-clause-history : goal.returns-clause-history
+returns-clause-history g c =
+    let first = grows_still c.args.client.now.session c.request.new.self.session c.args.made.now.items c.args.made.now.items (ap (λ x. x.past) c.request.ensures.session) refl in
+    grows_on c.args.client.now.session.past c.request.new.self.session.past c.take_replies.new.client.session.past c.args.made.now.items c.args.made.now.items c.take_replies.new.made.items first c.take_replies.ensures.history

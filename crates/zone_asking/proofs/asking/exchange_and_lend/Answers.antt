@@ -5,6 +5,7 @@ use Rattle.xfr_client.proofs.Clients.{nothing_pending}
 use Rattle.xfr_client.proofs.Handles.{keeps_handles}
 use Rattle.zone_asking.specs.Exchanges.{crossing}
 use Rattle.zone_asking.proofs.Requests.{rolled_exchanges}
+use Rattle.xfr_client.proofs.Growing.{grows_rolled}
 use Rattle.zone_asking.proofs.asking.exchange_and_lend.Goals as goal
 
 pub returns-clause-exchanges : goal.returns-clause-exchanges
@@ -20,3 +21,8 @@ pub returns-clause-handles : goal.returns-clause-handles
 returns-clause-handles g c =
     let k = rw (c.client_within-client.ensures.client, c.client_within-client.ensures.session) at c.exchange.ensures.exchanges in
     keeps_handles c.args.session.now.current c.args.made.now.items c.exchange.new.made.items c.exchange.new.client.session k.transfers.versions k.transfers.made
+
+pub returns-clause-history : goal.returns-clause-history
+returns-clause-history g c =
+    grows_rolled c.args.session.now.past c.into_session.result.now c.exchange.new.client.session c.args.made.now.items c.exchange.new.made.items c.into_session.ensures.session
+    (rw c.client_within-client.ensures.session at c.exchange.ensures.history)

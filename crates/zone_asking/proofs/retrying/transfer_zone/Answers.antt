@@ -5,6 +5,7 @@ use Rattle.xfr_outcomes.specs.Modes.{mode_of}
 use Rattle.xfr_client.specs.SoFar.{asks_with}
 use Rattle.zone_asking.specs.Exchanges.{crossing}
 use Rattle.zone_asking.proofs.TwoExchanges.{twice, keeps_both, no_source_fault, no_sink_fault}
+use Rattle.xfr_client.proofs.Growing.{grows_on}
 use Rattle.zone_asking.proofs.retrying.transfer_zone.Goals as goal
 
 pub returns-then-asks_again-clause-exchanges : goal.returns-then-asks_again-clause-exchanges
@@ -44,3 +45,7 @@ pub returns-then-asks_again-clause-sink_steady : goal.returns-then-asks_again-cl
 returns-then-asks_again-clause-sink_steady g c h =
     let again = sym c.asks_again.ensures ∙ c.if-asks_again.true in
     c.ask_passing_over.ensures.sink_steady h ∙ c.ask_zone-first.ensures.sink_steady (no_sink_fault (mode_of c.args.mode) c.ask_zone-first.result again)
+
+pub returns-then-asks_again-clause-history : goal.returns-then-asks_again-clause-history
+returns-then-asks_again-clause-history g c =
+    grows_on c.args.session.now.past c.ask_zone-first.new.session.past c.ask_passing_over.new.session.past c.args.made.now.items c.ask_zone-first.new.made.items c.ask_passing_over.new.made.items c.ask_zone-first.ensures.history c.ask_passing_over.ensures.history

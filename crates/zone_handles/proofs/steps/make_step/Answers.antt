@@ -71,7 +71,7 @@ returns-in-Rollback-clause-made g c =
     let s = c.args.session in
     let t = c.rollback.new.self in
     let all = c.args.handles.now.items in
-    subst (λ x. Leads (events_of x) s all t all) (sym c.in-Rollback.is) (rollback_leads s t all (ap (λ (u : Session). u.current) c.rollback.ensures) (ap (λ (u : Session). u.pending) c.rollback.ensures))
+    subst (λ x. Leads (events_of x) s all t all) (sym c.in-Rollback.is) (rollback_leads s t all (ap (λ (u : Session). u.past) c.rollback.ensures) (ap (λ (u : Session). u.current) c.rollback.ensures) (ap (λ (u : Session). u.pending) c.rollback.ensures))
 
 pub returns-in-EndSession-clause-made : goal.returns-in-EndSession-clause-made
 returns-in-EndSession-clause-made g c =

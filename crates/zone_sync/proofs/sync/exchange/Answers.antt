@@ -10,6 +10,7 @@ use Rattle.zone_sync.proofs.Passing.{nothing_more, request_taken, request_handed
 use Rattle.xfr_client.proofs.Checking.{headed}
 use Rattle.zone_sync.proofs.Exchanges.{not_made, not_carried, not_handed, no_message, headless, not_served, replied, under_way}
 use Rattle.zone_sync.proofs.LongQuestions.{the_error, handed_long, not_unmade, not_of_link, not_of_replies}
+use Rattle.xfr_client.proofs.Growing.{grows_on, grows_still}
 use Rattle.zone_sync.proofs.sync.exchange.Goals as goal
 
 pub returns-in_err-request-clause-says : goal.returns-in_err-request-clause-says
@@ -198,3 +199,26 @@ returns-clause-long g c e h =
     let a = asking_of c.args.client.now.client c.args.client.now.session.current in
     let before = c.args.made.now.items in
     not_of_replies c.take_replies.result e (c.take_replies.ensures.ends a before (c.in_ok-request.ensures.begun before)).later h
+
+pub returns-in_err-request-clause-history : goal.returns-in_err-request-clause-history
+returns-in_err-request-clause-history g c = grows_still c.args.client.now.session c.request.new.self.session c.args.made.now.items c.args.made.now.items (ap (λ x. x.past) c.request.ensures.session) refl
+
+pub returns-in_err-sent-clause-history : goal.returns-in_err-sent-clause-history
+returns-in_err-sent-clause-history g c = grows_still c.args.client.now.session c.request.new.self.session c.args.made.now.items c.args.made.now.items (ap (λ x. x.past) c.request.ensures.session) refl
+
+pub returns-in_err-asked-clause-history : goal.returns-in_err-asked-clause-history
+returns-in_err-asked-clause-history g c = grows_still c.args.client.now.session c.request.new.self.session c.args.made.now.items c.args.made.now.items (ap (λ x. x.past) c.request.ensures.session) refl
+
+pub returns-in_default-clause-history : goal.returns-in_default-clause-history
+returns-in_default-clause-history g c = grows_still c.args.client.now.session c.request.new.self.session c.args.made.now.items c.args.made.now.items (ap (λ x. x.past) c.request.ensures.session) refl
+
+pub returns-in_err-from_octets-clause-history : goal.returns-in_err-from_octets-clause-history
+returns-in_err-from_octets-clause-history g c = grows_still c.args.client.now.session c.request.new.self.session c.args.made.now.items c.args.made.now.items (ap (λ x. x.past) c.request.ensures.session) refl
+
+pub returns-in_err-serve-clause-history : goal.returns-in_err-serve-clause-history
+returns-in_err-serve-clause-history g c = grows_still c.args.client.now.session c.request.new.self.session c.args.made.now.items c.args.made.now.items (ap (λ x. x.past) c.request.ensures.session) refl
+
+pub returns-clause-history : goal.returns-clause-history
+returns-clause-history g c =
+    let first = grows_still c.args.client.now.session c.request.new.self.session c.args.made.now.items c.args.made.now.items (ap (λ x. x.past) c.request.ensures.session) refl in
+    grows_on c.args.client.now.session.past c.request.new.self.session.past c.take_replies.new.client.session.past c.args.made.now.items c.args.made.now.items c.take_replies.new.made.items first c.take_replies.ensures.history

@@ -7,6 +7,7 @@ use Rattle.xfr_client.proofs.Clients.{nothing_pending}
 use Rattle.zone_sync.proofs.Exchanges.{rolled_says}
 use Rattle.zone_sync.proofs.Delivery.{delivered}
 use Rattle.xfr_client.proofs.Handles.{keeps_handles}
+use Rattle.xfr_client.proofs.Growing.{grows_rolled}
 use Rattle.zone_sync.proofs.sync.exchange_and_lend.Goals as goal
 
 pub returns-clause-headline : goal.returns-clause-headline
@@ -34,3 +35,8 @@ returns-clause-handles g c =
 
 pub returns-clause-long : goal.returns-clause-long
 returns-clause-long g c = c.exchange.ensures.long
+
+pub returns-clause-history : goal.returns-clause-history
+returns-clause-history g c =
+    grows_rolled c.args.session.now.past c.into_session.result.now c.exchange.new.client.session c.args.made.now.items c.exchange.new.made.items c.into_session.ensures.session
+    (rw c.new-client.ensures.session at c.exchange.ensures.history)

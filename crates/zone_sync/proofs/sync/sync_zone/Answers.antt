@@ -3,6 +3,7 @@ use Rattle.xfr_outcomes.specs.Modes.{mode_of}
 use Rattle.xfr_client.specs.SoFar.{asks_with}
 use Rattle.zone_sync.specs.Serving.{request_at}
 use Rattle.zone_sync.proofs.Delivery.{synchronizes_at}
+use Rattle.xfr_client.proofs.Growing.{grows_at}
 use Rattle.zone_sync.proofs.sync.sync_zone.Goals as goal
 
 pub returns-clause-headline : goal.returns-clause-headline
@@ -13,3 +14,6 @@ returns-clause-headline g c =
 
 pub returns-clause-long : goal.returns-clause-long
 returns-clause-long g c = c.exchange_and_lend.ensures.long
+
+pub returns-clause-history : goal.returns-clause-history
+returns-clause-history g c = grows_at c.args.session.now.past c.exchange_and_lend.result.now _ c.args.made.now.items c.exchange_and_lend.new.made.items c.exchange_and_lend.ensures.history (search rules)

@@ -1,8 +1,9 @@
-use Rattle.std.proofs.Common.{ap, ◌∙◌, arith, Ok, Err}
+use Rattle.std.proofs.Common.{refl, ap, ◌∙◌, arith, Ok, Err}
 use Rattle.std.proofs.lemmas.Result.{err_from_is_err_and}
 use Rattle.xfr_client.proofs.Replying.{no_link_fault}
-use Rattle.zone_sync.proofs.Replies.{reply_takes, no_reply, no_more, all_came, ends_refused, ends_well, takes_on, err_same}
+use Rattle.zone_sync.proofs.Replies.{starts, reply_takes, no_reply, no_more, all_came, ends_refused, ends_well, takes_on, err_same}
 use Rattle.xfr_outcomes.specs.declared.outcome.SyncError.TheVariants as why
+use Rattle.xfr_client.proofs.Growing.{grows_on, grows_still}
 use Rattle.zone_sync.proofs.sync.take_replies.Goals as goal
 
 pub returns-in_err-reply-clause-ends : goal.returns-in_err-reply-clause-ends
@@ -38,6 +39,16 @@ returns-in-Some-2-clause-ends g c a before st =
     ends_well a (g.L.Link.lists c.args.link.now) (g.L.Link.lists c.taking.link) (g.L.Link.lists c.take_reply.new.self) c.taking.client.client c.take.new.self.client c.taking.client.session c.take.new.self.session before c.taking.made.items c.take.new.made.items c.taking.count c.in-Some.reply.items c.in-Some-2.outcome
     k c.taking-test.true (rw c.in-Some.is at c.in_ok-reply.ensures.ok) (rw c.in-Some-2.is at r)
 
+pub taking-init : goal.taking-init
+taking-init g c = (
+  refl,
+  omega arith,
+  c.requires,
+  λ a before st. starts a (g.L.Link.lists c.args.link.now) c.args.client.now.client c.args.client.now.session before c.args.made.now.items st,
+  refl,
+  grows_still c.args.client.now.session c.args.client.now.session c.args.made.now.items c.args.made.now.items refl refl,
+)
+
 pub taking-preserved : goal.taking-preserved
 taking-preserved g c = (
   c.in_ok-reply.ensures.steady (λ h. absurd (cc h)) ∙ c.taking.invariant.0,
@@ -49,9 +60,16 @@ taking-preserved g c = (
       takes_on a (g.L.Link.lists c.args.link.now) (g.L.Link.lists c.taking.link) (g.L.Link.lists c.take_reply.new.self) c.taking.client.client c.take.new.self.client c.taking.client.session c.take.new.self.session before c.taking.made.items c.take.new.made.items c.taking.count c.in-Some.reply.items
       k (rw c.in-Some.is at c.in_ok-reply.ensures.ok) (rw c.in_default-2.is at r),
   c.in_ok-outcome.ensures.lender ∙ c.taking.invariant.4,
+  grows_on c.args.client.now.session.past c.taking.client.session.past c.take.new.self.session.past c.args.made.now.items c.taking.made.items c.take.new.made.items c.taking.invariant.5 c.in_ok-outcome.ensures.history,
 )
 
 pub returns-clause-ends : goal.returns-clause-ends
 returns-clause-ends g c a before st =
     let k = c.taking.invariant.3 a before st in
     all_came a (g.L.Link.lists c.args.link.now) (g.L.Link.lists c.taking.link) c.taking.client.client c.taking.client.session before c.taking.made.items c.taking.count k (omega (arith, c.taking-test.false, c.taking.invariant.1))
+
+pub returns-in_err-outcome-clause-history : goal.returns-in_err-outcome-clause-history
+returns-in_err-outcome-clause-history g c = grows_on c.args.client.now.session.past c.taking.client.session.past c.take.new.self.session.past c.args.made.now.items c.taking.made.items c.take.new.made.items c.taking.invariant.5 c.in_err-outcome.ensures.history
+
+pub returns-in-Some-2-clause-history : goal.returns-in-Some-2-clause-history
+returns-in-Some-2-clause-history g c = grows_on c.args.client.now.session.past c.taking.client.session.past c.take.new.self.session.past c.args.made.now.items c.taking.made.items c.take.new.made.items c.taking.invariant.5 c.in_ok-outcome.ensures.history

@@ -5,6 +5,7 @@ use Rattle.xfr_client.specs.Room.{ReplyKeepsRoom, ReplyStopsAt, reply_updates}
 use Rattle.xfr_client.proofs.Clients.{stands_by, takes_outcome, takes_refusal}
 use Rattle.xfr_client.proofs.Room.{room_rolled, stops_rolled}
 use Rattle.xfr_client.proofs.Unended.{stays_still}
+use Rattle.xfr_client.proofs.Growing.{grows_rolled}
 use Rattle.xfr_client.proofs.exchange.Client.take.Goals as goal
 
 pub returns-in-Ok-None-clause-takes : goal.returns-in-Ok-None-clause-takes
@@ -81,3 +82,12 @@ returns-in-Err-clause-stops g c base taken before st out =
     let k = c.in-Err.ensures.stops a taken before (sym (ap (λ s. s.at) v)) x refl out in
     subst (λ n. ReplyStopsAt n a c.rollback-in-Err.new.self before c.take-2.new.made.items taken c.args.octets.items c.take-2.new.full) (ap (λ s. s.most) v)
     (stops_rolled c.self.inside.most a.base before c.take-2.new.made.items c.rollback-in-Err.new.self c.take-2.new.session (client_so_far a taken).progress (reply_updates a taken c.args.octets.items) c.take-2.new.full c.rollback-in-Err.ensures k)
+
+pub returns-in-Ok-None-clause-history : goal.returns-in-Ok-None-clause-history
+returns-in-Ok-None-clause-history g c = c.in-Ok-None.ensures.history
+
+pub returns-in-Ok-Some-clause-history : goal.returns-in-Ok-Some-clause-history
+returns-in-Ok-Some-clause-history g c = grows_rolled c.args.session.now.past c.rollback.new.self c.take-2.new.session c.args.made.now.items c.take-2.new.made.items c.rollback.ensures c.in-Ok-Some.ensures.history
+
+pub returns-in-Err-clause-history : goal.returns-in-Err-clause-history
+returns-in-Err-clause-history g c = grows_rolled c.args.session.now.past c.rollback-in-Err.new.self c.take-2.new.session c.args.made.now.items c.take-2.new.made.items c.rollback-in-Err.ensures c.in-Err.ensures.history

@@ -1,4 +1,4 @@
-use Rattle.std.proofs.Common.{◌≡◌, sym, ap, ◌∙◌, subst, Err}
+use Rattle.std.proofs.Common.{◌≡◌, refl, sym, ap, ◌∙◌, subst, Err}
 use Rattle.std.proofs.lemmas.Result.{err_from_is_err_and}
 use Rattle.xfr_client.specs.Places.{first_serial}
 use Rattle.xfr_client.specs.SoFar.{message_so_far, client_so_far}
@@ -9,6 +9,7 @@ use Rattle.xfr_client.specs.Room.{ReplyKeepsRoom}
 use Rattle.xfr_client.proofs.Standings.{between}
 use Rattle.xfr_client.proofs.TakingReplies.{settled_ends, message_fails, message_reads, updates_stop, updates_done, text_ends, text_goes_on}
 use Rattle.xfr_client.proofs.Room.{none_done, reply_stops, reply_done, reply_stops_at, not_checked, not_tested, settled_memory, told_memory, sync_same}
+use Rattle.xfr_client.proofs.Growing.{grows_still}
 use Rattle.xfr_client.proofs.exchange.Exchange.take.Goals as goal
 
 pub returns-in_err-updates-clause-takes : goal.returns-in_err-updates-clause-takes
@@ -149,3 +150,18 @@ returns-in_err-updates-clause-stops g c a taken before at x low out =
     let tests = c.in_err-updates.ensures.tests a cl.begun cl.place (ap (λ e. e.id) o ∙ x.id) (ap (λ e. e.question) o ∙ x.question) (ap (λ e. e.interpreter) o ∙ x.interpreter) (between a taken x.unmet).place in
     let p = err_from_is_err_and c.from_residual-in_err-updates.result c.from_residual-in_err-updates.ensures.1 in
     absurd (not_tested a cl.begun cl.place (message_so_far c.in_ok-message.message) c.read.new.self.interpreter c.in_err-updates.field-0.0 tests (told_memory c.from_residual-in_err-updates.result c.in_err-updates.field-0.0 p.0 p.1 p.2 out))
+
+pub returns-in_err-message-clause-history : goal.returns-in_err-message-clause-history
+returns-in_err-message-clause-history g c = grows_still c.args.session.now c.args.session.now c.args.made.now.items c.args.made.now.items refl refl
+
+pub returns-in_err-updates-clause-history : goal.returns-in_err-updates-clause-history
+returns-in_err-updates-clause-history g c = grows_still c.args.session.now c.args.session.now c.args.made.now.items c.args.made.now.items refl refl
+
+pub returns-in-Err-clause-history : goal.returns-in-Err-clause-history
+returns-in-Err-clause-history g c = c.apply_all.ensures.history
+
+pub returns-then-is_finished-clause-history : goal.returns-then-is_finished-clause-history
+returns-then-is_finished-clause-history g c = c.apply_all.ensures.history
+
+pub returns-clause-history : goal.returns-clause-history
+returns-clause-history g c = c.apply_all.ensures.history
