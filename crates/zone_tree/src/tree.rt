@@ -11,6 +11,7 @@ ghost use Rattle.zone_tree.specs.declared.errors.InsertZoneError.TheVariants.{Zo
 ghost use Rattle.zone_values.specs.declared.errors.ZoneTreeModificationError.TheVariants.{ZoneDoesNotExist};
 
 use crate::at_apex::AtApex;
+use crate::close::Close;
 use crate::errors::InsertZoneError;
 use crate::iter::ZoneSetIter;
 use crate::zone_key::{ZoneKey, zone_key};
@@ -19,6 +20,7 @@ use dns_numbers::Class;
 use std::alloc::Global;
 use std::collections::BTreeMap;
 use std::marker::Model;
+use std::sync::Wait;
 use zone_values::ZoneTreeModificationError;
 
 /// The zones of a server by class and apex, at most one of each.
@@ -166,6 +168,18 @@ impl<Z: AtApex> ZoneTree<Z> {
     {
         let key = zone_key(class, apex_name);
         self.entries.remove(&key)
+    }
+}
+
+impl<Z: AtApex + Close> ZoneTree<Z> {
+    /// Ends each zone in order, and the tree. It takes no memory, and waits as its zones' ends do.
+    pub fn close<R: Wait>(self, rt: &R) {
+        let ZoneTree { mut entries } = self;
+        while let Some((key, zone)) = entries.pop_first() {
+            drop(key);
+            zone.close(rt);
+        }
+        entries.destroy_empty();
     }
 }
 
