@@ -8,4 +8,4 @@
 
 pub use zone_records::{FileError, OwnerSets, Owners, Zonefile};
 pub use zone_sessions::{InsertCnameError, InsertCutError, ZoneBuilder};
-pub use zone_tree::{AtApex, InsertZoneError, ZoneSetIter, ZoneTree};
+pub use zone_tree::{AtApex, Close, InsertZoneError, ZoneSetIter, ZoneTree};

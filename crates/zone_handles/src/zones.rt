@@ -10,7 +10,7 @@ use std::marker::Model;
 use std::sync::Wait;
 use zone_reads::ReadZone;
 use zone_sessions::{WriteZone, ZoneApex};
-use zone_tree::AtApex;
+use zone_tree::{AtApex, Close};
 
 /// What keeps a zone: it knows its class and apex, and gives read handles.
 pub trait ZoneStore {
@@ -160,9 +160,11 @@ impl Zone<ZoneApex> {
     {
         self.store.write(alloc)
     }
+}
 
-    /// Ends the zone. It takes no memory, and waits for readers that are within a call.
-    pub fn close<R: Wait>(self, rt: &R) {
+/// A zone in memory ends with its desk. It waits for readers that are within a call.
+impl Close for Zone<ZoneApex> {
+    fn close<R: Wait>(self, rt: &R) {
         self.store.close(rt);
     }
 }

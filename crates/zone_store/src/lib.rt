@@ -44,11 +44,12 @@ pub use zone_handles::{
 };
 pub use zone_lookup::look_up;
 pub use zone_reads::{
-    NodeChildren, NodeRrsets, NodeRrsetsIter, ReadZone, RrsetIter, Special, WalkItem, ZoneNode,
-    is_same,
+    NodeChildren, NodeRrsets, NodeRrsetsIter, ReadZone, Receipt, RrsetIter, Special, WalkItem,
+    ZoneNode, ZoneReader, is_same,
 };
 pub use zone_sessions::{
-    CommitError, EditError, InsertError, NodeError, UpdateError, WriteNode, WriteZone, ZoneApex,
-    ZoneBuilder,
+    CommitError, Desk, EditError, InsertError, MOST_READERS, NodeError, UpdateError, WriteNode,
+    WriteZone, ZoneApex, ZoneBuilder,
 };
+pub use zone_tree::Close;
 pub use zone_versions::{NodeCount, TreeSet, TreeSets, VersionTree, ZoneVersion};
