@@ -7,7 +7,7 @@ use dns_rdata::RecordData;
 use std::alloc::Global;
 use std::process::Abort;
 use std::sync::Wait;
-use zone_store::{QueryError, ReadZone, ReadableZone, Zone, ZoneApex, ZoneStore, is_same};
+use zone_store::{Close, QueryError, ReadZone, ReadableZone, Zone, ZoneApex, ZoneStore, is_same};
 
 pub(crate) fn zone<R: Abort>(rt: &R, alloc: Global) -> Zone<ZoneApex> {
     let apex = name(rt, alloc, b"\x01c\0");

@@ -7,7 +7,9 @@ use dns_numbers::{Rcode, Rtype};
 use std::alloc::Global;
 use std::process::Abort;
 use std::sync::Wait;
-use zone_store::{HandleError, NodeEdit, ReadZone, Step, WriteZone, ZoneEdit, ask, make_steps};
+use zone_store::{
+    Close, HandleError, NodeEdit, ReadZone, Step, WriteZone, ZoneEdit, ask, make_steps,
+};
 
 fn then<R: Abort>(rt: &R, steps: &mut Vec<Step>, step: Step) {
     steps.push(step).ok().expect(rt, "memory");

@@ -10,8 +10,8 @@ use dns_rdata::StoredRecord;
 use std::alloc::{AllocError, Global};
 use std::process::Abort;
 use std::sync::Wait;
-use zone_file::{InsertCnameError, InsertCutError, InsertZoneError, ZoneBuilder, ZoneTree};
-use zone_store::{CommitError, InsertError, ReadZone, ReadableZone, Zone, ZoneStore};
+use zone_file::{Close, InsertCnameError, InsertCutError, InsertZoneError, ZoneBuilder, ZoneTree};
+use zone_store::{CommitError, InsertError, ReadZone, ReadableZone, Zone, ZoneApex, ZoneStore};
 use zone_types::{Rrset, SharedRr, SharedRrset};
 
 const A: &[u8] = b"\x01a\x07example\x00";
@@ -349,4 +349,55 @@ fn a_tree_of_zones_finds_the_nearest(rt: HostRuntime) {
     drop(removed);
     is(&rt, nearest(&rt, &tree, below_a, 1), Some(1));
     drop(tree);
+}
+
+/// A zone in memory without records, of class IN, whose version has this number.
+fn in_memory<R: Abort>(rt: &R, alloc: Global, apex: &[u8], number: u64) -> Zone<ZoneApex> {
+    let builder = ZoneBuilder::new(alloc, name(rt, alloc, apex), Class::IN);
+    Zone::new(builder.build_at(number).expect(rt, "memory"))
+}
+
+/// Puts a zone into a tree, and tells whether it was taken. One that is handed back is ended.
+fn is_planted<R: Wait>(rt: &R, tree: &mut ZoneTree<Zone<ZoneApex>>, zone: Zone<ZoneApex>) -> bool {
+    match tree.insert_zone(zone) {
+        Ok(()) => true,
+        Err(InsertZoneError::ZoneExists(zone)) => {
+            zone.close(rt);
+            false
+        }
+        Err(InsertZoneError::Memory(zone)) => {
+            zone.close(rt);
+            false
+        }
+    }
+}
+
+/// A handle of the current version of the zone that a name lies in.
+fn nearest_read<R: Abort + Wait>(
+    rt: &R,
+    tree: &ZoneTree<Zone<ZoneApex>>,
+    qname: &[u8],
+) -> ReadZone {
+    let qname = NameRef::from_octets(qname).expect(rt, "a name");
+    let zone = tree.find_zone(&qname, Class::IN).expect(rt, "a zone");
+    zone.read(rt).expect(rt, "memory")
+}
+
+#[test]
+fn a_tree_of_zones_in_memory_is_ended(rt: HostRuntime) {
+    let alloc = rt.alloc();
+    let mut tree = ZoneTree::new(alloc);
+    let below = in_memory(&rt, alloc, A, 2);
+    is(&rt, is_planted(&rt, &mut tree, below), true);
+    let above = in_memory(&rt, alloc, APEX, 1);
+    is(&rt, is_planted(&rt, &mut tree, above), true);
+    let again = in_memory(&rt, alloc, b"\x01A\x07EXAMPLE\x00", 9);
+    is(&rt, is_planted(&rt, &mut tree, again), false);
+    let below = nearest_read(&rt, &tree, b"\x01x\x01a\x07example\x00");
+    let above = nearest_read(&rt, &tree, B);
+    tree.close(&rt);
+    is(&rt, below.version_number(), 2);
+    is(&rt, above.version_number(), 1);
+    drop(above);
+    drop(below);
 }

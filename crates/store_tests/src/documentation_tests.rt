@@ -3,7 +3,7 @@
 use dns_name::NameRef;
 use dns_numbers::{Class, Rcode, Rtype, Ttl};
 use dns_rdata::{A, Record, ZoneRecordData};
-use zone_store::{ReadableZone, Zone, ZoneBuilder, ZoneStore};
+use zone_store::{Close, ReadableZone, Zone, ZoneBuilder, ZoneStore};
 use zone_types::{Answer, Rrset};
 
 #[test]

@@ -10,7 +10,7 @@ use dns_rdata::ZoneRecordData;
 use std::alloc::Global;
 use std::process::Abort;
 use zone_file::{FileError, ZoneBuilder, Zonefile};
-use zone_store::{ReadZone, ReadableZone, Zone, ZoneApex, ZoneStore};
+use zone_store::{Close, ReadZone, ReadableZone, Zone, ZoneApex, ZoneStore};
 use zone_types::{CnameError, ContextError, ZoneCutError};
 
 const GLUE: &[u8] = b"\x02ns\x01c\x07example\x00";

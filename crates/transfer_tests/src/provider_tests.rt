@@ -15,7 +15,7 @@ use xfr_server::{
     HistoryProvider, Request, StoredZone, TransportSpecificContext, XfrDataProvider,
     XfrDataProviderError, commits_may_be_pushed,
 };
-use zone_file::{AtApex, ZoneTree};
+use zone_file::{AtApex, Close, ZoneTree};
 use zone_store::{ReadZone, WriteZone, Zone};
 
 /// Gives the pending version an SOA record with this serial.

@@ -17,7 +17,7 @@ use xfr_server::{
     CallResult, HistoryProvider, RefuseSvc, ReplyStream, Request, Service, ServiceFeedback,
     TransportSpecificContext, XfrDataProvider, XfrMiddlewareSvc, commits_may_be_pushed,
 };
-use zone_store::{WriteZone, Zone, ZoneApex};
+use zone_store::{Close, WriteZone, Zone, ZoneApex};
 
 /// A request for the zone of RFC 1995, 7 by AXFR.
 const AXFR: &str = "07cb00000001000000000000046a61696e026164026a700000fc0001";
