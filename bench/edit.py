@@ -28,7 +28,7 @@ import tempfile
 
 from programs import build, needs
 
-LIBRARIES = "zone_sessions zone_diffs zone_versions zone_values zone_model dns_rdata dns_name dns_numbers thiserror"
+LIBRARIES = "published zone_sessions zone_reads zone_diffs zone_versions zone_values zone_model dns_rdata dns_name dns_numbers thiserror"
 SIZES = [1_000, 10_000, 100_000]
 
 
