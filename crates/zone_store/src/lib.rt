@@ -4,11 +4,11 @@
 //! whatever is committed later (`ReadableZone`: `query`, `walk`, `look_up`). `WriteZone` is the one session that edits and commits, by
 //! records or node by node (`WriteNode`). `ZoneNode` and its kin are the parts of one version; `VersionTree` is a version as a tree of nodes, whose
 //! edits count the nodes that they build (`NodeCount`). What zones are made of, answers and differences are in `zone_types`. This crate only passes
-//! on: each item is proved in the crate that it comes from. A handle keeps its version (a test in `store_tests`):
+//! on: each item is proved in the crate that it comes from. A zone is ended by `close` (`Close`). A handle keeps its version (a test in `store_tests`):
 //!
 //! ```rust
 //! use dns_wire::{A, Class, NameRef, Rcode, Record, Rtype, Ttl, ZoneRecordData};
-//! use zone_store::{ReadableZone, Zone, ZoneBuilder, ZoneStore};
+//! use zone_store::{Close, ReadableZone, Zone, ZoneBuilder, ZoneStore};
 //!
 //! let alloc = rt.alloc();
 //! let apex = NameRef::from_octets(b"\x07example\x00").expect(&rt, "a name");
@@ -35,6 +35,7 @@
 //!     .look_up(&host, Rtype::A)
 //!     .expect(&rt, "a name of the zone");
 //! assert_eq!(rt; found.rcode(), Rcode::NXDOMAIN);
+//! zone.close(&rt);
 //! ```
 #![tactic(auto)]
 
