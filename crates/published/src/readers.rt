@@ -146,12 +146,13 @@ impl<E: Numbered + Drop> Reader<E> {
     }
 
     /// An entry whose number is no less than that of the receipt's, whichever history the receipt is of: by number alone, and so the receipt's own entry
-    /// where what `read` gives is older. An error where there is no memory for a copy.
+    /// where what `read` gives is older; nor is it less than what this reader holds then. An error where there is no memory for a copy.
     pub fn read_after(&mut self, receipt: &Receipt<E>) -> Result<E, AllocError>
         ensures book { self.new.book ≡ self.old.book }
         ensures begins { IsPrefix self.old.list self.new.list }
         ensures counts { self.old.refused ≤ self.new.refused }
         ensures number { IfOk result (λ z. E.number_of receipt.now.last ≤ E.number_of z) }
+        ensures latest { IfOk result (λ z. E.number_of self.new.last ≤ E.number_of z) }
     {
         let entry = self.read()?;
         if entry.number() < receipt.entry().number() {
