@@ -26,6 +26,8 @@ mod session_tests;
 #[cfg(test)]
 mod value_tests;
 #[cfg(test)]
+mod zone_reader_tests;
+#[cfg(test)]
 mod zone_tree_tests;
 #[cfg(test)]
 mod zonefile_tests;
