@@ -334,7 +334,7 @@ fn report_of(
         Some(limit) => limit_report(alloc, limit, zone, queries),
         None => {
             let outcome = outcome_of(answer);
-            report_octets(alloc, &outcome, made, zone, queries)
+            report_octets(alloc, &outcome, made, zone, queries, &[])
         }
     }
 }

@@ -1,5 +1,5 @@
 -- The status of an answer, and its report.
-use Rattle.std.specs.Prelude.{◌≡◌, ◌≢◌, ◌<◌, ℕ, List, [], length, true, false, Result, Ok, Err, IsTrue}
+use Rattle.std.specs.Prelude.{◌≡◌, ◌≢◌, ◌<◌, ℕ, List, length, true, false, Result, Ok, Err, IsTrue}
 use Rattle.std.proofs.Common.{refl, sym, ap, ◌∙◌, subst, arith}
 use Rattle.dns_name.specs.Names.{Name}
 use Rattle.dns_rdata.specs.Records.{record_wire}
@@ -8,9 +8,9 @@ use Rattle.zone_reads.specs.Session.{Session}
 use Rattle.xfr_outcomes.specs.declared.outcome.SyncOk.{SyncOk}
 use Rattle.xfr_outcomes.specs.declared.outcome.SyncError.{SyncError}
 use Rattle.xfr_outcomes.specs.declared.outcome.SyncError.TheVariants as why
-use Rattle.zone_report.specs.Report.{report}
+use Rattle.zone_report.specs.Report.{ReaderLine, report}
 use Rattle.zone_report.specs.Notices.{is_reported}
-use Rattle.zone_report.specs.ReportsWritten.{Reports, status_by}
+use Rattle.zone_report.specs.ReportsWritten.{AreReaders, Reports, status_by}
 use Rattle.zone_report.specs.declared.status.Status.{Status}
 use Rattle.zone_report.specs.declared.status.Status.TheVariants.{LinkFault, Memory}
 use Rattle.zone_report.specs.contracts.status.StatusPartialEq.TheImpl as derived
@@ -56,10 +56,14 @@ link_fails answer status old new e steady rose = e ∙ by answer steady
     by (Err e) h = absurd (not_steady (h (λ f. cc)))
 
 -- what was made of an answer is its report
-pub reports_so : (asked queries : List (Name × ℕ)) (handles : List Commit) (s : Session) (answer : Result SyncOk SyncError) (octets : List ℕ) (n : ℕ) (last : Commit) (status : Status)
-    → n ≡ length handles → last ≡ s.current → status ≡ status_by answer → asked ≡ queries
-    → octets ≡ report record_wire answer n last.version asked [] → Reports answer handles s queries octets status
-reports_so asked queries handles s answer octets n last status counted current ends same is = record {
+pub reports_so : (asked queries : List (Name × ℕ)) (handles : List Commit) (s : Session) (answer : Result SyncOk SyncError) (count : ℕ) (readers : List ReaderLine) (octets : List ℕ) (n : ℕ) (last : Commit) (status : Status)
+    → n ≡ length handles → last ≡ s.current → status ≡ status_by answer → asked ≡ queries → AreReaders count last.number readers
+    → octets ≡ report record_wire answer n last.version asked readers → Reports answer handles s queries count octets status
+reports_so asked queries handles s answer count readers octets n last status counted current ends same reads is = record {
   ended = ends;
-  is = is ∙ ap (λ m. report record_wire answer m last.version asked []) counted ∙ ap (λ z. report record_wire answer (length handles) z.version asked []) current ∙ ap (λ q. report record_wire answer (length handles) s.current.version q []) same;
+  readers = readers;
+  reads = subst (λ (z : Commit). AreReaders count z.number readers) current reads;
+  is =
+      is ∙ ap (λ m. report record_wire answer m last.version asked readers) counted ∙ ap (λ z. report record_wire answer (length handles) z.version asked readers) current
+      ∙ ap (λ q. report record_wire answer (length handles) s.current.version q readers) same;
 }

@@ -1,4 +1,4 @@
--- Which words ask for a transfer without reader threads.
+-- Which words ask for a transfer.
 use Rattle.std.proofs.Common.{◌≡◌, ◌≢◌, ◌≤◌, ◌<◌, ℕ, ◌^◌, Bool, true, false, if◌then◌else◌, List, [], ◌∷◌, length, map, get_or, refl, sym, ap, subst, arith, ◌∙◌, Option, Some, None, IfSome, codes, bytes_eq}
 use Rattle.std.specs.Prelude.{option_map, option_and_then, IfNone}
 use Rattle.std.proofs.lemmas.Grind.{common_steps}
@@ -47,48 +47,21 @@ is_other w g h more m k e = by (bytes_eq w (codes "gen")) (sym reduced ∙ e)
     by true f = sizes_other more m k f
     by false f = not_none (Transfer m k) f
 
-abbrev IsMode : Option XfrMode → List ℕ → Type 0
-IsMode r w = IfSome r (λ m. (more : List (List ℕ)) → form_of (w ∷ more) ≡ with_readers (mode_of m) more)
-
-abbrev IsNoMode : Option XfrMode → List ℕ → Type 0
-IsNoMode r w = IfNone r ((more : List (List ℕ)) (m : Mode) (readers : ℕ) → form_of (w ∷ more) ≢ Some (Transfer m readers))
-
--- one word
-one_word : {A : Type 0} (words : List A) (x : A) → 1 ≤ length words → length words < 2 → x ≡ get_or words 0 x → words ≡ x ∷ []
-one_word [] x least most e = absurd (omega (arith, least))
-one_word (w ∷ []) x least most e = ap (λ y. y ∷ []) (sym e)
-one_word (w ∷ k ∷ more) x least most e = absurd (omega (arith, most))
-
-module _ {A : Type 0} (f : A → List ℕ) (words : List A) (x : A) (least : 1 ≤ length words) (most : length words < 2) (is : x ≡ get_or words 0 x) where
-  pub alone : (r : Option XfrMode) → IsMode r (f x) → IfSome r (λ m. form_of (map f words) ≡ Some (Transfer (mode_of m) 0))
-  alone r h = subst (λ ws. IfSome r (λ m. form_of (map f ws) ≡ Some (Transfer (mode_of m) 0))) (sym (one_word words x least most is)) (by r h)
-    where
-      by : (r : Option XfrMode) → IsMode r (f x) → IfSome r (λ m. form_of (f x ∷ []) ≡ Some (Transfer (mode_of m) 0))
-      by None h = tt
-      by (Some m) h = h []
-
-  pub alone_other : (r : Option XfrMode) → IsNoMode r (f x) → IfNone r ((m : Mode) → form_of (map f words) ≢ Some (Transfer m 0))
-  alone_other r h = subst (λ ws. IfNone r ((m : Mode) → form_of (map f ws) ≢ Some (Transfer m 0))) (sym (one_word words x least most is)) (by r h)
-    where
-      by : (r : Option XfrMode) → IsNoMode r (f x) → IfNone r ((m : Mode) → form_of (f x ∷ []) ≢ Some (Transfer m 0))
-      by None h = λ m. h [] m 0
-      by (Some m) h = tt
-
 -- more words than two, or none
-too_many : (w k l : List ℕ) (more : List (List ℕ)) (m : Mode) → form_of (w ∷ k ∷ l ∷ more) ≢ Some (Transfer m 0)
-too_many w k l more m e = by (bytes_eq w (codes "axfr")) (bytes_eq w (codes "ixfr")) (bytes_eq w (codes "gen")) e
+too_many : (w k l : List ℕ) (more : List (List ℕ)) (m : Mode) (readers : ℕ) → form_of (w ∷ k ∷ l ∷ more) ≢ Some (Transfer m readers)
+too_many w k l more m readers e = by (bytes_eq w (codes "axfr")) (bytes_eq w (codes "ixfr")) (bytes_eq w (codes "gen")) e
   where
-    by : (a b c : Bool) → (if a then None else if b then None else if c then with_sizes (k ∷ l ∷ more) else None) ≡ Some (Transfer m 0) → ⊥
-    by true b c f = not_none (Transfer m 0) f
-    by false true c f = not_none (Transfer m 0) f
-    by false false true f = sizes_other (k ∷ l ∷ more) m 0 f
-    by false false false f = not_none (Transfer m 0) f
+    by : (a b c : Bool) → (if a then None else if b then None else if c then with_sizes (k ∷ l ∷ more) else None) ≡ Some (Transfer m readers) → ⊥
+    by true b c f = not_none (Transfer m readers) f
+    by false true c f = not_none (Transfer m readers) f
+    by false false true f = sizes_other (k ∷ l ∷ more) m readers f
+    by false false false f = not_none (Transfer m readers) f
 
-pub other_count : {A : Type 0} (f : A → List ℕ) (words : List A) → length words ≢ 1 → length words ≢ 2 → (m : Mode) → form_of (map f words) ≢ Some (Transfer m 0)
-other_count f [] one two m e = not_none (Transfer m 0) e
-other_count f (w ∷ []) one two m e = one refl
-other_count f (w ∷ k ∷ []) one two m e = two refl
-other_count f (w ∷ k ∷ l ∷ more) one two m e = too_many (f w) (f k) (f l) (map f more) m e
+pub other_count : {A : Type 0} (f : A → List ℕ) (words : List A) → length words ≢ 1 → length words ≢ 2 → (m : Mode) (readers : ℕ) → form_of (map f words) ≢ Some (Transfer m readers)
+other_count f [] one two m readers e = not_none (Transfer m readers) e
+other_count f (w ∷ []) one two m readers e = one refl
+other_count f (w ∷ k ∷ []) one two m readers e = two refl
+other_count f (w ∷ k ∷ l ∷ more) one two m readers e = too_many (f w) (f k) (f l) (map f more) m readers e
 
 -- ---- the zone that is made from numbers
 

@@ -7,22 +7,38 @@ ghost use Rattle.zone_script.specs.Words.{form_of, mode_of, with_readers, with_s
 use crate::numbers::{number_below, number_u64};
 use xfr_services::XfrMode;
 
-/// The kind of transfer that the words ask for, where no reader threads are asked for: `axfr` or `ixfr`, alone or with `0` after it.
-pub fn transfer_of(words: &[String]) -> Option<XfrMode>
-    ensures asked { IfSome result (λ m. form_of (map string_bytes words.now) ≡ Some (Transfer (mode_of m) 0)) }
-    ensures other { IfNone result ((m : Mode) → form_of (map string_bytes words.now) ≢ Some (Transfer m 0)) }
+/// The kind of transfer that the words ask for, `axfr` or `ixfr`, and beside how many reader threads: none without a number, else 0 to 16.
+pub fn transfer_of(words: &[String]) -> Option<(XfrMode, u64)>
+    ensures asked { IfSome result (λ t. form_of (map string_bytes words.now) ≡ Some (Transfer (mode_of t.0) t.1)) }
+    ensures few { IfSome result (λ t. t.1 ≤ 16) }
+    ensures other { IfNone result ((m : Mode) (readers : ℕ) → form_of (map string_bytes words.now) ≢ Some (Transfer m readers)) }
 {
     match words {
-        [word] => mode_of_word(word),
-        [word, readers] => {
-            if number_below(17, readers.as_bytes()) == Some(0) {
-                mode_of_word(word)
-            } else {
-                None
-            }
-        }
+        [word] => transfer_alone(word),
+        [word, readers] => transfer_beside(word, readers),
         _ => None,
     }
+}
+
+/// The same of one word.
+fn transfer_alone(word: &String) -> Option<(XfrMode, u64)>
+    ensures asked { IfSome result (λ t. form_of (string_bytes word.now ∷ []) ≡ Some (Transfer (mode_of t.0) t.1)) }
+    ensures few { IfSome result (λ t. t.1 ≤ 16) }
+    ensures other { IfNone result ((m : Mode) (readers : ℕ) → form_of (string_bytes word.now ∷ []) ≢ Some (Transfer m readers)) }
+{
+    let mode = mode_of_word(word)?;
+    Some((mode, 0))
+}
+
+/// The same of two words.
+fn transfer_beside(word: &String, readers: &String) -> Option<(XfrMode, u64)>
+    ensures asked { IfSome result (λ t. form_of (string_bytes word.now ∷ string_bytes readers.now ∷ []) ≡ Some (Transfer (mode_of t.0) t.1)) }
+    ensures few { IfSome result (λ t. t.1 ≤ 16) }
+    ensures other { IfNone result ((m : Mode) (k : ℕ) → form_of (string_bytes word.now ∷ string_bytes readers.now ∷ []) ≢ Some (Transfer m k)) }
+{
+    let mode = mode_of_word(word)?;
+    let readers = number_below(17, readers.as_bytes())?;
+    Some((mode, readers))
 }
 
 /// The kind of transfer that the first word asks for.

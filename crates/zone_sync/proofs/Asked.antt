@@ -17,26 +17,26 @@ same_mode modes.Axfr = refl
 same_mode modes.Ixfr = refl
 
 -- words that ask for a transfer
-pub asked_form : (m : XfrMode) (form : Option Form) → form ≡ Some (Transfer (words.mode_of m) 0) → Some (Transfer (mode_of m) 0) ≡ form
-asked_form m form e = sym (e ∙ ap (λ k. Some (Transfer k 0)) (same_mode m))
+pub asked_form : (m : XfrMode) (n : ℕ) (form : Option Form) → form ≡ Some (Transfer (words.mode_of m) n) → Some (Transfer (mode_of m) n) ≡ form
+asked_form m n form e = sym (e ∙ ap (λ k. Some (Transfer k n)) (same_mode m))
 
-pub asks_script : (m : XfrMode) (form : Option Form) → form ≡ Some (Transfer (words.mode_of m) 0) → ¬ AsksNoScript form
-asks_script m form e other = other (words.mode_of m) e
+pub asks_script : (m : XfrMode) (n : ℕ) (form : Option Form) → form ≡ Some (Transfer (words.mode_of m) n) → ¬ AsksNoScript form
+asks_script m n form e other = other (words.mode_of m) n e
 
-pub no_numbers_asked : (m : XfrMode) (form : Option Form) → form ≡ Some (Transfer (words.mode_of m) 0) → (size seed : ℕ) → form ≢ Some (Generate size seed)
-no_numbers_asked m form e size seed f = let clash = sym e ∙ f in cc
+pub no_numbers_asked : (m : XfrMode) (n : ℕ) (form : Option Form) → form ≡ Some (Transfer (words.mode_of m) n) → (size seed : ℕ) → form ≢ Some (Generate size seed)
+no_numbers_asked m n form e size seed f = let clash = sym e ∙ f in cc
 
-pub words_asked : (m : XfrMode) (form : Option Form) (status : Status) → form ≡ Some (Transfer (words.mode_of m) 0) → status ≢ Usage → TellsWords form status
-words_asked m form status e no_usage = record {
+pub words_asked : (m : XfrMode) (n : ℕ) (form : Option Form) (status : Status) → form ≡ Some (Transfer (words.mode_of m) n) → status ≢ Usage → TellsWords form status
+words_asked m n form status e no_usage = record {
   usage = λ u. absurd (no_usage u);
-  no_form = λ other. absurd (other.no_script (words.mode_of m) e);
+  no_form = λ other. absurd (other.no_script (words.mode_of m) n e);
 }
 
 -- .. of that kind alone
-pub script_asked : (m : XfrMode) (form : Option Form) (text : List ℕ) (f g h i : ℕ) (link : Crossed) (status : Status) → form ≡ Some (Transfer (words.mode_of m) 0) → TellsScript (mode_of m) text f g h i link status
-    → (mode : Mode) → form ≡ Some (Transfer mode 0) → TellsScript mode text f g h i link status
-script_asked m form text f g h i link status e tells mode asked = subst (λ (k : Mode). TellsScript k text f g h i link status) (ap (mode_in mode) (asked_form m form e ∙ asked)) tells
+pub script_asked : (m : XfrMode) (n : ℕ) (form : Option Form) (text : List ℕ) (f g h i : ℕ) (link : Crossed) (status : Status) → form ≡ Some (Transfer (words.mode_of m) n) → TellsScript (mode_of m) text f g h i link status
+    → (mode : Mode) (readers : ℕ) → form ≡ Some (Transfer mode readers) → TellsScript mode text f g h i link status
+script_asked m n form text f g h i link status e tells mode readers asked = subst (λ (k : Mode). TellsScript k text f g h i link status) (ap (mode_in mode) (asked_form m n form e ∙ asked)) tells
   where
     mode_in : Mode → Option Form → Mode
-    mode_in d (Some (Transfer k n)) = k
+    mode_in d (Some (Transfer k l)) = k
     mode_in d _ = d

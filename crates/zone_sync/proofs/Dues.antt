@@ -30,11 +30,11 @@ use Rattle.zone_report.proofs.WrittenParts.{not_sink, with_nothing, along, wrote
 pub untouched : {longest f : ℕ} {lists : Option LinkLists} → Untouched (crossed longest lists lists f f)
 untouched = record { lists = refl; faults = refl }
 
-pub report_taken : (SendsOf : Provider → TsigKey → ℕ → List ℕ → Option (List Sending) → Type 0) (mode : Mode) (script : Script) (link : Crossed) (octets shown : List ℕ) (status s : Status) (taken_old taken_new : Option (List ℕ)) → ReportsOn SendsOf mode script link octets status → shown ≡ octets
-    → (s ≢ ends.SinkFault → s ≡ status) → (s ≢ ends.SinkFault → taken_new ≡ with_more shown taken_old) → IsTrue (is_reported s) → Took (λ o. ReportsOn SendsOf mode script link o s) taken_old taken_new
-report_taken SendsOf mode script link octets shown status s taken_old taken_new r same done written h = record {
+pub report_taken : (SendsOf : Provider → TsigKey → ℕ → List ℕ → Option (List Sending) → Type 0) (mode : Mode) (count : ℕ) (script : Script) (link : Crossed) (octets shown : List ℕ) (status s : Status) (taken_old taken_new : Option (List ℕ)) → ReportsOn SendsOf mode count script link octets status → shown ≡ octets
+    → (s ≢ ends.SinkFault → s ≡ status) → (s ≢ ends.SinkFault → taken_new ≡ with_more shown taken_old) → IsTrue (is_reported s) → Took (λ o. ReportsOn SendsOf mode count script link o s) taken_old taken_new
+report_taken SendsOf mode count script link octets shown status s taken_old taken_new r same done written h = record {
   octets = octets;
-  due = subst (λ t. ReportsOn SendsOf mode script link octets t) (sym (done (not_sink s h))) r;
+  due = subst (λ t. ReportsOn SendsOf mode count script link octets t) (sym (done (not_sink s h))) r;
   taken = written (not_sink s h) ∙ ap (λ o. with_more o taken_old) same;
 }
 
@@ -76,9 +76,10 @@ asked_so SendsOf mode Holds text k spelt r =
     subst (λ (q : List (Name × ℕ)). Holds (SendsOf (provider_in t k.key) k.key t.at_primary) (asking_in mode t k.key) t.at_primary q) gives.queries own
 
 -- a transfer of the script that a text spells, for words that ask for that kind
-tried_so : (SendsOf : Provider → TsigKey → ℕ → List ℕ → Option (List Sending) → Type 0) (mode : Mode) (text : List ℕ) (link : Crossed) (k : Script) → Spelt text k → TransfersOn SendsOf mode k link → Tried SendsOf (Some (Transfer mode 0)) (Some text) link
-tried_so SendsOf mode text link k spelt t = record {
+tried_so : (SendsOf : Provider → TsigKey → ℕ → List ℕ → Option (List Sending) → Type 0) (mode : Mode) (count : ℕ) (text : List ℕ) (link : Crossed) (k : Script) → Spelt text k → TransfersOn SendsOf mode k link → Tried SendsOf (Some (Transfer mode count)) (Some text) link
+tried_so SendsOf mode count text link k spelt t = record {
   mode = mode;
+  readers = count;
   asked = refl;
   text = text;
   whole = refl;
@@ -90,21 +91,21 @@ tried_so SendsOf mode text link k spelt t = record {
 }
 
 -- .. and its report
-ran_so : (SendsOf : Provider → TsigKey → ℕ → List ℕ → Option (List Sending) → Type 0) (mode : Mode) (text : List ℕ) (link : Crossed) (octets : List ℕ) (s : Status) (k : Script) → Spelt text k
-    → ReportsOn SendsOf mode k link octets s → Ran SendsOf (Some (Transfer mode 0)) (Some text) link octets s
-ran_so SendsOf mode text link octets s k spelt r =
-    let asked = asked_so SendsOf mode (λ Sends a at queries. (t : Transferred Sends a at link) × Reports t.answer t.handles t.session queries octets s) text k spelt (r.transfer, r.reports) in
+ran_so : (SendsOf : Provider → TsigKey → ℕ → List ℕ → Option (List Sending) → Type 0) (mode : Mode) (count : ℕ) (text : List ℕ) (link : Crossed) (octets : List ℕ) (s : Status) (k : Script) → Spelt text k
+    → ReportsOn SendsOf mode count k link octets s → Ran SendsOf (Some (Transfer mode count)) (Some text) link octets s
+ran_so SendsOf mode count text link octets s k spelt r =
+    let asked = asked_so SendsOf mode (λ Sends a at queries. (t : Transferred Sends a at link) × Reports t.answer t.handles t.session queries count octets s) text k spelt (r.transfer, r.reports) in
     record {
-      tried = record { mode = mode; asked = refl; text = text; whole = refl; script = spelt.0; spells = spelt.1; key = k.key; keyed = spelt.2.key; transfer = asked.0 };
+      tried = record { mode = mode; readers = count; asked = refl; text = text; whole = refl; script = spelt.0; spells = spelt.1; key = k.key; keyed = spelt.2.key; transfer = asked.0 };
       reports = asked.1;
     }
 
-pub due_of_report : (SendsOf : Provider → TsigKey → ℕ → List ℕ → Option (List Sending) → Type 0) (mode : Mode) (text : List ℕ) (link : Crossed) (octets : List ℕ) (s : Status) (k : Script) → Spelt text k
-    → ReportsOn SendsOf mode k link octets s → IsDue SendsOf (Some (Transfer mode 0)) (Some text) link octets s
-due_of_report SendsOf mode text link octets s k spelt r = by s r.known (ran_so SendsOf mode text link octets s k spelt r)
+pub due_of_report : (SendsOf : Provider → TsigKey → ℕ → List ℕ → Option (List Sending) → Type 0) (mode : Mode) (count : ℕ) (text : List ℕ) (link : Crossed) (octets : List ℕ) (s : Status) (k : Script) → Spelt text k
+    → ReportsOn SendsOf mode count k link octets s → IsDue SendsOf (Some (Transfer mode count)) (Some text) link octets s
+due_of_report SendsOf mode count text link octets s k spelt r = by s r.known (ran_so SendsOf mode count text link octets s k spelt r)
   where
     form : Option Form
-    form = Some (Transfer mode 0)
+    form = Some (Transfer mode count)
 
     by : (s : Status) → IsTrue (is_reported s) → Ran SendsOf form (Some text) link octets s → IsDue SendsOf form (Some text) link octets s
     by ends.Done h r = r
@@ -117,28 +118,28 @@ due_of_report SendsOf mode text link octets s k spelt r = by s r.known (ran_so S
     by ends.Memory h r = cc
     by ends.TooLong h r = cc
 
-pub first_due_of_report : (SendsOf : Provider → TsigKey → ℕ → List ℕ → Option (List Sending) → Type 0) (mode : Mode) (text : List ℕ) (link : Crossed) (taken_old taken_new : Option (List ℕ)) (k : Script) → Spelt text k
-    → TookFirst (ReportsOn SendsOf mode k link) taken_old taken_new → TookFirst (IsDue SendsOf (Some (Transfer mode 0)) (Some text) link) taken_old taken_new
-first_due_of_report SendsOf mode text link taken_old taken_new k spelt t =
-    record { octets = t.octets; status = t.status; count = t.count; due = due_of_report SendsOf mode text link t.octets t.status k spelt t.due; taken = t.taken }
+pub first_due_of_report : (SendsOf : Provider → TsigKey → ℕ → List ℕ → Option (List Sending) → Type 0) (mode : Mode) (count : ℕ) (text : List ℕ) (link : Crossed) (taken_old taken_new : Option (List ℕ)) (k : Script) → Spelt text k
+    → TookFirst (ReportsOn SendsOf mode count k link) taken_old taken_new → TookFirst (IsDue SendsOf (Some (Transfer mode count)) (Some text) link) taken_old taken_new
+first_due_of_report SendsOf mode count count text link taken_old taken_new k spelt t =
+    record { octets = t.octets; status = t.status; count = t.count; due = due_of_report SendsOf mode count text link t.octets t.status k spelt t.due; taken = t.taken }
 
-pub written_of_transfer : (SendsOf : Provider → TsigKey → ℕ → List ℕ → Option (List Sending) → Type 0) (mode : Mode) (text : List ℕ) (link : Crossed) (taken_old taken_new : Option (List ℕ)) (s : Status) (k : Script) → Spelt text k
-    → (IsTrue (is_reported s) → Took (λ octets. ReportsOn SendsOf mode k link octets s) taken_old taken_new)
+pub written_of_transfer : (SendsOf : Provider → TsigKey → ℕ → List ℕ → Option (List Sending) → Type 0) (mode : Mode) (count : ℕ) (text : List ℕ) (link : Crossed) (taken_old taken_new : Option (List ℕ)) (s : Status) (k : Script) → Spelt text k
+    → (IsTrue (is_reported s) → Took (λ octets. ReportsOn SendsOf mode count k link octets s) taken_old taken_new)
     → (s ≡ ends.Memory → taken_new ≡ taken_old) → Untouched link ⊎ TransfersOn SendsOf mode k link → (s ≢ ends.Usage) × (s ≢ ends.SourceFault) × (s ≢ ends.TooLong) × (s ≢ ends.Script) → s ≢ ends.SinkFault
-    → Took (λ octets. IsDue SendsOf (Some (Transfer mode 0)) (Some text) link octets s) taken_old taken_new
-written_of_transfer SendsOf mode text link taken_old taken_new s k spelt reported nothing over_link others no_sink = by s reported nothing others no_sink
+    → Took (λ octets. IsDue SendsOf (Some (Transfer mode count)) (Some text) link octets s) taken_old taken_new
+written_of_transfer SendsOf mode count text link taken_old taken_new s k spelt reported nothing over_link others no_sink = by s reported nothing others no_sink
   where
-    passed : Untouched link ⊎ TransfersOn SendsOf mode k link → Untouched link ⊎ Tried SendsOf (Some (Transfer mode 0)) (Some text) link
+    passed : Untouched link ⊎ TransfersOn SendsOf mode k link → Untouched link ⊎ Tried SendsOf (Some (Transfer mode count)) (Some text) link
     passed (inl u) = inl u
-    passed (inr t) = inr (tried_so SendsOf mode text link k spelt t)
+    passed (inr t) = inr (tried_so SendsOf mode count text link k spelt t)
 
-    as_due : (s : Status) → Took (λ octets. ReportsOn SendsOf mode k link octets s) taken_old taken_new
-        → Took (λ octets. IsDue SendsOf (Some (Transfer mode 0)) (Some text) link octets s) taken_old taken_new
-    as_due s t = record { octets = t.octets; due = due_of_report SendsOf mode text link t.octets s k spelt t.due; taken = t.taken }
+    as_due : (s : Status) → Took (λ octets. ReportsOn SendsOf mode count k link octets s) taken_old taken_new
+        → Took (λ octets. IsDue SendsOf (Some (Transfer mode count)) (Some text) link octets s) taken_old taken_new
+    as_due s t = record { octets = t.octets; due = due_of_report SendsOf mode count text link t.octets s k spelt t.due; taken = t.taken }
 
-    by : (s : Status) → (IsTrue (is_reported s) → Took (λ octets. ReportsOn SendsOf mode k link octets s) taken_old taken_new)
+    by : (s : Status) → (IsTrue (is_reported s) → Took (λ octets. ReportsOn SendsOf mode count k link octets s) taken_old taken_new)
         → (s ≡ ends.Memory → taken_new ≡ taken_old) → (s ≢ ends.Usage) × (s ≢ ends.SourceFault) × (s ≢ ends.TooLong) × (s ≢ ends.Script) → s ≢ ends.SinkFault
-        → Took (λ octets. IsDue SendsOf (Some (Transfer mode 0)) (Some text) link octets s) taken_old taken_new
+        → Took (λ octets. IsDue SendsOf (Some (Transfer mode count)) (Some text) link octets s) taken_old taken_new
     by ends.Done reported nothing others no_sink = as_due ends.Done (reported refl)
     by ends.Refused reported nothing others no_sink = as_due ends.Refused (reported refl)
     by ends.LinkFault reported nothing others no_sink = as_due ends.LinkFault (reported refl)
@@ -169,12 +170,12 @@ pub due_of_source : (SendsOf : Provider → TsigKey → ℕ → List ℕ → Opt
 due_of_source SendsOf form left text link octets s e = by s
   where
     as_tried : Tried SendsOf form (Some text) link → Tried SendsOf form left link
-    as_tried r = record { mode = r.mode; asked = r.asked; text = r.text; whole = along left text r.text e r.whole; script = r.script; spells = r.spells; key = r.key; keyed = r.keyed; transfer = r.transfer }
+    as_tried r = record { mode = r.mode; readers = r.readers; asked = r.asked; text = r.text; whole = along left text r.text e r.whole; script = r.script; spells = r.spells; key = r.key; keyed = r.keyed; transfer = r.transfer }
 
     as_ran : (s : Status) → Ran SendsOf form (Some text) link octets s → Ran SendsOf form left link octets s
     as_ran s r =
         let k = r.tried in
-        let tried : Tried SendsOf form left link = record { mode = k.mode; asked = k.asked; text = k.text; whole = along left text k.text e k.whole; script = k.script; spells = k.spells; key = k.key; keyed = k.keyed; transfer = k.transfer } in
+        let tried : Tried SendsOf form left link = record { mode = k.mode; readers = k.readers; asked = k.asked; text = k.text; whole = along left text k.text e k.whole; script = k.script; spells = k.spells; key = k.key; keyed = k.keyed; transfer = k.transfer } in
         record { tried = tried; reports = r.reports }
 
     passed : Untouched link ⊎ Tried SendsOf form (Some text) link → Untouched link ⊎ Tried SendsOf form left link

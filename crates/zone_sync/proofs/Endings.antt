@@ -63,10 +63,10 @@ pub script_granted : (SendsOf : Provider → TsigKey → ℕ → List ℕ → Op
 script_granted SendsOf grants mode text t key longest spelt fit =
     grants (provider_in t key) key (asking_in mode t key) t.at_primary longest (granted_in t key) (script_fits mode text t key longest spelt fit) fit.request_fits
 
-module _ (SendsOf : Provider → TsigKey → ℕ → List ℕ → Option (List Sending) → Type 0) (grants : Granting SendsOf) (mode : Mode)
+module _ (SendsOf : Provider → TsigKey → ℕ → List ℕ → Option (List Sending) → Type 0) (grants : Granting SendsOf) (mode : Mode) (count : ℕ)
     (text : List ℕ) (t : scripts.Script TsigKey) (key : TsigKey) (link : Crossed) (taken_old taken_new : Option (List ℕ)) (spelt : script_of wire_readers text ≡ Ok t) (fits : FitsLink mode t key link.longest) (honest : WasHonest link.lists_old link.lists_new link.faults_old link.faults_new) where
   abbrev pub form : Option Form
-  form = Some (Transfer mode 0)
+  form = Some (Transfer mode count)
 
   same_script : (u : scripts.Script TsigKey) → script_of wire_readers text ≡ Ok u → t ≡ u
   same_script u e = ap (unless t) (sym spelt ∙ e)
@@ -78,25 +78,25 @@ module _ (SendsOf : Provider → TsigKey → ℕ → List ℕ → Option (List S
   same_key : (x y : TsigKey) → Some x ≡ Some y → x ≡ y
   same_key x y e = ap (λ o. unwrap_or o x) e
 
-  same_mode : (m : Mode) → form ≡ Some (Transfer m 0) → mode ≡ m
-  same_mode m e = ap (mode_in mode) e
+  same_mode : (m : Mode) (n : ℕ) → form ≡ Some (Transfer m n) → mode ≡ m
+  same_mode m n e = ap (mode_in mode) e
     where
       mode_in : Mode → Option Form → Mode
-      mode_in d (Some (Transfer x n)) = x
+      mode_in d (Some (Transfer x l)) = x
       mode_in d _ = d
 
-  fits_too : (m : Mode) (u : scripts.Script TsigKey) (k : TsigKey) → form ≡ Some (Transfer m 0) → script_of wire_readers text ≡ Ok u → u.key ≡ Some k → FitsLink m u k link.longest
-  fits_too m u k asked e keyed =
+  fits_too : (m : Mode) (n : ℕ) (u : scripts.Script TsigKey) (k : TsigKey) → form ≡ Some (Transfer m n) → script_of wire_readers text ≡ Ok u → u.key ≡ Some k → FitsLink m u k link.longest
+  fits_too m n u k asked e keyed =
       let mine = subst (λ (x : scripts.Script TsigKey). FitsLink mode x key link.longest) (same_script u e) fits in
       let same = subst (λ (x : TsigKey). FitsLink mode u x link.longest) (same_key key k (sym mine.keyed ∙ keyed)) mine in
-      subst (λ (x : Mode). FitsLink x u k link.longest) (same_mode m asked) same
+      subst (λ (x : Mode). FitsLink x u k link.longest) (same_mode m n asked) same
 
   -- a run that was reported ends so
   reported_well : (octets : List ℕ) (s : Status) → Ran SendsOf form (Some text) link octets s → (s ≡ Done) ⊎ (s ≡ Memory)
   reported_well octets s r =
       let k = r.tried in
       let spells = subst (λ (x : List ℕ). script_of wire_readers x ≡ Ok k.script) k.whole k.spells in
-      let grant = script_granted SendsOf grants k.mode text k.script k.key link.longest spells (fits_too k.mode k.script k.key k.asked spells k.keyed) in
+      let grant = script_granted SendsOf grants k.mode text k.script k.key link.longest spells (fits_too k.mode k.readers k.script k.key k.asked spells k.keyed) in
       ends_by (good_status (provider_in k.script k.key).kept k.transfer.session k.transfer.answer (k.transfer.says.delivers (provider_in k.script k.key).kept grant honest))
     where
       ends_by : (status_by r.tried.transfer.answer ≡ Done) ⊎ (status_by r.tried.transfer.answer ≡ Memory) → (s ≡ Done) ⊎ (s ≡ Memory)

@@ -21,9 +21,9 @@ use Rattle.zone_sync.specs.LongQuestions.{WasHandedLong}
 use Rattle.xfr_outcomes.specs.declared.outcome.SyncOk.{SyncOk}
 use Rattle.xfr_outcomes.specs.declared.outcome.SyncError.{SyncError}
 use Rattle.xfr_outcomes.specs.declared.outcome.SyncError.TheVariants as why
-use Rattle.zone_report.specs.Report.{report, generated_report}
+use Rattle.zone_report.specs.Report.{ReaderLine, report, generated_report}
 use Rattle.zone_sync.specs.Reported.{crossed, Crossed, Transferred, EndsAs, ReportsOn, ReportsNumbers, read_provider, generating_provider, generated_asking}
-use Rattle.zone_report.specs.ReportsWritten.{status_by}
+use Rattle.zone_report.specs.ReportsWritten.{AreReaders, status_by}
 use Rattle.zone_report.specs.declared.status.Status.{Status}
 use Rattle.zone_report.specs.declared.status.Status.TheVariants.{LinkFault}
 use Rattle.zone_report.proofs.ReportedAnswers.{reports_so}
@@ -52,14 +52,15 @@ module _ (Sends : List ℕ → Option (List Sending) → Type 0) (at longest : �
   }
 
 -- .. and that of a script's transfer
-pub reported_so : (SendsOf : Provider → TsigKey → ℕ → List ℕ → Option (List Sending) → Type 0) (mode : Mode) (script : Script) (link : Crossed) (answer : Result SyncOk SyncError) (n : ℕ) (last : Commit) (status : Status)
+pub reported_so : (SendsOf : Provider → TsigKey → ℕ → List ℕ → Option (List Sending) → Type 0) (mode : Mode) (count : ℕ) (script : Script) (link : Crossed) (answer : Result SyncOk SyncError) (n : ℕ) (last : Commit) (status : Status)
     → EndsAs (SendsOf (read_provider script) script.key script.at_primary) (asks_with script.key mode script.at_secondary script.secondary) script.at_primary link answer n last status
-    → (asked : List (Name × ℕ)) (octets : List ℕ) → asked ≡ script.queries → octets ≡ report record_wire answer n last.version asked [] → ReportsOn SendsOf mode script link octets status
-reported_so SendsOf mode script link answer n last status e asked octets same is =
+    → (asked : List (Name × ℕ)) (octets : List ℕ) (readers : List ReaderLine) → asked ≡ script.queries → AreReaders count last.number readers → octets ≡ report record_wire answer n last.version asked readers
+    → ReportsOn SendsOf mode count script link octets status
+reported_so SendsOf mode count script link answer n last status e asked octets readers same reads is =
     let t = e.transfer in
     record {
       transfer = t;
-      reports = reports_so asked script.queries t.handles t.session t.answer octets n last status e.counted e.current (e.ended ∙ ap status_by e.answered) same (is ∙ ap (λ a. report record_wire a n last.version asked []) e.answered);
+      reports = reports_so asked script.queries t.handles t.session t.answer count readers octets n last status e.counted e.current (e.ended ∙ ap status_by e.answered) same reads (is ∙ ap (λ a. report record_wire a n last.version asked readers) e.answered);
       known = e.known;
     }
 

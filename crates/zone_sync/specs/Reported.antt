@@ -120,16 +120,17 @@ abbrev pub TransfersOn : (Provider → TsigKey → ℕ → List ℕ → Option (
 TransfersOn SendsOf mode script link =
     Transferred (SendsOf (read_provider script) script.key script.at_primary) (asks_with script.key mode script.at_secondary script.secondary) script.at_primary link
 
--- .. and octets are its report
-pub record ReportsOn (SendsOf : Provider → TsigKey → ℕ → List ℕ → Option (List Sending) → Type 0) (mode : Mode) (script : read_scripts.Script) (link : Crossed) (octets : List ℕ) (status : Status) : Type 0 where
+-- .. and octets are its report, with what so many readers saw
+pub record ReportsOn (SendsOf : Provider → TsigKey → ℕ → List ℕ → Option (List Sending) → Type 0) (mode : Mode) (readers : ℕ) (script : read_scripts.Script) (link : Crossed) (octets : List ℕ) (status : Status) : Type 0 where
   pub transfer : TransfersOn SendsOf mode script link
-  pub reports : Reports transfer.answer transfer.handles transfer.session script.queries octets status
+  pub reports : Reports transfer.answer transfer.handles transfer.session script.queries readers octets status
   pub known : IsTrue (is_reported status)
 
 -- the words ask for a transfer, what the source had, where it tells it, spells a script, and the script's transfer was made, from a primary of its history and key that sends so
 pub record Tried (SendsOf : Provider → TsigKey → ℕ → List ℕ → Option (List Sending) → Type 0) (form : Option Form) (left : Option (List ℕ)) (link : Crossed) : Type 0 where
   pub mode : Mode
-  pub asked : form ≡ Some (Transfer mode 0)
+  pub readers : ℕ
+  pub asked : form ≡ Some (Transfer mode readers)
   pub text : List ℕ
   pub whole : IfSome left (λ had. text ≡ had)
   pub script : Script TsigKey
@@ -138,10 +139,10 @@ pub record Tried (SendsOf : Provider → TsigKey → ℕ → List ℕ → Option
   pub keyed : script.key ≡ Some key
   pub transfer : Transferred (SendsOf (provider_in script key) key script.at_primary) (asking_in mode script key) script.at_primary link
 
--- .. and octets are its report
+-- .. and octets are its report, with what as many readers saw as the words ask for
 pub record Ran (SendsOf : Provider → TsigKey → ℕ → List ℕ → Option (List Sending) → Type 0) (form : Option Form) (left : Option (List ℕ)) (link : Crossed) (octets : List ℕ) (status : Status) : Type 0 where
   pub tried : Tried SendsOf form left link
-  pub reports : Reports tried.transfer.answer tried.transfer.handles tried.transfer.session tried.script.queries octets status
+  pub reports : Reports tried.transfer.answer tried.transfer.handles tried.transfer.session tried.script.queries tried.readers octets status
 
 -- A script whose zones, key and moments fit each other, and whose request fits the link: what is left of the premises of success. The others hold of every
 -- script: its primary grants the one key of both sides, both zones are one, and the records of the text have wire forms.

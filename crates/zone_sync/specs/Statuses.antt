@@ -21,9 +21,9 @@ form_read words = option_and_then form_of words
 abbrev pub read_by : {A : Type 0} → (A → List ℕ) → Option (List A) → Option Form
 read_by octets words = form_read (option_map (map octets) words)
 
--- words that don't ask for a script's transfer without reader threads
+-- words that don't ask for a script's transfer
 abbrev pub AsksNoScript : Option Form → Type 0
-AsksNoScript form = (mode : Mode) → form ≢ Some (Transfer mode 0)
+AsksNoScript form = (mode : Mode) (readers : ℕ) → form ≢ Some (Transfer mode readers)
 
 -- .. nor for a zone that is made from numbers
 pub record IsOther (form : Option Form) : Type 0 where

@@ -6,7 +6,7 @@ ghost use Rattle.zone_devices.specs.Streams.{with_more, emptied};
 ghost use Rattle.zone_sync.specs.Reported.{ReportsOn, TransfersOn, Transferred, Untouched, FitsLink, AreTold, versions_of, pushed_all, provider_of, IsDue, IsDueOf, IsDueOfNumbers, ReportsNumbers, TransfersNumbers, EndsAs, crossed, generated_asking};
 ghost use Rattle.xfr_providers.specs.Offers.{key_id};
 ghost use Rattle.zone_generated.specs.Generated as numbers;
-ghost use Rattle.zone_report.specs.ReportsWritten.{Took, TookFirst, Wrote, status_by};
+ghost use Rattle.zone_report.specs.ReportsWritten.{AreReaders, Took, TookFirst, Wrote, status_by};
 ghost use Rattle.zone_sync.specs.Statuses.{AsksNoScript, IsOther, TellsLink, TellsNumbers, TellsScript, TellsWords};
 ghost use Rattle.zone_report.specs.StreamFaults.{TellsSink, TellsSource};
 ghost use Rattle.zone_sync.specs.Primaries.{refuser};
@@ -23,12 +23,15 @@ ghost use Rattle.zone_sync.specs.Statuses.{read_by};
 ghost use Rattle.xfr_client.specs.SoFar.{asks_with};
 ghost use Rattle.xfr_outcomes.specs.Modes.{mode_of};
 
+use crate::gate::{Gate, OpenGate};
 use crate::laws::history_primaries_grant;
 use crate::number_laws::generated_zones_are_granted;
+use crate::reading::{Seat, Seen, numbers_after, read_before, seats, serve};
 use crate::sync::{Moments, sync_zone};
 use dns_name::Labelled;
 use std::alloc::{AllocError, Global};
 use std::sync::Wait;
+use std::thread::{Threads, join_mut};
 use tsig_port::{Key, Time48};
 use xfr_outcomes::{SyncError, SyncOk};
 use xfr_server::{
@@ -40,8 +43,8 @@ use zone_devices::read_to_end::{MOST_OCTETS, ReadError, read_whole};
 use zone_devices::sinks::{Sink, write_all};
 use zone_devices::sources::Source;
 use zone_generated::{empty, generated, generated_key};
-use zone_reads::ReadZone;
-use zone_report::Status;
+use zone_reads::{ReadZone, Receipt, ZoneReader};
+use zone_report::{ReaderNumbers, Status};
 use zone_report::report::{counts_octets, report_octets};
 use zone_script::commits::Commits;
 use zone_script::script::{Script, ScriptError, parse};
@@ -64,8 +67,8 @@ fn status_of(outcome: &Result<SyncOk, SyncError>) -> Status
 }
 
 /// Runs the program: tests its words, reads the script, transfers the zone over the link, and writes the report. It may
-/// wait where it reads a zone or commits.
-pub fn run<R: Wait, S: Source, K: Sink, L: Link>(
+/// wait where it reads a zone or commits, and for the threads on which it has readers of the secondary's zone read meanwhile.
+pub fn run<R: Threads + Wait + Sync, S: Source, K: Sink, L: Link>(
     rt: &R,
     alloc: Global,
     words: &[String],
@@ -90,7 +93,7 @@ pub fn run<R: Wait, S: Source, K: Sink, L: Link>(
     ensures link_faults { TellsLink (L.faults link.old) (L.faults link.new) result }
     // A script is too long only where it has more octets, and what one says decides the status.
     ensures long { result ≡ Status.TooLong → IfSome (S.remaining src.old) (λ xs. MOST_OCTETS < length xs) }
-    ensures by_script { (mode : Mode) (text : List ℕ) → form_of (map string_bytes words.now) ≡ Some (Transfer mode 0)
+    ensures by_script { (mode : Mode) (readers : ℕ) (text : List ℕ) → form_of (map string_bytes words.now) ≡ Some (Transfer mode readers)
         → S.remaining src.old ≡ Some text
         → TellsScript mode text (S.faults src.old) (S.faults src.new) (K.faults out.old) (K.faults out.new)
         (crossed (L.longest link.old) (L.lists link.old) (L.lists link.new)
@@ -101,11 +104,13 @@ pub fn run<R: Wait, S: Source, K: Sink, L: Link>(
         (crossed (L.longest link.old) (L.lists link.old) (L.lists link.new)
         (L.faults link.old) (L.faults link.new)) result }
     // With a script's report or the number of a line, the source was read to its end.
-    ensures none_left { (mode : Mode) → form_of (map string_bytes words.now) ≡ Some (Transfer mode 0)
+    ensures none_left { (mode : Mode) (readers : ℕ) → form_of (map string_bytes words.now) ≡ Some (Transfer mode readers)
         → IsTrue (is_read result) → S.remaining src.new ≡ emptied (S.remaining src.old) }
 {
     match transfer_of(words) {
-        Some(mode) => run_mode(rt, alloc, mode, src, out, link),
+        Some((mode, readers)) => {
+            run_gated(rt, alloc, &OpenGate, mode, readers, src, out, link)
+        }
         None => match generated_of(words) {
             Some((size, seed)) => run_generated(rt, alloc, size, seed, out, link),
             None => write_last(out, USAGE, Status::Usage),
@@ -114,7 +119,7 @@ pub fn run<R: Wait, S: Source, K: Sink, L: Link>(
 }
 
 /// Runs the program as `run`, over words that could be read or couldn't; those have no form.
-pub fn run_words<R: Wait, S: Source, K: Sink, L: Link>(
+pub fn run_words<R: Threads + Wait + Sync, S: Source, K: Sink, L: Link>(
     rt: &R,
     alloc: Global,
     words: Option<&[String]>,
@@ -139,7 +144,7 @@ pub fn run_words<R: Wait, S: Source, K: Sink, L: Link>(
     ensures link_faults { TellsLink (L.faults link.old) (L.faults link.new) result }
     // A script is too long only where it has more octets, and what one says decides the status.
     ensures long { result ≡ Status.TooLong → IfSome (S.remaining src.old) (λ xs. MOST_OCTETS < length xs) }
-    ensures by_script { (mode : Mode) (text : List ℕ) → read_by string_bytes (option_copied words.entry) ≡ Some (Transfer mode 0)
+    ensures by_script { (mode : Mode) (readers : ℕ) (text : List ℕ) → read_by string_bytes (option_copied words.entry) ≡ Some (Transfer mode readers)
         → S.remaining src.old ≡ Some text
         → TellsScript mode text (S.faults src.old) (S.faults src.new) (K.faults out.old) (K.faults out.new)
         (crossed (L.longest link.old) (L.lists link.old) (L.lists link.new)
@@ -150,7 +155,7 @@ pub fn run_words<R: Wait, S: Source, K: Sink, L: Link>(
         (crossed (L.longest link.old) (L.lists link.old) (L.lists link.new)
         (L.faults link.old) (L.faults link.new)) result }
     // With a script's report or the number of a line, the source was read to its end.
-    ensures none_left { (mode : Mode) → read_by string_bytes (option_copied words.entry) ≡ Some (Transfer mode 0)
+    ensures none_left { (mode : Mode) (readers : ℕ) → read_by string_bytes (option_copied words.entry) ≡ Some (Transfer mode readers)
         → IsTrue (is_read result) → S.remaining src.new ≡ emptied (S.remaining src.old) }
 {
     match words {
@@ -159,18 +164,21 @@ pub fn run_words<R: Wait, S: Source, K: Sink, L: Link>(
     }
 }
 
-/// Reads the script, makes the transfer of this kind, and writes the report.
-fn run_mode<R: Wait, S: Source, K: Sink, L: Link>(
+/// Reads the script, makes the transfer of this kind with so many readers beside it, and writes the report. The gate is asked before each read and before
+/// the transfer; that of `run` holds nothing.
+pub fn run_gated<R: Threads + Wait + Sync, G: Gate + Sync, S: Source, K: Sink, L: Link>(
     rt: &R,
     alloc: Global,
+    gate: &G,
     mode: XfrMode,
+    readers: u64,
     src: &mut S,
     out: &mut K,
     link: &mut L,
 ) -> Status
     ensures wrote { Wrote
         (IsDue (λ p key at m. ⟦<Primary as Service<()>>⟧.Sends ((refuser, p), key) (request_at m at))
-        (Some (Transfer (mode_of mode) 0)) (S.remaining src.old) (crossed (L.longest link.old) (L.lists link.old) (L.lists link.new)
+        (Some (Transfer (mode_of mode) readers)) (S.remaining src.old) (crossed (L.longest link.old) (L.lists link.old) (L.lists link.new)
         (L.faults link.old) (L.faults link.new)))
         (K.taken out.old) (K.taken out.new) result }
     ensures source_faults { TellsSource (S.faults src.old) (S.faults src.new) result }
@@ -185,7 +193,9 @@ fn run_mode<R: Wait, S: Source, K: Sink, L: Link>(
     ensures others { result ≢ Status.Usage }
 {
     match read_whole(alloc, src) {
-        Ok(text) => run_script(rt, alloc, mode, text.as_slice(), out, link),
+        Ok(text) => {
+            run_script(rt, alloc, gate, mode, readers, text.as_slice(), out, link)
+        }
         Err(ReadError::Failed) => write_last(out, b"read fault\n", Status::SourceFault),
         Err(ReadError::TooLong) => write_last(out, b"too long\n", Status::TooLong),
         Err(ReadError::Memory) => Status::Memory,
@@ -207,17 +217,19 @@ fn write_last<K: Sink>(out: &mut K, octets: &[u8], status: Status) -> Status
 }
 
 /// Reads a script and runs it.
-fn run_script<R: Wait, K: Sink, L: Link>(
+fn run_script<R: Threads + Wait + Sync, G: Gate + Sync, K: Sink, L: Link>(
     rt: &R,
     alloc: Global,
+    gate: &G,
     mode: XfrMode,
+    readers: u64,
     text: &[u8],
     out: &mut K,
     link: &mut L,
 ) -> Status
     ensures wrote { Wrote
         (IsDue (λ p key at m. ⟦<Primary as Service<()>>⟧.Sends ((refuser, p), key) (request_at m at))
-        (Some (Transfer (mode_of mode) 0)) (Some text.now) (crossed (L.longest link.old) (L.lists link.old) (L.lists link.new)
+        (Some (Transfer (mode_of mode) readers)) (Some text.now) (crossed (L.longest link.old) (L.lists link.old) (L.lists link.new)
         (L.faults link.old) (L.faults link.new)))
         (K.taken out.old) (K.taken out.new) result }
     ensures sink_faults { TellsSink (K.faults out.old) (K.faults out.new) result }
@@ -235,7 +247,7 @@ fn run_script<R: Wait, K: Sink, L: Link>(
     // For the proof: such a primary grants.
     history_primaries_grant();
     match parse(rt, alloc, text) {
-        Ok(script) => run_transfer(rt, alloc, mode, script, out, link),
+        Ok(script) => run_transfer(rt, alloc, gate, mode, readers, script, out, link),
         Err(ScriptError::Line(number)) => write_bad_line(alloc, out, number),
         Err(ScriptError::Memory) => Status::Memory,
     }
@@ -257,10 +269,12 @@ fn write_bad_line<K: Sink>(alloc: Global, out: &mut K, number: u64) -> Status
 }
 
 /// Transfers the zone, and writes the report.
-fn run_transfer<R: Wait, K: Sink, L: Link>(
+fn run_transfer<R: Threads + Wait + Sync, G: Gate + Sync, K: Sink, L: Link>(
     rt: &R,
     alloc: Global,
+    gate: &G,
     mode: XfrMode,
+    readers: u64,
     script: Script,
     out: &mut K,
     link: &mut L,
@@ -271,14 +285,14 @@ fn run_transfer<R: Wait, K: Sink, L: Link>(
     ensures written { IsTrue (is_reported result)
         → Took (λ octets. ReportsOn
         (λ p key at m. ⟦<Primary as Service<()>>⟧.Sends ((refuser, p), key) (request_at m at))
-        (mode_of mode) script
+        (mode_of mode) readers script
         (crossed (L.longest link.old) (L.lists link.old) (L.lists link.new)
         (L.faults link.old) (L.faults link.new)) octets result)
         (K.taken out.old) (K.taken out.new) }
     ensures part { result ≡ Status.SinkFault
         → TookFirst (ReportsOn
         (λ p key at m. ⟦<Primary as Service<()>>⟧.Sends ((refuser, p), key) (request_at m at))
-        (mode_of mode) script
+        (mode_of mode) readers script
         (crossed (L.longest link.old) (L.lists link.old) (L.lists link.new)
         (L.faults link.old) (L.faults link.new)))
         (K.taken out.old) (K.taken out.new) }
@@ -293,7 +307,7 @@ fn run_transfer<R: Wait, K: Sink, L: Link>(
     ensures others { (result ≢ Status.Usage) × (result ≢ Status.SourceFault) × (result ≢ Status.TooLong)
         × (result ≢ Status.Script) }
 {
-    match transfer(rt, alloc, mode, script, link) {
+    match transfer(rt, alloc, gate, mode, readers, script, link) {
         Ok((report, status)) => write_last(out, report.as_slice(), status),
         Err(_) => Status::Memory,
     }
@@ -359,78 +373,84 @@ struct Ended {
     status: Status,
 }
 
-/// The desk of a zone that opens with this version.
-fn opened<R: Wait>(rt: &R, alloc: Global, first: ReadZone) -> Result<Desk, AllocError>
-    ensures { IfOk result (λ d. d.last ≡ first) }
-{
-    let (reader, desk) = Desk::open(alloc, rt, first, MOST_READERS)?;
-    drop(reader);
-    Ok(desk)
-}
-
 /// Transfers a zone from a primary to a secondary.
-fn transfer_to<R: Wait, L: Link>(
+fn transfer_to<R: Threads + Wait + Sync, G: Gate + Sync, L: Link>(
     rt: &R,
     alloc: Global,
+    gate: &G,
     primary: &Primary,
     secondary: ReadZone,
     key: &Key,
     mode: XfrMode,
+    readers: u64,
     moments: Moments,
     link: &mut L,
-) -> Result<Ended, AllocError>
+) -> Result<(Ended, Vec<ReaderNumbers>), AllocError>
     ensures ended { IfOk result (λ e. EndsAs
         (λ m. ⟦<Primary as Service<()>>⟧.Sends primary.now (request_at m moments.at_primary))
         (asks_with key.now (mode_of mode) moments.at_secondary secondary) moments.at_primary
         (crossed (L.longest link.old) (L.lists link.old) (L.lists link.new) (L.faults link.old) (L.faults link.new))
-        e.outcome e.made e.last e.status) }
+        e.0.outcome e.0.made e.0.last e.0.status) }
+    ensures lines { IfOk result (λ e. AreReaders readers e.0.last.number e.1.items) }
     ensures over_link { Untouched (crossed (L.longest link.old) (L.lists link.old) (L.lists link.new)
         (L.faults link.old) (L.faults link.new))
         ⊎ Transferred
         (λ m. ⟦<Primary as Service<()>>⟧.Sends primary.now (request_at m moments.at_primary))
         (asks_with key.now (mode_of mode) moments.at_secondary secondary) moments.at_primary
         (crossed (L.longest link.old) (L.lists link.old) (L.lists link.new) (L.faults link.old) (L.faults link.new)) }
-    ensures link_fault { IfOk result (λ e. e.status ≡ Status.LinkFault → Rose (L.faults link.old) (L.faults link.new)) }
-    ensures link_fails { IfOk result (λ e. L.faults link.old < L.faults link.new → e.status ≡ Status.LinkFault) }
+    ensures link_fault { IfOk result (λ e. e.0.status ≡ Status.LinkFault → Rose (L.faults link.old) (L.faults link.new)) }
+    ensures link_fails { IfOk result (λ e. L.faults link.old < L.faults link.new → e.0.status ≡ Status.LinkFault) }
 {
-    let mut desk = opened(rt, alloc, secondary)?;
-    let ended = transfer_at(rt, alloc, primary, &mut desk, key, mode, moments, link);
+    let (mut reader, mut desk) = Desk::open(alloc, rt, secondary, MOST_READERS)?;
+    let ended = transfer_at(
+        rt, alloc, gate, primary, &mut reader, &mut desk, key, mode, readers, moments, link,
+    );
+    drop(reader);
     desk.close(rt);
     ended
 }
 
-/// The same to the zone of a desk.
-fn transfer_at<R: Wait, L: Link>(
+/// The same to the zone of a desk, whose first reader this is.
+fn transfer_at<R: Threads + Wait + Sync, G: Gate + Sync, L: Link>(
     rt: &R,
     alloc: Global,
+    gate: &G,
     primary: &Primary,
+    reader: &mut ZoneReader,
     desk: &mut Desk,
     key: &Key,
     mode: XfrMode,
+    readers: u64,
     moments: Moments,
     link: &mut L,
-) -> Result<Ended, AllocError>
+) -> Result<(Ended, Vec<ReaderNumbers>), AllocError>
     ensures ended { IfOk result (λ e. EndsAs
         (λ m. ⟦<Primary as Service<()>>⟧.Sends primary.now (request_at m moments.at_primary))
         (asks_with key.now (mode_of mode) moments.at_secondary desk.old.last) moments.at_primary
         (crossed (L.longest link.old) (L.lists link.old) (L.lists link.new) (L.faults link.old) (L.faults link.new))
-        e.outcome e.made e.last e.status) }
-    ensures over_link { Transferred
+        e.0.outcome e.0.made e.0.last e.0.status) }
+    ensures lines { IfOk result (λ e. AreReaders readers e.0.last.number e.1.items) }
+    ensures over_link { Untouched (crossed (L.longest link.old) (L.lists link.old) (L.lists link.new)
+        (L.faults link.old) (L.faults link.new))
+        ⊎ Transferred
         (λ m. ⟦<Primary as Service<()>>⟧.Sends primary.now (request_at m moments.at_primary))
         (asks_with key.now (mode_of mode) moments.at_secondary desk.old.last) moments.at_primary
         (crossed (L.longest link.old) (L.lists link.old) (L.lists link.new) (L.faults link.old) (L.faults link.new)) }
-    ensures link_fault { IfOk result (λ e. e.status ≡ Status.LinkFault → Rose (L.faults link.old) (L.faults link.new)) }
-    ensures link_fails { IfOk result (λ e. L.faults link.old < L.faults link.new → e.status ≡ Status.LinkFault) }
+    ensures link_fault { IfOk result (λ e. e.0.status ≡ Status.LinkFault → Rose (L.faults link.old) (L.faults link.new)) }
+    ensures link_fails { IfOk result (λ e. L.faults link.old < L.faults link.new → e.0.status ≡ Status.LinkFault) }
 {
     let mut made = Vec::new(alloc);
     let mut session = desk.write(alloc);
-    let ended = transfer_into(
+    let ended = transfer_beside(
         rt,
         alloc,
+        gate,
         primary,
+        reader,
         &mut session,
         key,
         mode,
+        readers,
         moments,
         link,
         &mut made,
@@ -440,10 +460,104 @@ fn transfer_at<R: Wait, L: Link>(
     ended
 }
 
-/// Transfers a zone from a primary into a session, with a new list of handles.
-fn transfer_into<R: Wait, L: Link>(
+/// The same into a session, with a new list of handles: while the zone is transferred each reader reads on a thread of its own. One that has no place is
+/// served by the first reader, before the transfer and after it.
+fn transfer_beside<R: Threads + Wait + Sync, G: Gate + Sync, L: Link>(
     rt: &R,
     alloc: Global,
+    gate: &G,
+    primary: &Primary,
+    reader: &mut ZoneReader,
+    session: &mut WriteZone<'_>,
+    key: &Key,
+    mode: XfrMode,
+    readers: u64,
+    moments: Moments,
+    link: &mut L,
+    made: &mut Vec<ReadZone>,
+) -> Result<(Ended, Vec<ReaderNumbers>), AllocError>
+    requires new { made.old.items ≡ [] }
+    ensures ended { IfOk result (λ e. EndsAs
+        (λ m. ⟦<Primary as Service<()>>⟧.Sends primary.now (request_at m moments.at_primary))
+        (asks_with key.now (mode_of mode) moments.at_secondary session.old.current) moments.at_primary
+        (crossed (L.longest link.old) (L.lists link.old) (L.lists link.new) (L.faults link.old) (L.faults link.new))
+        e.0.outcome e.0.made e.0.last e.0.status) }
+    ensures lines { IfOk result (λ e. AreReaders readers e.0.last.number e.1.items) }
+    ensures over_link { Untouched (crossed (L.longest link.old) (L.lists link.old) (L.lists link.new)
+        (L.faults link.old) (L.faults link.new))
+        ⊎ Transferred
+        (λ m. ⟦<Primary as Service<()>>⟧.Sends primary.now (request_at m moments.at_primary))
+        (asks_with key.now (mode_of mode) moments.at_secondary session.old.current) moments.at_primary
+        (crossed (L.longest link.old) (L.lists link.old) (L.lists link.new) (L.faults link.old) (L.faults link.new)) }
+    ensures link_fault { IfOk result (λ e. e.0.status ≡ Status.LinkFault → Rose (L.faults link.old) (L.faults link.new)) }
+    ensures link_fails { IfOk result (λ e. L.faults link.old < L.faults link.new → e.0.status ≡ Status.LinkFault) }
+{
+    let seats = seats(alloc, reader, readers)?;
+    let before = read_before(gate, reader, seats.len() as u64, readers)?;
+    let (seen, ended) = join_of(
+        rt, alloc, gate, primary, seats, session, key, mode, moments, link, made,
+    );
+    let (ended, receipt) = ended?;
+    match numbers_after(alloc, gate, seen?, reader, before, readers, &receipt) {
+        Ok(lines) => Ok((ended, lines)),
+        Err(error) => {
+            drop(ended);
+            Err(error)
+        }
+    }
+}
+
+/// What the readers on threads have seen, and how the transfer beside them ended. Without readers no thread is made.
+fn join_of<R: Threads + Wait + Sync, G: Gate + Sync, L: Link>(
+    rt: &R,
+    alloc: Global,
+    gate: &G,
+    primary: &Primary,
+    seats: Vec<Seat>,
+    session: &mut WriteZone<'_>,
+    key: &Key,
+    mode: XfrMode,
+    moments: Moments,
+    link: &mut L,
+    made: &mut Vec<ReadZone>,
+) -> (Result<Vec<Result<Seen, AllocError>>, AllocError>, Result<(Ended, Receipt), AllocError>)
+    requires new { made.old.items ≡ [] }
+    ensures ended { IfOk result.1 (λ e. EndsAs
+        (λ m. ⟦<Primary as Service<()>>⟧.Sends primary.now (request_at m moments.at_primary))
+        (asks_with key.now (mode_of mode) moments.at_secondary session.old.current) moments.at_primary
+        (crossed (L.longest link.old) (L.lists link.old) (L.lists link.new) (L.faults link.old) (L.faults link.new))
+        e.0.outcome e.0.made e.0.last e.0.status) }
+    ensures receipt { IfOk result.1 (λ e. e.1.last ≡ e.0.last) }
+    ensures over_link { Transferred
+        (λ m. ⟦<Primary as Service<()>>⟧.Sends primary.now (request_at m moments.at_primary))
+        (asks_with key.now (mode_of mode) moments.at_secondary session.old.current) moments.at_primary
+        (crossed (L.longest link.old) (L.lists link.old) (L.lists link.new) (L.faults link.old) (L.faults link.new)) }
+    ensures link_fault { IfOk result.1 (λ e. e.0.status ≡ Status.LinkFault → Rose (L.faults link.old) (L.faults link.new)) }
+    ensures link_fails { IfOk result.1 (λ e. L.faults link.old < L.faults link.new → e.0.status ≡ Status.LinkFault) }
+{
+    if seats.is_empty() {
+        let ended = transfer_into(
+            rt, alloc, gate, primary, session, key, mode, moments, link, made,
+        );
+        return (Ok(Vec::new(alloc)), ended);
+    }
+    let mut seats = Some(seats);
+    join_mut(
+        rt,
+        &mut || serve(rt, gate, seats.take()),
+        &mut || {
+            transfer_into(
+                rt, alloc, gate, primary, session, key, mode, moments, link, made,
+            )
+        },
+    )
+}
+
+/// Transfers a zone from a primary into a session, with a new list of handles.
+fn transfer_into<R: Wait, G: Gate, L: Link>(
+    rt: &R,
+    alloc: Global,
+    gate: &G,
     primary: &Primary,
     session: &mut WriteZone<'_>,
     key: &Key,
@@ -451,65 +565,78 @@ fn transfer_into<R: Wait, L: Link>(
     moments: Moments,
     link: &mut L,
     made: &mut Vec<ReadZone>,
-) -> Result<Ended, AllocError>
+) -> Result<(Ended, Receipt), AllocError>
     requires new { made.old.items ≡ [] }
     ensures ended { IfOk result (λ e. EndsAs
         (λ m. ⟦<Primary as Service<()>>⟧.Sends primary.now (request_at m moments.at_primary))
         (asks_with key.now (mode_of mode) moments.at_secondary session.old.current) moments.at_primary
         (crossed (L.longest link.old) (L.lists link.old) (L.lists link.new) (L.faults link.old) (L.faults link.new))
-        e.outcome e.made e.last e.status) }
+        e.0.outcome e.0.made e.0.last e.0.status) }
+    ensures receipt { IfOk result (λ e. e.1.last ≡ e.0.last) }
     ensures over_link { Transferred
         (λ m. ⟦<Primary as Service<()>>⟧.Sends primary.now (request_at m moments.at_primary))
         (asks_with key.now (mode_of mode) moments.at_secondary session.old.current) moments.at_primary
         (crossed (L.longest link.old) (L.lists link.old) (L.lists link.new) (L.faults link.old) (L.faults link.new)) }
-    ensures link_fault { IfOk result (λ e. e.status ≡ Status.LinkFault → Rose (L.faults link.old) (L.faults link.new)) }
-    ensures link_fails { IfOk result (λ e. L.faults link.old < L.faults link.new → e.status ≡ Status.LinkFault) }
+    ensures link_fault { IfOk result (λ e. e.0.status ≡ Status.LinkFault → Rose (L.faults link.old) (L.faults link.new)) }
+    ensures link_fails { IfOk result (λ e. L.faults link.old < L.faults link.new → e.0.status ≡ Status.LinkFault) }
 {
+    gate.before_transfer();
     let outcome = sync_zone(rt, alloc, primary, session, key, mode, link, moments, made);
-    let last = session.handle()?;
     let status = status_of(&outcome);
     if status == Status::Memory {
-        drop(last);
         return Err(AllocError);
     }
-    Ok(Ended {
-        outcome,
-        made: made.len(),
-        last,
-        status,
-    })
+    // For the proof: the history ends with the current version.
+    session.standing();
+    let receipt = session.receipt()?;
+    let last = session.handle()?;
+    let made = made.len();
+    Ok((
+        Ended {
+            outcome,
+            made,
+            last,
+            status,
+        },
+        receipt,
+    ))
 }
 
 /// Transfers a zone from the primary that opened with a version and committed these after it.
-fn transfer_from<R: Wait, L: Link>(
+fn transfer_from<R: Threads + Wait + Sync, G: Gate + Sync, L: Link>(
     rt: &R,
     alloc: Global,
+    gate: &G,
     opening: ReadZone,
     commits: Commits,
     secondary: ReadZone,
     key: &Key,
     mode: XfrMode,
+    readers: u64,
     moments: Moments,
     link: &mut L,
-) -> Result<Ended, AllocError>
+) -> Result<(Ended, Vec<ReaderNumbers>), AllocError>
     requires told { AreTold opening.version commits }
     ensures ended { IfOk result (λ e. EndsAs
         (λ m. ⟦<Primary as Service<()>>⟧.Sends ((refuser, provider_of opening.version (versions_of commits) key.now), key.now) (request_at m moments.at_primary))
         (asks_with key.now (mode_of mode) moments.at_secondary secondary) moments.at_primary
         (crossed (L.longest link.old) (L.lists link.old) (L.lists link.new) (L.faults link.old) (L.faults link.new))
-        e.outcome e.made e.last e.status) }
+        e.0.outcome e.0.made e.0.last e.0.status) }
+    ensures lines { IfOk result (λ e. AreReaders readers e.0.last.number e.1.items) }
     ensures over_link { Untouched (crossed (L.longest link.old) (L.lists link.old) (L.lists link.new)
         (L.faults link.old) (L.faults link.new))
         ⊎ Transferred
         (λ m. ⟦<Primary as Service<()>>⟧.Sends ((refuser, provider_of opening.version (versions_of commits) key.now), key.now) (request_at m moments.at_primary))
         (asks_with key.now (mode_of mode) moments.at_secondary secondary) moments.at_primary
         (crossed (L.longest link.old) (L.lists link.old) (L.lists link.new) (L.faults link.old) (L.faults link.new)) }
-    ensures link_fault { IfOk result (λ e. e.status ≡ Status.LinkFault → Rose (L.faults link.old) (L.faults link.new)) }
-    ensures link_fails { IfOk result (λ e. L.faults link.old < L.faults link.new → e.status ≡ Status.LinkFault) }
+    ensures link_fault { IfOk result (λ e. e.0.status ≡ Status.LinkFault → Rose (L.faults link.old) (L.faults link.new)) }
+    ensures link_fails { IfOk result (λ e. L.faults link.old < L.faults link.new → e.0.status ≡ Status.LinkFault) }
 {
     match primary_of(alloc, opening, commits, key) {
         Ok(primary) => {
-            let ended = transfer_to(rt, alloc, &primary, secondary, key, mode, moments, link);
+            let ended = transfer_to(
+                rt, alloc, gate, &primary, secondary, key, mode, readers, moments, link,
+            );
             drop(primary);
             ended
         }
@@ -521,17 +648,19 @@ fn transfer_from<R: Wait, L: Link>(
 }
 
 /// Transfers the zone; what is to be written, and the status.
-fn transfer<R: Wait, L: Link>(
+fn transfer<R: Threads + Wait + Sync, G: Gate + Sync, L: Link>(
     rt: &R,
     alloc: Global,
+    gate: &G,
     mode: XfrMode,
+    readers: u64,
     script: Script,
     link: &mut L,
 ) -> Result<(Vec<u8>, Status), AllocError>
     requires told { AreTold script.opening.version script.commits }
     ensures report { IfOk result (λ r. ReportsOn
         (λ p key at m. ⟦<Primary as Service<()>>⟧.Sends ((refuser, p), key) (request_at m at))
-        (mode_of mode) script
+        (mode_of mode) readers script
         (crossed (L.longest link.old) (L.lists link.old) (L.lists link.new)
         (L.faults link.old) (L.faults link.new)) r.0.items r.1) }
     ensures over_link { Untouched (crossed (L.longest link.old) (L.lists link.old) (L.lists link.new)
@@ -559,17 +688,19 @@ fn transfer<R: Wait, L: Link>(
         at_secondary,
     };
     match transfer_from(
-        rt, alloc, opening, commits, secondary, &key, mode, moments, link,
+        rt, alloc, gate, opening, commits, secondary, &key, mode, readers, moments, link,
     ) {
-        Ok(ended) => {
+        Ok((ended, lines)) => {
             let report = report_octets(
                 alloc,
                 &ended.outcome,
                 ended.made,
                 &ended.last,
                 queries.as_slice(),
+                lines.as_slice(),
             );
             let status = ended.status;
+            drop(lines);
             drop(queries);
             drop(ended);
             Ok((report?, status))
@@ -582,7 +713,7 @@ fn transfer<R: Wait, L: Link>(
 }
 
 /// Makes the zone of so many hosts, transfers it to an empty one, and writes the report.
-fn run_generated<R: Wait, K: Sink, L: Link>(
+fn run_generated<R: Threads + Wait + Sync, K: Sink, L: Link>(
     rt: &R,
     alloc: Global,
     size: u32,
@@ -614,7 +745,7 @@ fn run_generated<R: Wait, K: Sink, L: Link>(
 }
 
 /// Makes the zone of so many hosts, and transfers it to an empty one; what is to be written, and the status.
-fn transfer_generated<R: Wait, L: Link>(
+fn transfer_generated<R: Threads + Wait + Sync, L: Link>(
     rt: &R,
     alloc: Global,
     size: u32,
@@ -655,7 +786,7 @@ fn transfer_generated<R: Wait, L: Link>(
 }
 
 /// Transfers a version to a zone without records, with the key of zones that numbers make.
-fn transfer_sent<R: Wait, L: Link>(
+fn transfer_sent<R: Threads + Wait + Sync, L: Link>(
     rt: &R,
     alloc: Global,
     sent: &ReadZone,
@@ -682,17 +813,23 @@ fn transfer_sent<R: Wait, L: Link>(
         at_secondary: begin,
     };
     match sent.clone() {
-        Ok(opening) => transfer_from(
-            rt,
-            alloc,
-            opening,
-            Commits::new(alloc),
-            secondary,
-            &generated_key(),
-            XfrMode::Axfr,
-            moments,
-            link,
-        ),
+        Ok(opening) => {
+            let (ended, lines) = transfer_from(
+                rt,
+                alloc,
+                &OpenGate,
+                opening,
+                Commits::new(alloc),
+                secondary,
+                &generated_key(),
+                XfrMode::Axfr,
+                0,
+                moments,
+                link,
+            )?;
+            drop(lines);
+            Ok(ended)
+        }
         Err(error) => {
             drop(secondary);
             Err(error)

@@ -4,6 +4,7 @@
 use std::alloc::AllocError;
 use std::process::ExitCode;
 use std::sync::Wait;
+use std::thread::Threads;
 use std::{env, io};
 use zone_sync::{LoopLink, Status, StdSink, StdSource, run_words};
 
@@ -23,7 +24,7 @@ fn words_of(rt: &HostRuntime) -> Result<Option<Vec<String>>, AllocError> {
 }
 
 /// Runs the program over the words that were read.
-fn run_on<R: AllocGlobal + Input + Print + Wait>(rt: &R, words: Option<&[String]>) -> Status {
+fn run_on<R: AllocGlobal + Input + Print + Threads + Wait + Sync>(rt: &R, words: Option<&[String]>) -> Status {
     run_words(
         rt,
         rt.alloc(),

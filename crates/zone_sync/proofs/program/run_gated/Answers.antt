@@ -3,7 +3,7 @@ use Rattle.zone_report.specs.declared.status.Status.TheVariants.{SourceFault, To
 use Rattle.zone_sync.proofs.Dues.{untouched, written_of_source, first_of_source}
 use Rattle.zone_report.proofs.WrittenParts.{along, wrote_last, wrote_nothing, is_told}
 use Rattle.zone_sync.proofs.ScriptRuns.{script_runs}
-use Rattle.zone_sync.proofs.program.run_mode.Goals as goal
+use Rattle.zone_sync.proofs.program.run_gated.Goals as goal
 
 pub returns-in-Ok-clause-wrote : goal.returns-in-Ok-clause-wrote
 returns-in-Ok-clause-wrote g c =
