@@ -8,7 +8,7 @@ use std::alloc::{AllocError, Global};
 use std::marker::Model;
 
 /// What one reader saw while a transfer ran: the numbers of the versions that it read first and last.
-#[derive(Clone, Copy)]
+#[derive(Drop)]
 pub struct ReaderNumbers {
     first: u64,
     last: u64,
