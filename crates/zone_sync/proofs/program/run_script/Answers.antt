@@ -11,8 +11,8 @@ run_transfer-requires g c = record { told = script_told c.args.text.now c.in-Ok.
 
 pub returns-in-Ok-clause-wrote : goal.returns-in-Ok-clause-wrote
 returns-in-Ok-clause-wrote g c = record {
-  whole = written_of_transfer _ (mode_of c.args.mode) c.args.text.now _ _ _ c.run_transfer.result c.in-Ok.script c.in-Ok.ensures.ok c.run_transfer.ensures.written c.run_transfer.ensures.nothing c.run_transfer.ensures.over_link c.run_transfer.ensures.others;
-  part = λ failed. first_due_of_report _ (mode_of c.args.mode) c.args.text.now _ _ _ c.in-Ok.script c.in-Ok.ensures.ok (c.run_transfer.ensures.part failed);
+  whole = written_of_transfer _ (mode_of c.args.mode) c.args.readers c.args.text.now _ _ _ c.run_transfer.result c.in-Ok.script c.in-Ok.ensures.ok c.run_transfer.ensures.written c.run_transfer.ensures.nothing c.run_transfer.ensures.over_link c.run_transfer.ensures.others;
+  part = λ failed. first_due_of_report _ (mode_of c.args.mode) c.args.readers c.args.text.now _ _ _ c.in-Ok.script c.in-Ok.ensures.ok (c.run_transfer.ensures.part failed);
 }
 
 pub returns-in-Err-Line-clause-wrote : goal.returns-in-Err-Line-clause-wrote
@@ -22,7 +22,7 @@ returns-in-Err-Line-clause-wrote g c =
 
 pub returns-in-Ok-clause-delivers : goal.returns-in-Ok-clause-delivers
 returns-in-Ok-clause-delivers g c script key spelt fits honest no_sink =
-    delivers_so _ (λ p key a at longest. c.history_primaries_grant.ensures refuser p key a at longest) (mode_of c.args.mode) c.args.text.now script key _ _ _ spelt fits honest _ c.run_transfer.result c.run_transfer.ensures.others
+    delivers_so _ (λ p key a at longest. c.history_primaries_grant.ensures refuser p key a at longest) (mode_of c.args.mode) c.args.readers c.args.text.now script key _ _ _ spelt fits honest _ c.run_transfer.result c.run_transfer.ensures.others
     c.run_transfer.ensures.sink_faults.fault ((returns-in-Ok-clause-wrote g c).whole) no_sink
 
 pub returns-in-Err-Memory-clause-wrote : goal.returns-in-Err-Memory-clause-wrote
