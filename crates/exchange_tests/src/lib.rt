@@ -19,6 +19,8 @@ mod incremental_tests;
 #[cfg(test)]
 mod incremental_vectors;
 #[cfg(test)]
+mod reader_thread_tests;
+#[cfg(test)]
 mod version_answer_tests;
 #[cfg(test)]
 mod zone_sync_tests;

@@ -4,6 +4,7 @@ use crate::common::is;
 use std::alloc::Global;
 use std::process::Abort;
 use std::sync::Wait;
+use std::thread::Threads;
 use zone_sync::{
     Link, LoopLink, MemoryLink, MemorySink, MemorySource, Sink, Source, Status, StdSink, StdSource,
     run, write_all,
@@ -34,7 +35,7 @@ rr 0 026e73076578616d706c65000001000100000e100004c0000201\n\
 rr 0 026e73076578616d706c65000001000100000e100004c0000202\n";
 
 /// Runs the word `axfr` over its streams and a link.
-fn axfr<R: Abort + Wait, S: Source, K: Sink, L: Link>(
+fn axfr<R: Abort + Threads + Wait + Sync, S: Source, K: Sink, L: Link>(
     rt: &R,
     alloc: Global,
     src: &mut S,
@@ -61,7 +62,7 @@ fn only<R: Abort>(rt: &R, alloc: Global, call: u64) -> Vec<u64> {
 }
 
 /// Asserts status and output of a script over a link.
-fn expect<R: Abort + Wait, L: Link>(
+fn expect<R: Abort + Threads + Wait + Sync, L: Link>(
     rt: &R,
     alloc: Global,
     script: &[u8],
@@ -87,7 +88,7 @@ fn axfr_brings_the_zone(rt: HostRuntime) {
 }
 
 /// Asserts status and output over a link that takes requests of up to so many octets.
-fn expect_within<R: Abort + Wait>(
+fn expect_within<R: Abort + Threads + Wait + Sync>(
     rt: &R,
     alloc: Global,
     max_len: usize,
@@ -109,7 +110,7 @@ fn request_of_101_octets(rt: HostRuntime) {
 }
 
 /// Asserts that the fault of a link's call is told.
-fn fails_at<R: Abort + Wait>(rt: &R, alloc: Global, call: u64) {
+fn fails_at<R: Abort + Threads + Wait + Sync>(rt: &R, alloc: Global, call: u64) {
     let mut link = MemoryLink::new(alloc, 65_535, only(rt, alloc, call));
     let refused = b"refused link-fault\n";
     let status = Status::LinkFault;
@@ -125,7 +126,7 @@ fn failing_link(rt: HostRuntime) {
 }
 
 /// Runs `axfr` from a source to a sink, over a link that nothing goes wrong with.
-fn axfr_to<R: Abort + Wait, S: Source + Drop>(
+fn axfr_to<R: Abort + Threads + Wait + Sync, S: Source + Drop>(
     rt: &R,
     alloc: Global,
     mut src: S,
