@@ -1,13 +1,12 @@
 -- Which words ask for a transfer.
-use Rattle.std.proofs.Common.{◌≡◌, ◌≢◌, ◌≤◌, ◌<◌, ℕ, ◌^◌, Bool, true, false, if◌then◌else◌, List, [], ◌∷◌, length, map, get_or, refl, sym, ap, subst, arith, ◌∙◌, Option, Some, None, IfSome, codes, bytes_eq}
-use Rattle.std.specs.Prelude.{option_map, option_and_then, IfNone}
+use Rattle.std.proofs.Common.{◌≡◌, ◌≢◌, ◌<◌, ℕ, ◌^◌, Bool, true, false, if◌then◌else◌, List, [], ◌∷◌, length, map, refl, sym, ap, arith, ◌∙◌, Option, Some, None, codes, bytes_eq}
+use Rattle.std.specs.Prelude.{option_map, option_and_then}
 use Rattle.std.proofs.lemmas.Grind.{common_steps}
 use Rattle.std.proofs.lemmas.Slice.Eq.{bytes_eq-Decides}
 use Rattle.zone_model.specs.TransferText.{Mode, Axfr, Ixfr}
-use Rattle.xfr_services.specs.declared.modes.XfrMode.{XfrMode}
 use Rattle.zone_script.specs.ScriptLines.{number_of, number_below}
 use Rattle.zone_script.specs.Digits.{below}
-use Rattle.zone_script.specs.Words.{Transfer, Generate, form_of, mode_of, with_readers, with_sizes, between}
+use Rattle.zone_script.specs.Words.{Form, Transfer, Generate, form_of, with_readers, with_sizes, between}
 
 not_none : {A : Type 0} (x : A) → None ≢ Some x
 not_none x h = cc
@@ -46,6 +45,10 @@ is_other w g h more m k e = by (bytes_eq w (codes "gen")) (sym reduced ∙ e)
     by : (b : Bool) → (if b then with_sizes more else None) ≡ Some (Transfer m k) → ⊥
     by true f = sizes_other more m k f
     by false f = not_none (Transfer m k) f
+
+-- a second word that is no number of readers
+pub no_readers : (n m : Mode) (k : ℕ) (form : Option Form) (found : Option ℕ) → form ≡ option_map (Transfer n) found → found ≡ None → form ≢ Some (Transfer m k)
+no_readers n m k form found e none h = not_none (Transfer m k) (ap (option_map (Transfer n)) (sym none) ∙ sym e ∙ h)
 
 -- more words than two, or none
 too_many : (w k l : List ℕ) (more : List (List ℕ)) (m : Mode) (readers : ℕ) → form_of (w ∷ k ∷ l ∷ more) ≢ Some (Transfer m readers)

@@ -26,8 +26,10 @@ fn transfer_alone(word: &String) -> Option<(XfrMode, u64)>
     ensures few { IfSome result (λ t. t.1 ≤ 16) }
     ensures other { IfNone result ((m : Mode) (readers : ℕ) → form_of (string_bytes word.now ∷ []) ≢ Some (Transfer m readers)) }
 {
-    let mode = mode_of_word(word)?;
-    Some((mode, 0))
+    match mode_of_word(word) {
+        Some(mode) => Some((mode, 0)),
+        None => None,
+    }
 }
 
 /// The same of two words.
@@ -36,9 +38,13 @@ fn transfer_beside(word: &String, readers: &String) -> Option<(XfrMode, u64)>
     ensures few { IfSome result (λ t. t.1 ≤ 16) }
     ensures other { IfNone result ((m : Mode) (k : ℕ) → form_of (string_bytes word.now ∷ string_bytes readers.now ∷ []) ≢ Some (Transfer m k)) }
 {
-    let mode = mode_of_word(word)?;
-    let readers = number_below(17, readers.as_bytes())?;
-    Some((mode, readers))
+    match mode_of_word(word) {
+        Some(mode) => match number_below(17, readers.as_bytes()) {
+            Some(readers) => Some((mode, readers)),
+            None => None,
+        },
+        None => None,
+    }
 }
 
 /// The kind of transfer that the first word asks for.

@@ -44,8 +44,8 @@ use zone_devices::sinks::{Sink, write_all};
 use zone_devices::sources::Source;
 use zone_generated::{empty, generated, generated_key};
 use zone_reads::{ReadZone, Receipt, ZoneReader};
-use zone_report::{ReaderNumbers, Status};
 use zone_report::report::{counts_octets, report_octets};
+use zone_report::{ReaderNumbers, Status};
 use zone_script::commits::Commits;
 use zone_script::script::{Script, ScriptError, parse};
 use zone_script::words::{generated_of, transfer_of};
@@ -108,9 +108,7 @@ pub fn run<R: Threads + Wait + Sync, S: Source, K: Sink, L: Link>(
         → IsTrue (is_read result) → S.remaining src.new ≡ emptied (S.remaining src.old) }
 {
     match transfer_of(words) {
-        Some((mode, readers)) => {
-            run_gated(rt, alloc, &OpenGate, mode, readers, src, out, link)
-        }
+        Some((mode, readers)) => { run_gated(rt, alloc, &OpenGate, mode, readers, src, out, link) }
         None => match generated_of(words) {
             Some((size, seed)) => run_generated(rt, alloc, size, seed, out, link),
             None => write_last(out, USAGE, Status::Usage),
@@ -193,9 +191,7 @@ pub fn run_gated<R: Threads + Wait + Sync, G: Gate + Sync, S: Source, K: Sink, L
     ensures others { result ≢ Status.Usage }
 {
     match read_whole(alloc, src) {
-        Ok(text) => {
-            run_script(rt, alloc, gate, mode, readers, text.as_slice(), out, link)
-        }
+        Ok(text) => { run_script(rt, alloc, gate, mode, readers, text.as_slice(), out, link) }
         Err(ReadError::Failed) => write_last(out, b"read fault\n", Status::SourceFault),
         Err(ReadError::TooLong) => write_last(out, b"too long\n", Status::TooLong),
         Err(ReadError::Memory) => Status::Memory,
@@ -403,7 +399,17 @@ fn transfer_to<R: Threads + Wait + Sync, G: Gate + Sync, L: Link>(
 {
     let (mut reader, mut desk) = Desk::open(alloc, rt, secondary, MOST_READERS)?;
     let ended = transfer_at(
-        rt, alloc, gate, primary, &mut reader, &mut desk, key, mode, readers, moments, link,
+        rt,
+        alloc,
+        gate,
+        primary,
+        &mut reader,
+        &mut desk,
+        key,
+        mode,
+        readers,
+        moments,
+        link,
     );
     drop(reader);
     desk.close(rt);
@@ -520,7 +526,10 @@ fn join_of<R: Threads + Wait + Sync, G: Gate + Sync, L: Link>(
     moments: Moments,
     link: &mut L,
     made: &mut Vec<ReadZone>,
-) -> (Result<Vec<Result<Seen, AllocError>>, AllocError>, Result<(Ended, Receipt), AllocError>)
+) -> (
+    Result<Vec<Result<Seen, AllocError>>, AllocError>,
+    Result<(Ended, Receipt), AllocError>,
+)
     requires new { made.old.items ≡ [] }
     ensures ended { IfOk result.1 (λ e. EndsAs
         (λ m. ⟦<Primary as Service<()>>⟧.Sends primary.now (request_at m moments.at_primary))

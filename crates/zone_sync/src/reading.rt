@@ -126,14 +126,7 @@ pub(crate) fn numbers_after<G: Gate>(
     let mut seen = seen.into_iter();
     let mut lines = Vec::new(alloc);
     for number in 0..count {
-        lines.push(one_after(
-            gate,
-            number + 1,
-            seen.next(),
-            reader,
-            before,
-            receipt,
-        )?)?;
+        lines.push(one_after(gate, number + 1, seen.next(), reader, before, receipt)?)?;
     }
     Ok(lines)
 }
