@@ -191,7 +191,7 @@ pub fn run_gated<R: Threads + Wait + Sync, G: Gate + Sync, S: Source, K: Sink, L
     ensures others { result ≢ Status.Usage }
 {
     match read_whole(alloc, src) {
-        Ok(text) => { run_script(rt, alloc, gate, mode, readers, text.as_slice(), out, link) }
+        Ok(text) => run_script(rt, alloc, gate, mode, readers, text.as_slice(), out, link),
         Err(ReadError::Failed) => write_last(out, b"read fault\n", Status::SourceFault),
         Err(ReadError::TooLong) => write_last(out, b"too long\n", Status::TooLong),
         Err(ReadError::Memory) => Status::Memory,
