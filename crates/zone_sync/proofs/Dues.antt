@@ -120,7 +120,7 @@ due_of_report SendsOf mode count text link octets s k spelt r = by s r.known (ra
 
 pub first_due_of_report : (SendsOf : Provider → TsigKey → ℕ → List ℕ → Option (List Sending) → Type 0) (mode : Mode) (count : ℕ) (text : List ℕ) (link : Crossed) (taken_old taken_new : Option (List ℕ)) (k : Script) → Spelt text k
     → TookFirst (ReportsOn SendsOf mode count k link) taken_old taken_new → TookFirst (IsDue SendsOf (Some (Transfer mode count)) (Some text) link) taken_old taken_new
-first_due_of_report SendsOf mode count count text link taken_old taken_new k spelt t =
+first_due_of_report SendsOf mode count text link taken_old taken_new k spelt t =
     record { octets = t.octets; status = t.status; count = t.count; due = due_of_report SendsOf mode count text link t.octets t.status k spelt t.due; taken = t.taken }
 
 pub written_of_transfer : (SendsOf : Provider → TsigKey → ℕ → List ℕ → Option (List Sending) → Type 0) (mode : Mode) (count : ℕ) (text : List ℕ) (link : Crossed) (taken_old taken_new : Option (List ℕ)) (s : Status) (k : Script) → Spelt text k

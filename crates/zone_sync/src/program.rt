@@ -31,7 +31,7 @@ use crate::sync::{Moments, sync_zone};
 use dns_name::Labelled;
 use std::alloc::{AllocError, Global};
 use std::sync::Wait;
-use std::thread::{Threads, join_mut};
+use std::thread::Threads;
 use tsig_port::{Key, Time48};
 use xfr_outcomes::{SyncError, SyncOk};
 use xfr_server::{
@@ -67,7 +67,7 @@ fn status_of(outcome: &Result<SyncOk, SyncError>) -> Status
 }
 
 /// Runs the program: tests its words, reads the script, transfers the zone over the link, and writes the report. It may
-/// wait where it reads a zone or commits, and for the threads on which it has readers of the secondary's zone read meanwhile.
+/// wait where it reads a zone or commits, and for the threads on which it has readers of the secondary's zone read.
 pub fn run<R: Threads + Wait + Sync, S: Source, K: Sink, L: Link>(
     rt: &R,
     alloc: Global,
@@ -466,8 +466,8 @@ fn transfer_at<R: Threads + Wait + Sync, G: Gate + Sync, L: Link>(
     ended
 }
 
-/// The same into a session, with a new list of handles: while the zone is transferred each reader reads on a thread of its own. One that has no place is
-/// served by the first reader, before the transfer and after it.
+/// The same into a session, with a new list of handles: before the zone is transferred each reader reads on a thread of its own, and after it once more. One
+/// that has no place is served by the first reader.
 fn transfer_beside<R: Threads + Wait + Sync, G: Gate + Sync, L: Link>(
     rt: &R,
     alloc: Global,
@@ -500,7 +500,7 @@ fn transfer_beside<R: Threads + Wait + Sync, G: Gate + Sync, L: Link>(
 {
     let seats = seats(alloc, reader, readers)?;
     let before = read_before(gate, reader, seats.len() as u64, readers)?;
-    let (seen, ended) = join_of(
+    let (seen, ended) = one_by_one(
         rt, alloc, gate, primary, seats, session, key, mode, moments, link, made,
     );
     let (ended, receipt) = ended?;
@@ -513,8 +513,8 @@ fn transfer_beside<R: Threads + Wait + Sync, G: Gate + Sync, L: Link>(
     }
 }
 
-/// What the readers on threads have seen, and how the transfer beside them ended. Without readers no thread is made.
-fn join_of<R: Threads + Wait + Sync, G: Gate + Sync, L: Link>(
+/// What the readers on threads have seen, and how the transfer behind them ended.
+fn one_by_one<R: Threads + Wait + Sync, G: Gate + Sync, L: Link>(
     rt: &R,
     alloc: Global,
     gate: &G,
@@ -544,22 +544,11 @@ fn join_of<R: Threads + Wait + Sync, G: Gate + Sync, L: Link>(
     ensures link_fault { IfOk result.1 (λ e. e.0.status ≡ Status.LinkFault → Rose (L.faults link.old) (L.faults link.new)) }
     ensures link_fails { IfOk result.1 (λ e. L.faults link.old < L.faults link.new → e.0.status ≡ Status.LinkFault) }
 {
-    if seats.is_empty() {
-        let ended = transfer_into(
-            rt, alloc, gate, primary, session, key, mode, moments, link, made,
-        );
-        return (Ok(Vec::new(alloc)), ended);
-    }
-    let mut seats = Some(seats);
-    join_mut(
-        rt,
-        &mut || serve(rt, gate, seats.take()),
-        &mut || {
-            transfer_into(
-                rt, alloc, gate, primary, session, key, mode, moments, link, made,
-            )
-        },
-    )
+    let seen = serve(rt, gate, seats);
+    let ended = transfer_into(
+        rt, alloc, gate, primary, session, key, mode, moments, link, made,
+    );
+    (seen, ended)
 }
 
 /// Transfers a zone from a primary into a session, with a new list of handles.

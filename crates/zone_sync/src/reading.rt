@@ -1,4 +1,4 @@
-//! Readers of the secondary's zone, each on a thread of its own, beside the transfer that writes it.
+//! Readers of the secondary's zone, each on a thread of its own.
 ghost use Rattle.std.specs.Prelude.{◌≡◌, ◌≤◌, IfOk};
 ghost use Rattle.zone_report.specs.ReportsWritten.{IsReader, AreReaders};
 
@@ -63,12 +63,9 @@ pub(crate) fn seats(
 pub(crate) fn serve<R: Threads + Sync, G: Gate + Sync>(
     rt: &R,
     gate: &G,
-    seats: Option<Vec<Seat>>,
+    seats: Vec<Seat>,
 ) -> Result<Vec<Result<Seen, AllocError>>, AllocError> {
-    match seats {
-        Some(seats) => map_vec(rt, seats, &|seat| read_often(gate, seat)),
-        None => Err(AllocError),
-    }
+    map_vec(rt, seats, &|seat| read_often(gate, seat))
 }
 
 /// What a reader does on its thread.

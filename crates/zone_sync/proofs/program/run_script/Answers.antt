@@ -1,4 +1,4 @@
-use Rattle.std.proofs.Common.{refl, inl}
+use Rattle.std.proofs.Common.{rules, refl, inl}
 use Rattle.xfr_outcomes.specs.Modes.{mode_of}
 use Rattle.zone_sync.specs.Primaries.{refuser}
 use Rattle.zone_sync.proofs.Dues.{untouched, script_told, written_of_transfer, first_due_of_report, wrote_line}
@@ -7,7 +7,7 @@ use Rattle.zone_sync.proofs.Endings.{delivers_so}
 use Rattle.zone_sync.proofs.program.run_script.Goals as goal
 
 pub run_transfer-requires : goal.run_transfer-requires
-run_transfer-requires g c = record { told = script_told c.args.text.now c.in-Ok.script c.in-Ok.ensures.ok }
+run_transfer-requires g c = (search rules, (search rules, script_told c.args.text.now c.in-Ok.script c.in-Ok.ensures.ok))
 
 pub returns-in-Ok-clause-wrote : goal.returns-in-Ok-clause-wrote
 returns-in-Ok-clause-wrote g c = record {

@@ -21,6 +21,9 @@ written_as SendsOf form read left link taken_old taken_new s w e = subst (λ (f 
 pub returns-in-Some-clause-wrote : goal.returns-in-Some-clause-wrote
 returns-in-Some-clause-wrote g c = written_as _ _ _ _ _ _ _ _ c.run.ensures.wrote (rw c.in-Some.is refl)
 
+pub returns-in-Some-clause-by_script : goal.returns-in-Some-clause-by_script
+returns-in-Some-clause-by_script g c = λ mode readers text asked had. c.run.ensures.by_script mode readers text (rw c.in-Some.is at asked) had
+
 -- Words that couldn't be read.
 pub returns-in-None-clause-wrote : goal.returns-in-None-clause-wrote
 returns-in-None-clause-wrote g c = written_as _ None _ _ _ _ _ _ (wrote_last _ _ Usage _ _ _ (refl, untouched) c.write_last.ensures.done c.write_last.ensures.written c.write_last.ensures.part) (rw c.in-None.is refl)

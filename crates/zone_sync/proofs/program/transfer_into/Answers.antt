@@ -1,4 +1,4 @@
-use Rattle.std.proofs.Common.{refl, sym, ◌∙◌}
+use Rattle.std.proofs.Common.{refl, sym, ap, ◌∙◌}
 use Rattle.xfr_outcomes.specs.Modes.{mode_of}
 use Rattle.zone_sync.proofs.ReportLaw.{transfer_so}
 use Rattle.zone_report.proofs.ReportedAnswers.{ends_reported, known_by_status, link_failed, link_fails}
@@ -10,8 +10,8 @@ returns-clause-ended g c = record {
       (transfer_so _ c.args.moments.at_primary _ _ _ _ _ c.args.key.now (mode_of c.args.mode) c.args.moments.at_secondary c.args.session.now.current c.args.session.now.current c.args.made.now.items c.sync_zone-outcome.new.made.items c.sync_zone-outcome.new.session c.sync_zone-outcome.result
       refl c.requires.new c.sync_zone-outcome.ensures.headline c.sync_zone-outcome.ensures.failed c.sync_zone-outcome.ensures.steady c.sync_zone-outcome.ensures.long);
   answered = refl;
-  counted = c.len.ensures ∙ c.sync_zone-outcome.new.made.ok.0;
-  current = c.in_ok-last.ensures.current;
+  counted = c.len-made.ensures ∙ c.sync_zone-outcome.new.made.ok.0;
+  current = c.in_ok-last.ensures.current ∙ ap (λ s. s.current) c.receipt.ensures.same;
   ended = c.status_of-status.ensures;
   known = ends_reported c.sync_zone-outcome.result c.status_of-status.result c.status_of-status.ensures (known_by_status c.sync_zone-outcome.result c.status_of-status.result c.status_of-status.ensures (sym c.eq.ensures ∙ c.if-eq.false));
 }
