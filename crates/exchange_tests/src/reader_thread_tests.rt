@@ -1,4 +1,4 @@
-//! Readers of the secondary's zone on threads of their own, beside the transfer that writes it.
+//! Readers of the secondary's zone on threads of their own, before the transfer that writes it and after.
 
 use crate::common::is;
 use std::alloc::Global;
@@ -27,8 +27,8 @@ rr 0 026e73076578616d706c65000001000100000e100004c0000202\n";
 /// So many turns a wait takes at most.
 const TURNS: u64 = 10_000_000;
 
-/// Two readers and the transfer go on in turn, so that none can end before the others began. Reader 1 reads first once reader 2 asked for its second
-/// read, which comes, as the transfer does, once reader 1 asked for its own; and that comes once the transfer asked.
+/// Two readers go on in turn, so that neither can end before the other began: reader 1 reads first once reader 2 asked for its second read, which comes once
+/// reader 1 asked for its own.
 #[derive(Drop)]
 struct TurnGate {
     first: AtomicU64,
@@ -62,10 +62,8 @@ impl TurnGate {
 impl Gate for TurnGate {
     fn before_read(&self, reader: u64) {
         if reader == 1 {
-            match self.first.fetch_add(1, Ordering::SeqCst) {
-                0 => self.hold(&self.second, 2),
-                1 => self.hold(&self.transfers, 1),
-                _ => {}
+            if self.first.fetch_add(1, Ordering::SeqCst) == 0 {
+                self.hold(&self.second, 2);
             }
         } else if self.second.fetch_add(1, Ordering::SeqCst) == 1 {
             self.hold(&self.first, 2);
@@ -74,7 +72,6 @@ impl Gate for TurnGate {
 
     fn before_transfer(&self) {
         self.transfers.fetch_add(1, Ordering::SeqCst);
-        self.hold(&self.first, 2);
     }
 }
 
@@ -106,9 +103,9 @@ fn written<R: Abort + Threads + Wait + Sync, G: Gate + Sync>(
     (octets, status)
 }
 
-/// Both readers and the transfer run at one time, and no transfer comes before the first read of either reader: both begin with version 0.
+/// Both readers read at one time, and no transfer comes before the first read of either: both begin with version 0.
 #[test]
-fn two_readers_are_served_in_turn_beside_the_transfer(rt: HostRuntime) {
+fn two_readers_read_at_one_time(rt: HostRuntime) {
     let alloc = rt.alloc();
     let gate = TurnGate::new();
     let (octets, status) = written(&rt, alloc, &gate, 2);
@@ -145,7 +142,7 @@ fn is_of(number: u64, line: Option<&str>) -> bool {
 }
 
 #[test]
-fn sixteen_readers_beside_the_transfer(rt: HostRuntime) {
+fn sixteen_readers_of_a_transfer(rt: HostRuntime) {
     let alloc = rt.alloc();
     let (octets, status) = written(&rt, alloc, &OpenGate, 16);
     is(&rt, status, Status::Done);
