@@ -24,7 +24,10 @@ fn words_of(rt: &HostRuntime) -> Result<Option<Vec<String>>, AllocError> {
 }
 
 /// Runs the program over the words that were read.
-fn run_on<R: AllocGlobal + Input + Print + Threads + Wait + Sync>(rt: &R, words: Option<&[String]>) -> Status {
+fn run_on<R: AllocGlobal + Input + Print + Threads + Wait + Sync>(
+    rt: &R,
+    words: Option<&[String]>,
+) -> Status {
     run_words(
         rt,
         rt.alloc(),
