@@ -6,7 +6,7 @@ use std::process::Abort;
 use std::sync::Wait;
 use std::sync::atomic::{AtomicBool, AtomicU64, Ordering};
 use std::thread::{Threads, yield_now};
-use zone_sync::{Gate, LoopLink, MemorySink, MemorySource, OpenGate, Status, XfrMode, run_gated};
+use zone_sync::{Gate, LoopLink, MemorySink, MemorySource, Status, XfrMode, run_gated};
 
 /// A script of a small zone: an SOA of serial 1, an NS record, and two addresses.
 const SCRIPT: &[u8] = b"zone 076578616d706c6500 1\n\
@@ -123,40 +123,4 @@ fn two_readers_read_at_one_time(rt: HostRuntime) {
     is(&rt, octets, wanted);
     // (64 reads on its thread and one after the transfer)
     is(&rt, asked, [65, 65, 1]);
-}
-
-/// Whether a line is that of a reader of this number which began with version 0 or 1 and ended with 1.
-fn is_of(number: u64, line: Option<&str>) -> bool {
-    let Some(line) = line else {
-        return false;
-    };
-    let mut words = line.split(' ');
-    let heads = words.next() == Some("reader");
-    let numbered = match words.next() {
-        Some(word) => word.parse::<u64>() == Ok(number),
-        None => false,
-    };
-    let first = words.next();
-    let begins = first == Some("0") || first == Some("1");
-    heads && numbered && begins && words.next() == Some("1") && words.next() == None
-}
-
-#[test]
-fn sixteen_readers_of_a_transfer(rt: HostRuntime) {
-    let alloc = rt.alloc();
-    let (octets, status) = written(&rt, alloc, &OpenGate, 16);
-    is(&rt, status, Status::Done);
-    let head = octets.starts_with(REPORT);
-    let text = std::str::from_utf8(&octets[REPORT.len()..]).expect(&rt, "UTF-8");
-    let mut lines = text.split('\n');
-    let mut count: u64 = 0;
-    for before in 0..16u64 {
-        if is_of(before + 1, lines.next()) {
-            count += 1;
-        }
-    }
-    let ends = [lines.next(), lines.next()];
-    is(&rt, (head, count), (true, 16));
-    is(&rt, ends, [Some(""), None]);
-    drop(octets);
 }
